@@ -1,0 +1,4 @@
+pub mod Named
+pub mod Counts
+pub mod Memory
+pub mod System

@@ -1,0 +1,9 @@
+pub mod LineLemmas
+pub mod NumberLemmas
+pub mod NameLemmas
+pub mod DraftLemmas
+pub mod WholeLemmas
+pub mod ChangeLemmas
+pub mod PlacedLemmas
+pub mod LoopLemmas
+pub mod FormLemmas

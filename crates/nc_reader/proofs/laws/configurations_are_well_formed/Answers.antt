@@ -1,0 +1,5 @@
+use Rattle.nc_reader.proofs.FormLemmas.{well_formed}
+use Rattle.nc_reader.proofs.laws.configurations_are_well_formed.Goals as goal
+
+pub returns : goal.returns
+returns c = well_formed

@@ -1,0 +1,9 @@
+pub mod Lines
+pub mod Numbers
+pub mod Statements
+pub mod Configuration
+pub mod Outcome
+pub mod Readings
+pub mod Drafting
+pub mod Drafts
+pub mod WellFormed

@@ -1,0 +1,3 @@
+pub mod Masks
+pub mod Cidr
+pub mod Config
