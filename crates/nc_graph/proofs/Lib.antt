@@ -1,0 +1,9 @@
+pub mod ClosureLaws
+pub mod DerivationLaws
+pub mod Members
+pub mod NodeLaws
+pub mod NodeLemmas
+pub mod StackLemmas
+pub mod WalkLemmas
+pub mod Weights
+pub mod WalkSteps

@@ -1,0 +1,16 @@
+use Rattle.std.proofs.Common.{◌≡◌}
+use Rattle.nc_graph.specs.Walk.{steps}
+use Rattle.nc_graph.proofs.WalkSteps.{Walk}
+use Rattle.nc_graph.proofs.Weights.{weight}
+use Rattle.nc_graph.proofs.walk.walk.Given as goal
+
+abbrev pub invariant-walking : goal.invariant-walking
+invariant-walking g l =
+    let flow = g.I.Inference.flow l.fn.rules in
+    record {
+      same : g.I.Inference.flow l.rules ≡ flow;
+      walk : Walk flow l.fn.graph l.fn.facts (g.I.Inference.asked l.fn.rules) l.graph (steps l.tasks.items) l.found (g.I.Inference.asked l.rules);
+    }
+
+abbrev pub decreases-walking : goal.decreases-walking
+decreases-walking g l = weight (g.I.Inference.flow l.fn.rules) (steps l.tasks.items)

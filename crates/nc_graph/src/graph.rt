@@ -1,0 +1,248 @@
+//! A graph of facts: each has a node, whose parents have lower numbers.
+ghost use Rattle.std.specs.Prelude.{◌≡◌, ◌↔◌, ℕ, ◌+◌, ◌-◌, ◌<◌, ◌≤◌, ◌++◌, true, false, [], length, slice_get, All, Contains, IfOk, OnOk, OnErr, IsErrOf};
+ghost use Rattle.std.specs.List.{list_any, IsDistinct};
+ghost use Rattle.nc_graph.specs.Closure.{IsClosure, ReachesMoreThan};
+ghost use Rattle.nc_graph.specs.Flow.{Flow, raised};
+ghost use Rattle.nc_graph.specs.Nodes.{no_nodes, first_nodes, IsGraph, Mirrors, Extends, HasShape, AreNodesOf, AddsNode};
+
+use crate::fault::GraphFault;
+use crate::inference::Inference;
+use crate::node::{NodeId, NodeKind};
+use crate::walk::walk;
+use indexmap::IndexSet;
+use std::alloc::{AllocError, Global};
+use std::hash::Hash;
+use std::marker::Model;
+
+#[cfg(test)]
+mod tests;
+
+/// A graph of at most `limit` facts. A node, by its number, has a fact, that fact's kind and the
+/// nodes of its parents.
+#[derive(Drop)]
+pub struct Graph<F: Copy + Eq + Hash> {
+    facts: IndexSet<F>,
+    kinds: Vec<NodeKind>,
+    parents: Vec<Vec<NodeId>>,
+    limit: u32,
+    alloc: Global,
+}
+
+impl<F: Copy + Eq + Hash> Model for Graph<F> {
+    ghost use Rattle.std.specs.Prelude.{map};
+    ghost use Rattle.nc_graph.specs.Nodes.{Nodes, IsGraph};
+
+    ghost Value = { Nodes F };
+
+    ghost view = { λ g. record {
+      facts = g.facts.keys;
+      kinds = g.kinds.items;
+      parents = map (λ v. v.items) g.parents.items;
+      limit = g.limit;
+    } };
+
+    ghost invariant = { λ g. IsGraph (record {
+      facts = g.facts.keys;
+      kinds = g.kinds.items;
+      parents = map (λ v. v.items) g.parents.items;
+      limit = g.limit;
+    }) };
+}
+
+impl<F: Copy + Eq + Hash> Graph<F> {
+    /// A graph without nodes. It takes no memory.
+    pub fn new(alloc: Global, limit: u32) -> Self
+        ensures empty { result ≡ no_nodes limit }
+        ensures mirrors { (g : Flow F) → Mirrors g result }
+    {
+        Graph {
+            facts: IndexSet::new(alloc),
+            kinds: Vec::new(alloc),
+            parents: Vec::new(alloc),
+            limit,
+            alloc,
+        }
+    }
+
+    /// The number of nodes. They are numbered from 0.
+    pub fn len(&self) -> u32
+        ensures len { result ≡ length self.now.facts }
+        ensures graph { IsGraph self.now }
+        ensures distinct { IsDistinct F.eq self.now.facts }
+    {
+        self.facts.len() as u32
+    }
+
+    /// Whether there is no node.
+    pub fn is_empty(&self) -> bool
+        ensures { result ≡ true ↔ (self.now.facts ≡ []) }
+    {
+        self.facts.is_empty()
+    }
+
+    /// The fact of a node.
+    pub fn fact(&self, node: NodeId) -> &F
+        requires { node.0 < length self.now.facts }
+        ensures { slice_get self.now.facts node.0 ≡ Some result.now }
+    {
+        &self.facts.as_slice()[node.0 as usize]
+    }
+
+    /// The kind of a node's fact.
+    pub fn kind(&self, node: NodeId) -> NodeKind
+        requires { node.0 < length self.now.facts }
+        ensures { slice_get self.now.kinds node.0 ≡ Some result }
+    {
+        self.kinds[node.0 as usize]
+    }
+
+    /// The nodes of a fact's parents, in the order of the rules that gave them.
+    pub fn parents(&self, node: NodeId) -> &[NodeId]
+        requires { node.0 < length self.now.facts }
+        ensures parents { slice_get self.now.parents node.0 ≡ Some result.now }
+        ensures lower { All (λ p. p.0 < node.0) result.now }
+    {
+        self.parents[node.0 as usize].as_slice()
+    }
+
+    /// Adds facts with all that they are derived from, each fact once, and answers their nodes in
+    /// order. A fact that has a node keeps it, and is not inferred again. The facts hold, and the
+    /// nodes of the graph are as these rules have them.
+    ///
+    /// # Errors
+    ///
+    /// `Full` where the facts of the graph with what the new ones are derived from are more than the
+    /// limit, and `Memory` where memory is refused. The graph is then as it was before.
+    pub fn add<I: Inference<Fact = F>>(
+        &mut self,
+        rules: &mut I,
+        facts: &[F],
+    ) -> Result<Vec<NodeId>, GraphFault>
+        requires holds { All (λ f. (I.flow rules.old).holds f ≡ true) facts.now }
+        requires mirrors { Mirrors (I.flow rules.old) self.old }
+
+        // The facts are the closure, each with its kind and its parents; old nodes keep their numbers.
+        ensures closure { OnOk result
+            (IsClosure (I.flow rules.old) (self.old.facts ++ facts.now) self.new.facts) }
+        ensures kept { OnOk result (Extends self.old self.new) }
+        ensures mirrors { Mirrors (I.flow rules.old) self.new }
+        ensures nodes { IfOk result (λ nodes. AreNodesOf self.new nodes.items facts.now) }
+
+        // Each new fact was inferred once, and at a refusal at most one fact more than the limit.
+        ensures flow { I.flow rules.new ≡ I.flow rules.old }
+        ensures asked { OnOk result (I.asked rules.new
+            ≡ raised (I.asked rules.old) (length self.new.facts - length self.old.facts)) }
+        ensures asked_least { I.asked rules.old ≤ I.asked rules.new }
+        ensures asked_most { I.asked rules.new ≤ raised (I.asked rules.old) (self.old.limit + 1) }
+
+        // It is full exactly where the closure has more facts than the limit.
+        ensures full { IsErrOf result GraphFault.Full
+            → ReachesMoreThan (I.flow rules.old) self.old.limit (self.old.facts ++ facts.now) }
+        ensures fits { OnOk result
+            (ReachesMoreThan (I.flow rules.old) self.old.limit (self.old.facts ++ facts.now) → ⊥) }
+        ensures unchanged { OnErr result (self.new ≡ self.old) }
+    {
+        let before = self.facts.len();
+        match self.grow(rules, facts) {
+            Ok(nodes) => Ok(nodes),
+            Err(fault) => {
+                self.cut(before);
+                Err(fault)
+            }
+        }
+    }
+
+    // Adds facts, and at a refusal leaves those that were numbered by then.
+    fn grow<I: Inference<Fact = F>>(
+        &mut self,
+        rules: &mut I,
+        facts: &[F],
+    ) -> Result<Vec<NodeId>, GraphFault>
+        requires holds { All (λ f. (I.flow rules.old).holds f ≡ true) facts.now }
+        requires mirrors { Mirrors (I.flow rules.old) self.old }
+        ensures flow { I.flow rules.new ≡ I.flow rules.old }
+        ensures extends { Extends self.old self.new }
+        ensures mirrors { OnOk result (Mirrors (I.flow rules.old) self.new) }
+        ensures closure { OnOk result
+            (IsClosure (I.flow rules.old) (self.old.facts ++ facts.now) self.new.facts) }
+        ensures nodes { IfOk result (λ nodes. AreNodesOf self.new nodes.items facts.now) }
+        ensures asked { OnOk result (I.asked rules.new
+            ≡ raised (I.asked rules.old) (length self.new.facts - length self.old.facts)) }
+        ensures full { IsErrOf result GraphFault.Full
+            → ReachesMoreThan (I.flow rules.old) self.old.limit (self.old.facts ++ facts.now) }
+        ensures graph { OnOk result (IsGraph self.new) }
+        ensures asked_least { I.asked rules.old ≤ I.asked rules.new }
+        ensures asked_most { I.asked rules.new ≤ raised (I.asked rules.old) (self.old.limit + 1) }
+    {
+        walk(self.alloc, self, rules, facts)?;
+        let nodes = self.nodes_of(facts)?;
+        Ok(nodes)
+    }
+
+    // The most nodes that there may be.
+    pub(crate) fn limit(&self) -> u32
+        ensures { result ≡ self.now.limit }
+    {
+        self.limit
+    }
+
+    // Whether a fact has a node.
+    pub(crate) fn has(&self, fact: &F) -> bool
+        ensures { result ≡ list_any (F.eq fact.now) self.now.facts }
+    {
+        self.facts.contains(fact)
+    }
+
+    // The node of a fact that has one.
+    fn node_of(&self, fact: &F) -> NodeId
+        requires exact { (x y : F) → F.eq x y ≡ true → x ≡ y }
+        requires placed { Contains self.now.facts fact.now }
+        ensures { slice_get self.now.facts result.0 ≡ Some fact.now }
+    {
+        match self.facts.get_index_of(fact) {
+            Some(number) => NodeId(number as u32),
+            None => unreachable!(),
+        }
+    }
+
+    // The nodes of facts that have one, in order.
+    pub(crate) fn nodes_of(&self, facts: &[F]) -> Result<Vec<NodeId>, AllocError>
+        requires exact { (x y : F) → F.eq x y ≡ true → x ≡ y }
+        requires placed { All (Contains self.now.facts) facts.now }
+        ensures { IfOk result (λ nodes. AreNodesOf self.now nodes.items facts.now) }
+    {
+        let mut nodes = Vec::with_capacity(self.alloc, facts.len())?;
+        for fact in facts {
+            nodes.push(self.node_of(fact))?;
+        }
+        Ok(nodes)
+    }
+
+    // Gives a fact the next number.
+    pub(crate) fn place(&mut self, fact: F, kind: NodeKind, parents: &[F]) -> Result<(), AllocError>
+        requires exact { (x y : F) → F.eq x y ≡ true → x ≡ y }
+        requires shape { HasShape kind parents.now }
+        requires placed { All (Contains self.old.facts) parents.now }
+        requires new { list_any (F.eq fact) self.old.facts ≡ false }
+        requires room { length self.old.facts < self.old.limit }
+        ensures ok { OnOk result (AddsNode self.old self.new fact kind parents.now) }
+        ensures err { OnErr result (self.new ≡ self.old) }
+    {
+        let nodes = self.nodes_of(parents)?;
+        self.kinds.reserve(1)?;
+        self.parents.reserve(1)?;
+        self.facts.insert_full(fact)?;
+        self.kinds.push(kind).unwrap();
+        self.parents.push(nodes).unwrap();
+        Ok(())
+    }
+
+    // Keeps the nodes with numbers below `len`.
+    pub(crate) fn cut(&mut self, len: usize)
+        ensures { self.new ≡ first_nodes len self.old }
+    {
+        self.facts.truncate(len);
+        self.kinds.truncate(len);
+        self.parents.truncate(len);
+    }
+}
