@@ -1,9 +1,7 @@
 -- The configuration of a router without where it lies in memory: each vector as the list of its items' views.
 use Rattle.std.specs.Prelude.{◌≡◌, ℕ, ◌^◌, ◌<◌, List, length, map, Some, slice_get}
-use Rattle.nc_types.specs.Cidr.{Cidr}
 use Rattle.nc_types.specs.declared.config.Kind.{Kind}
 use Rattle.nc_types.specs.declared.config.Element.{Element}
-use Rattle.nc_types.specs.declared.config.IfaceAddr.{IfaceAddr}
 use Rattle.nc_types.specs.declared.config.Interface.{Interface}
 use Rattle.nc_types.specs.declared.config.RouterConfig.{RouterConfig}
 

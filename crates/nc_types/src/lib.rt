@@ -14,3 +14,6 @@ pub use addr::{Addr, mask_len};
 pub use config::{Element, ElementId, IfaceAddr, IfaceId, Interface, Kind, RouterConfig, RouterId};
 pub use prefix::Prefix;
 pub use text::Text;
+
+#[cfg(test)]
+mod tests;

@@ -1,0 +1,9 @@
+pub mod SetLemmas
+pub mod DiagramLemmas
+pub mod Canonicity
+pub mod StoreLemmas
+pub mod PairLemmas
+pub mod GrowthLemmas
+pub mod ApplyLemmas
+pub mod CounterLemmas
+pub mod AllButLemmas

@@ -1,0 +1,22 @@
+use Rattle.std.proofs.Common.{◌≡◌, ◌-◌, length, reverse, drop, sym, ap, subst, ◌∙◌}
+use Rattle.std.proofs.lemmas.List.{length-reverse}
+use Rattle.nc_diagram.specs.Diagrams.{Diagrams, IsStore}
+use Rattle.nc_diagram.proofs.StoreLemmas.{reverse-take, IsStore-drop}
+use Rattle.nc_diagram.proofs.store.Store.roll_back.Goals as goal
+use Rattle.nc_diagram.proofs.store.Store.roll_back.Goals.{After-truncate}
+
+-- the nodes that are left
+left : (c : After-truncate) → reverse c.truncate.new.self.keys ≡ drop (length (reverse c.self.inside.nodes.keys) - c.args.mark) (reverse c.self.inside.nodes.keys)
+left c =
+    let keys = c.self.inside.nodes.keys in
+    ap reverse c.truncate.ensures.keys ∙ reverse-take c.args.mark keys ∙ ap (λ k. drop (k - c.args.mark) (reverse keys)) (sym (length-reverse keys))
+
+pub invariant_of-self : goal.invariant_of-self
+invariant_of-self c =
+    let nodes = reverse c.self.inside.nodes.keys in
+    subst (λ ns. IsStore (record { nodes = ns; limit = c.self.inside.limit })) (sym (left c))
+    (IsStore-drop (length nodes - c.args.mark) nodes c.self.inside.limit c.self.invariant)
+
+pub returns-clause-nodes : goal.returns-clause-nodes
+returns-clause-nodes c =
+    subst (λ (d : Diagrams). reverse c.truncate.new.self.keys ≡ drop (length d.nodes - c.args.mark) d.nodes) c.self.view_is (left c)

@@ -1,0 +1,5 @@
+pub mod Sets
+pub mod Diagrams
+pub mod Places
+pub mod Operations
+pub mod Counter

@@ -1,0 +1,22 @@
+//! Ordered, reduced and shared binary decision diagrams of functions of sets of variables. The store
+//! stands on `indexmap` for its distinct nodes, and on nothing that knows of networks.
+//!
+//! The contracts promise which function each reference means and that it keeps it, that two
+//! references are equal exactly where their functions are, that `eval`, `needs` and `counter` answer
+//! of that function, that `Full` comes only where more functions than the limit are asked for, and
+//! that a refusal leaves the store as it was.
+#![tactic(auto)]
+
+mod apply;
+mod counter;
+mod fault;
+mod laws;
+mod node;
+mod store;
+#[cfg(test)]
+mod tests;
+
+pub use fault::StoreFault;
+pub use laws::{law_of_all_but, law_of_fixing};
+pub use node::Ref;
+pub use store::Store;

@@ -1,0 +1,13 @@
+pub mod Owning
+pub mod Rows
+pub mod Covering
+pub mod FlowLaws
+pub mod Asking
+pub mod Marking
+pub mod Replying
+pub mod Accepting
+pub mod Turning
+pub mod Running
+pub mod WholeLines
+pub mod Concluding
+pub mod Ends

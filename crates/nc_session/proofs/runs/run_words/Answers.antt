@@ -1,0 +1,12 @@
+use Rattle.std.proofs.Common.{refl}
+use Rattle.nc_session.proofs.Ends.{usage_ends, refused_ends, served_ends}
+use Rattle.nc_session.proofs.runs.run_words.Goals as goal
+
+pub returns-in_default-clause-ends : goal.returns-in_default-clause-ends
+returns-in_default-clause-ends g c = usage_ends _ _ _ c.say.result c.in_default.ensures refl refl c.say.ensures
+
+pub returns-in-Ok-clause-ends : goal.returns-in-Ok-clause-ends
+returns-in-Ok-clause-ends g c = served_ends _ _ _ c.serve.result _ c.in-Some.ensures _ c.in-Ok.ensures.cause c.in-Ok.ensures.loaded c.serve.result c.serve.ensures
+
+pub returns-in-Err-clause-ends : goal.returns-in-Err-clause-ends
+returns-in-Err-clause-ends g c = refused_ends _ _ _ c.refuse.result _ c.in-Some.ensures refl c.in-Err.fault c.in-Err.ensures.loaded c.in-Err.ensures.cause c.refuse.ensures

@@ -1,0 +1,13 @@
+pub mod Facts
+pub mod Marks
+pub mod Owners
+pub mod Coverage
+pub mod Standing
+pub mod Session
+pub mod Commands
+pub mod Engine
+pub mod Reading
+pub mod Serving
+pub mod Output
+pub mod Loading
+pub mod Ending

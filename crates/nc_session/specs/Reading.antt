@@ -1,0 +1,27 @@
+-- Reading from the outside up to one byte past a limit.
+use Rattle.std.specs.Prelude.{◌≡◌, ℕ, ◌+◌, ◌≤◌, ◌<◌, List, ◌++◌, length, Option, Result, Ok, Err}
+use Rattle.std.specs.Io.KnownBytes.{Consumes, IsAtEnd}
+use Rattle.nc_outside.specs.Counts.{Rose}
+use Rattle.nc_session.specs.declared.reading.Stop.{Stop}
+use Rattle.nc_session.specs.declared.reading.Stop.TheVariants.{Outside, Memory}
+
+-- one read took so many bytes, which went to the end of those taken before; no byte past the limit but one
+pub record IsPiece (most : ℕ) (left rest : Option (List ℕ)) (before after : List ℕ) (count : ℕ) : Type 0 where
+  pub piece : List ℕ
+  pub text : after ≡ before ++ piece
+  pub taken : Consumes left rest piece
+  pub len : length piece ≡ count
+  pub within : length after ≤ most + 1
+  pub ended : count ≡ 0 → IsAtEnd rest
+
+-- what was read: all there is up to the limit, or one byte more
+pub record IsRead (most : ℕ) (left rest : Option (List ℕ)) (bytes : List ℕ) : Type 0 where
+  pub taken : Consumes left rest bytes
+  pub ended : length bytes ≤ most → IsAtEnd rest
+  pub within : length bytes ≤ most + 1
+
+-- work stops for the outside only where its count of faults rose, and else leaves the count
+abbrev pub HasStopCause : {T : Type 0} → ℕ → ℕ → Result T Stop → Type 0
+HasStopCause before now (Ok x) = now ≡ before
+HasStopCause before now (Err Outside) = Rose before now
+HasStopCause before now (Err Memory) = now ≡ before

@@ -1,0 +1,40 @@
+//! The session: from words, files and test commands to replies, a report of coverage after each test, and
+//! the status that a run ends with.
+//!
+//! It stands on `nc_reader` for the configuration, on `nc_graph` for what a derivation is and on `nc_outside`
+//! for the outside. [`run`] is all that a program calls. Its contract promises that every byte that it writes
+//! is the one that the definitions of `specs/` give for the words, the files and the session, and that each
+//! status comes only where its cause stands. The definitions of facts, marks and the steps of a session
+//! are public: `Facts`, `Marks`, `Standing`, `Session` and `Output`, in the order to read them.
+#![tactic(auto)]
+
+mod command;
+mod coverage;
+mod engine;
+mod fact;
+mod load;
+mod mark;
+mod owners;
+mod reading;
+mod report;
+mod runs;
+mod serving;
+mod standing;
+mod status;
+mod table;
+mod writing;
+
+#[cfg(test)]
+mod tests;
+
+pub use fact::Fact;
+pub use mark::Mark;
+pub use runs::run;
+pub use status::Status;
+pub use table::BaseRow;
+
+/// How many bytes of a file are read.
+pub const FILE_LIMIT: usize = 4_194_304;
+
+/// How many bytes of a session are read.
+pub const SESSION_LIMIT: usize = 16_777_216;

@@ -1,0 +1,103 @@
+//! Reading files and sessions, each up to one byte past its limit.
+
+ghost use Rattle.std.specs.Prelude.{◌≡◌, ◌≤◌, [], length, IfOk};
+ghost use Rattle.nc_session.specs.Reading.{IsPiece, IsRead, HasStopCause};
+ghost use Rattle.nc_session.specs.declared.reading.Stop.TheVariants.{Outside, Memory};
+
+use crate::{FILE_LIMIT, SESSION_LIMIT};
+use nc_outside::{Failed, Files, Source};
+use std::alloc::{AllocError, AllocFailed, Global};
+
+// How many bytes a read asks for at most.
+const PIECE: usize = 8192;
+
+/// Why work stopped before its end.
+#[derive(Clone, Copy, Debug, PartialEq, Eq)]
+pub(crate) enum Stop {
+    /// The outside failed.
+    Outside,
+    /// Memory ran out.
+    Memory,
+}
+
+impl From<Failed> for Stop {
+    ghost from_gives = { λ _ e. e ≡ Outside };
+
+    fn from(_failed: Failed) -> Stop {
+        Stop::Outside
+    }
+}
+
+impl From<AllocError> for Stop {
+    ghost from_gives = { λ _ e. e ≡ Memory };
+
+    fn from(_error: AllocError) -> Stop {
+        Stop::Memory
+    }
+}
+
+impl<T: Drop> From<AllocFailed<T>> for Stop {
+    ghost from_gives = { λ _ e. e ≡ Memory };
+
+    fn from(_error: AllocFailed<T>) -> Stop {
+        Stop::Memory
+    }
+}
+
+// One read from the entered file.
+fn read_file_piece<F: Files>(files: &mut F, bytes: &mut Vec<u8>) -> Result<usize, Stop>
+    requires { length bytes.old.items ≤ FILE_LIMIT }
+    ensures files { F.files files.new ≡ F.files files.old }
+    ensures entered { F.entered files.new ≡ F.entered files.old }
+    ensures piece { IfOk result (IsPiece FILE_LIMIT (F.left files.old) (F.left files.new) bytes.old.items bytes.new.items) }
+    ensures cause { HasStopCause (F.faults files.old) (F.faults files.new) result }
+{
+    let mut buffer = [0u8; PIECE];
+    let room = PIECE.min(FILE_LIMIT + 1 - bytes.len());
+    let count = files.read(&mut buffer[..room])?;
+    bytes.extend_from_slice(&buffer[..count])?;
+    Ok(count)
+}
+
+/// The bytes of the entered file, or one byte more than the limit.
+pub(crate) fn read_file<F: Files>(alloc: Global, files: &mut F) -> Result<Vec<u8>, Stop>
+    ensures files { F.files files.new ≡ F.files files.old }
+    ensures entered { F.entered files.new ≡ F.entered files.old }
+    ensures read { IfOk result (λ bytes. IsRead FILE_LIMIT (F.left files.old) (F.left files.new) bytes.items) }
+    ensures cause { HasStopCause (F.faults files.old) (F.faults files.new) result }
+{
+    let mut bytes = Vec::new(alloc);
+    'reading: while bytes.len() <= FILE_LIMIT {
+        if read_file_piece(files, &mut bytes)? == 0 {
+            return Ok(bytes);
+        }
+    }
+    Ok(bytes)
+}
+
+// One read from the session.
+fn read_session_piece<S: Source>(input: &mut S, bytes: &mut Vec<u8>) -> Result<usize, Stop>
+    requires { length bytes.old.items ≤ SESSION_LIMIT }
+    ensures piece { IfOk result (IsPiece SESSION_LIMIT (S.rest input.old) (S.rest input.new) bytes.old.items bytes.new.items) }
+    ensures cause { HasStopCause (S.faults input.old) (S.faults input.new) result }
+{
+    let mut buffer = [0u8; PIECE];
+    let room = PIECE.min(SESSION_LIMIT + 1 - bytes.len());
+    let count = input.read(&mut buffer[..room])?;
+    bytes.extend_from_slice(&buffer[..count])?;
+    Ok(count)
+}
+
+/// The bytes of the session, or one byte more than the limit.
+pub(crate) fn read_session<S: Source>(alloc: Global, input: &mut S) -> Result<Vec<u8>, Stop>
+    ensures read { IfOk result (λ bytes. IsRead SESSION_LIMIT (S.rest input.old) (S.rest input.new) bytes.items) }
+    ensures cause { HasStopCause (S.faults input.old) (S.faults input.new) result }
+{
+    let mut bytes = Vec::new(alloc);
+    'reading: while bytes.len() <= SESSION_LIMIT {
+        if read_session_piece(input, &mut bytes)? == 0 {
+            return Ok(bytes);
+        }
+    }
+    Ok(bytes)
+}

@@ -1,0 +1,21 @@
+//! Writing replies to the sink, however few bytes it takes at once.
+
+ghost use Rattle.std.specs.Prelude.{OnOk, IsErrOf};
+ghost use Rattle.std.specs.Io.KnownBytes.{Appends};
+ghost use Rattle.nc_session.specs.Reading.{HasStopCause};
+
+use crate::reading::Stop;
+use nc_outside::Sink;
+
+/// Writes all bytes.
+pub(crate) fn write_all<K: Sink>(output: &mut K, bytes: &[u8]) -> Result<(), Stop>
+    ensures written { OnOk result (Appends (K.written output.old) (K.written output.new) bytes.now) }
+    ensures cause { HasStopCause (K.faults output.old) (K.faults output.new) result }
+    ensures no_memory { IsErrOf result Stop.Memory → ⊥ }
+{
+    let mut at = 0;
+    'writing: while at < bytes.len() {
+        at += output.write(bytes.split_at(at).1)?;
+    }
+    Ok(())
+}
