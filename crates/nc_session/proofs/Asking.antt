@@ -1,7 +1,7 @@
 -- The facts behind the rows that were asked are a closure of the tested facts.
-use Rattle.std.proofs.Common.{◌≡◌, ◌↔◌, ◌⊎◌, ℕ, zero, suc, ◌+◌, ◌*◌, ◌<◌, ◌≤◌, Bool, true, false, cond, List, [], ◌∷◌, ◌++◌, length, get_or, map, Option, Some, None, refl, sym, ap, ◌∙◌, subst, arith, inl, inr, nat_eq, lit<, count_by, All}
+use Rattle.std.proofs.Common.{◌≡◌, ◌⊎◌, ℕ, zero, suc, ◌+◌, ◌*◌, ◌<◌, ◌≤◌, Bool, true, false, List, [], ◌∷◌, ◌++◌, length, get_or, map, Option, Some, None, refl, sym, ap, ◌∙◌, subst, arith, inl, inr, nat_eq, lit<, count_by, All}
 use Rattle.std.specs.Option.{option_map_or}
-use Rattle.std.specs.List.{list_any, flat_map, IsDistinct, AllByRecursion, Contains}
+use Rattle.std.specs.List.{list_any, IsDistinct, AllByRecursion, Contains}
 use Rattle.std.specs.Prelude.{slice_get}
 use Rattle.std.proofs.lemmas.Bool.{eq-eqb, eqb-true}
 use Rattle.std.proofs.lemmas.Bool.Decides.{nat_tests}
@@ -10,7 +10,7 @@ use Rattle.std.proofs.lemmas.List.Sums.{length-filter}
 use Rattle.std.proofs.lemmas.List.Elements.{All-contains, Contains-append_left, Contains-append_right, Contains-append_cases}
 use Rattle.std.proofs.lemmas.List.Folds.{Any-from_list_any, list_any-from_Any}
 use Rattle.std.proofs.lemmas.Map.Keys.{IsDistinct-cons, IsDistinct-IsPermutation, apart_from_distinct}
-use Rattle.std.proofs.lemmas.Option.{slice_get-get_or, get_or_from_slice_get, slice_get_within}
+use Rattle.std.proofs.lemmas.Option.{slice_get-get_or}
 use Rattle.nc_types.specs.Config.{ConfigView, IsPlaced}
 use Rattle.nc_types.specs.declared.config.Interface.{Interface}
 use Rattle.nc_types.specs.declared.config.IfaceAddr.{IfaceAddr}
@@ -18,7 +18,7 @@ use Rattle.nc_types.specs.declared.config.RouterId.{RouterId}
 use Rattle.nc_graph.specs.Closure.{Reaches, itself, by_parent, IsReachedFrom, IsClosure}
 use Rattle.nc_session.specs.declared.table.BaseRow.{BaseRow}
 use Rattle.nc_session.specs.declared.fact.Fact.{Fact}
-use Rattle.nc_session.specs.declared.fact.Fact.TheVariants.{Element, Connected, Base, Main}
+use Rattle.nc_session.specs.declared.fact.Fact.TheVariants.{Element, Connected, Base}
 use Rattle.nc_session.specs.Facts.{up_of, with_route, connected_from, IsBaseTable, same_fact, parents_in, flow_of, main_row}
 use Rattle.nc_session.proofs.FlowLaws.{row_up}
 
@@ -176,8 +176,16 @@ facts_behind rows ks = map main_row ks ++ (map base_row ks ++ (map (connected_ro
 pub length-facts_behind : (rows : List BaseRow) (ks : List ℕ) → length (facts_behind rows ks) ≡ 4 * length ks
 unfolding facts_behind
 length-facts_behind rows ks =
-    omega (arith, length-append (map main_row ks) (map base_row ks ++ (map (connected_row rows) ks ++ map (element_row rows) ks)), length-append (map base_row ks) (map (connected_row rows) ks ++ map (element_row rows) ks),
-        length-append (map (connected_row rows) ks) (map (element_row rows) ks), length-map ks main_row, length-map ks base_row, length-map ks (connected_row rows), length-map ks (element_row rows))
+    omega (
+      arith,
+      length-append (map main_row ks) (map base_row ks ++ (map (connected_row rows) ks ++ map (element_row rows) ks)),
+      length-append (map base_row ks) (map (connected_row rows) ks ++ map (element_row rows) ks),
+      length-append (map (connected_row rows) ks) (map (element_row rows) ks),
+      length-map ks main_row,
+      length-map ks base_row,
+      length-map ks (connected_row rows),
+      length-map ks (element_row rows),
+    )
 
 iface-at : (rows : List BaseRow) (k : ℕ) (d : BaseRow) → k < length rows → iface_at rows k ≡ (get_or rows k d).iface.0
 unfolding iface_at
@@ -200,16 +208,16 @@ module _ (c : ConfigView) (rows : List BaseRow) (placed : IsPlaced c) (table : I
         let ks = set_places 0 flags in
         let within : 0 + length flags ≤ length rows = omega arith in
         distinct_append same_fact (map main_row ks) (map base_row ks ++ (map (connected_row rows) ks ++ map (element_row rows) ks))
-            (distinct_places same_fact main_row (length rows) (λ a b lt w. not_equal a b lt) 0 flags within)
-            (distinct_append same_fact (map base_row ks) (map (connected_row rows) ks ++ map (element_row rows) ks)
-                (distinct_places same_fact base_row (length rows) (λ a b lt w. not_equal a b lt) 0 flags within)
-                (distinct_append same_fact (map (connected_row rows) ks) (map (element_row rows) ks)
-                    (distinct_places same_fact (connected_row rows) (length rows) (λ a b lt w. ifaces_apart a b lt w) 0 flags within)
-                    (distinct_places same_fact (element_row rows) (length rows) (λ a b lt w. ifaces_apart a b lt w) 0 flags within)
-                    (across (connected_row rows) (element_row rows) ks ks (λ a b. refl)))
-                (across_both base_row ks (map (connected_row rows) ks) (map (element_row rows) ks) (across base_row (connected_row rows) ks ks (λ a b. refl)) (across base_row (element_row rows) ks ks (λ a b. refl))))
-            (across_both main_row ks (map base_row ks) (map (connected_row rows) ks ++ map (element_row rows) ks) (across main_row base_row ks ks (λ a b. refl))
-                (across_both main_row ks (map (connected_row rows) ks) (map (element_row rows) ks) (across main_row (connected_row rows) ks ks (λ a b. refl)) (across main_row (element_row rows) ks ks (λ a b. refl))))
+        (distinct_places same_fact main_row (length rows) (λ a b lt w. not_equal a b lt) 0 flags within)
+        (distinct_append same_fact (map base_row ks) (map (connected_row rows) ks ++ map (element_row rows) ks)
+        (distinct_places same_fact base_row (length rows) (λ a b lt w. not_equal a b lt) 0 flags within)
+        (distinct_append same_fact (map (connected_row rows) ks) (map (element_row rows) ks)
+        (distinct_places same_fact (connected_row rows) (length rows) (λ a b lt w. ifaces_apart a b lt w) 0 flags within)
+        (distinct_places same_fact (element_row rows) (length rows) (λ a b lt w. ifaces_apart a b lt w) 0 flags within)
+        (across (connected_row rows) (element_row rows) ks ks (λ a b. refl)))
+        (across_both base_row ks (map (connected_row rows) ks) (map (element_row rows) ks) (across base_row (connected_row rows) ks ks (λ a b. refl)) (across base_row (element_row rows) ks ks (λ a b. refl))))
+        (across_both main_row ks (map base_row ks) (map (connected_row rows) ks ++ map (element_row rows) ks) (across main_row base_row ks ks (λ a b. refl))
+        (across_both main_row ks (map (connected_row rows) ks) (map (element_row rows) ks) (across main_row (connected_row rows) ks ks (λ a b. refl)) (across main_row (element_row rows) ks ks (λ a b. refl))))
 
   -- ---- what is reached from a main row
 
@@ -283,7 +291,7 @@ module _ (c : ConfigView) (rows : List BaseRow) (placed : IsPlaced c) (table : I
   is_behind k h lt (inr (inr (inl e))) = subst (Reaches (flow_of c rows) (main_row k)) (sym e) (step (main_row k) (base_row k) (connected_row rows k) refl (step (base_row k) (connected_row rows k) (connected_row rows k) (parents_base k lt) (itself (connected_row rows k))))
   is_behind k h lt (inr (inr (inr e))) =
       subst (Reaches (flow_of c rows) (main_row k)) (sym e)
-          (step (main_row k) (base_row k) (element_row rows k) refl (step (base_row k) (connected_row rows k) (element_row rows k) (parents_base k lt) (step (connected_row rows k) (element_row rows k) (element_row rows k) (parents_connected k lt) (itself (element_row rows k)))))
+      (step (main_row k) (base_row k) (element_row rows k) refl (step (base_row k) (connected_row rows k) (element_row rows k) (parents_base k lt) (step (connected_row rows k) (element_row rows k) (element_row rows k) (parents_connected k lt) (itself (element_row rows k)))))
 
   -- ---- the closure of tested rows
 
@@ -311,17 +319,17 @@ module _ (c : ConfigView) (rows : List BaseRow) (placed : IsPlaced c) (table : I
     facts_in k h at (inr (inl e)) =
         let ps = set_places 0 flags in
         subst (Contains (facts_behind rows ps)) (sym e) (Contains-append_right (map main_row ps) (map base_row ps ++ (map (connected_row rows) ps ++ map (element_row rows) ps)) (base_row k)
-            (Contains-append_left (map base_row ps) (map (connected_row rows) ps ++ map (element_row rows) ps) (base_row k) (map_contains base_row ps k at)))
+        (Contains-append_left (map base_row ps) (map (connected_row rows) ps ++ map (element_row rows) ps) (base_row k) (map_contains base_row ps k at)))
     facts_in k h at (inr (inr (inl e))) =
         let ps = set_places 0 flags in
         subst (Contains (facts_behind rows ps)) (sym e) (Contains-append_right (map main_row ps) (map base_row ps ++ (map (connected_row rows) ps ++ map (element_row rows) ps)) (connected_row rows k)
-            (Contains-append_right (map base_row ps) (map (connected_row rows) ps ++ map (element_row rows) ps) (connected_row rows k)
-                (Contains-append_left (map (connected_row rows) ps) (map (element_row rows) ps) (connected_row rows k) (map_contains (connected_row rows) ps k at))))
+        (Contains-append_right (map base_row ps) (map (connected_row rows) ps ++ map (element_row rows) ps) (connected_row rows k)
+        (Contains-append_left (map (connected_row rows) ps) (map (element_row rows) ps) (connected_row rows k) (map_contains (connected_row rows) ps k at))))
     facts_in k h at (inr (inr (inr e))) =
         let ps = set_places 0 flags in
         subst (Contains (facts_behind rows ps)) (sym e) (Contains-append_right (map main_row ps) (map base_row ps ++ (map (connected_row rows) ps ++ map (element_row rows) ps)) (element_row rows k)
-            (Contains-append_right (map base_row ps) (map (connected_row rows) ps ++ map (element_row rows) ps) (element_row rows k)
-                (Contains-append_right (map (connected_row rows) ps) (map (element_row rows) ps) (element_row rows k) (map_contains (element_row rows) ps k at))))
+        (Contains-append_right (map base_row ps) (map (connected_row rows) ps ++ map (element_row rows) ps) (element_row rows k)
+        (Contains-append_right (map (connected_row rows) ps) (map (element_row rows) ps) (element_row rows k) (map_contains (element_row rows) ps k at))))
 
     reached : (h : Fact) → Contains (facts_behind rows (set_places 0 flags)) h → IsReachedFrom (flow_of c rows) (map main_row ks) h
     reached h has =

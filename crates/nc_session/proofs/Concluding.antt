@@ -1,8 +1,8 @@
 -- From what each step answers to how a run ends.
-use Rattle.std.proofs.Common.{◌≡◌, ◌⊎◌, ℕ, ◌<◌, ◌≤◌, Bool, true, false, nat_le, List, [], ◌++◌, length, take, Option, None, Some, IfSome, refl, sym, ap, ◌∙◌, subst, append-nil, length-append, inl, inr, arith}
+use Rattle.std.proofs.Common.{◌≡◌, ℕ, ◌<◌, ◌≤◌, Bool, nat_le, List, [], ◌++◌, length, take, Option, None, Some, IfSome, refl, sym, ◌∙◌, subst, append-nil, length-append, inl, inr, arith}
 use Rattle.std.proofs.lemmas.List.{take-append-le}
 use Rattle.std.proofs.lemmas.Bool.{le-leb, lt-leb}
-use Rattle.std.specs.Io.KnownBytes.{Appends, Consumes, IsAtEnd}
+use Rattle.std.specs.Io.KnownBytes.{Appends, Consumes}
 use Rattle.std.proofs.KnownBytes.{Appends-trans, Consumes-whole}
 use Rattle.nc_types.specs.Config.{ConfigView}
 use Rattle.nc_outside.specs.Counts.{Rose}
@@ -31,7 +31,7 @@ limit_said e c session lines old mid new before now last result same engine more
     let written = Appends-trans old mid new r.replies long_session_text r.written said.2 in
     let are = subst (λ (ls : List (List ℕ)). AreReplies c ls r.replies) whole (are_replies e c lines old mid same engine r) in
     subst (λ (s : Status). AnswersSession c session old new before last s) (sym said.0)
-        (said.1 ∙ quiet, more, record { replies = r.replies; are = are; written = written })
+    (said.1 ∙ quiet, more, record { replies = r.replies; are = are; written = written })
 limit_said e c session lines old mid new before now last result same engine more whole r quiet (inr failed) =
     subst (λ (s : Status). AnswersSession c session old new before last s) (sym failed.0) (subst (λ (n : ℕ). Rose n last) quiet failed.1)
 
@@ -47,9 +47,9 @@ done_serves : (c : ConfigView) (rest left old new : Option (List ℕ)) (session 
 done_serves c rest left old new session read within a =
     let are = subst (λ (l : List ℕ). AreReplies c (lines_of session) l) (sym (append-nil a.replies)) a.are in
     let serves : Serves c session (nat_le (length session) SESSION_LIMIT) Done (a.replies ++ []) =
-        subst (λ (b : Bool). Serves c session b Done (a.replies ++ [])) (sym (le-leb (length session) SESSION_LIMIT within)) (refl, are) in
+    subst (λ (b : Bool). Serves c session b Done (a.replies ++ [])) (sym (le-leb (length session) SESSION_LIMIT within)) (refl, are) in
     Consumes-whole rest left session (λ (bytes : List ℕ). Writes old new (λ out. Serves c bytes (nat_le (length bytes) SESSION_LIMIT) Done out)) read.taken (read.ended within)
-        (writes old new (a.replies ++ []) (λ out. Serves c session (nat_le (length session) SESSION_LIMIT) Done out) a.written serves)
+    (writes old new (a.replies ++ []) (λ out. Serves c session (nat_le (length session) SESSION_LIMIT) Done out) a.written serves)
 
 -- what holds of the part of a longer text that was read
 longer_serves : (c : ConfigView) (session more replies : List ℕ) → SESSION_LIMIT < length session → AreReplies c (whole_lines_of (take SESSION_LIMIT session)) replies
@@ -68,8 +68,8 @@ limit_serves c None left old new session taken long a = tt
 limit_serves c (Some bytes) None old new session taken long a = absurd taken
 limit_serves c (Some bytes) (Some more) old new session taken long a =
     subst (λ (l : List ℕ). Writes old new (λ out. Serves c l (nat_le (length l) SESSION_LIMIT) Limit out)) (sym taken)
-        (writes old new (a.replies ++ long_session_text) (λ out. Serves c (session ++ more) (nat_le (length (session ++ more)) SESSION_LIMIT) Limit out) a.written
-            (longer_serves c session more a.replies long a.are))
+    (writes old new (a.replies ++ long_session_text) (λ out. Serves c (session ++ more) (nat_le (length (session ++ more)) SESSION_LIMIT) Limit out) a.written
+    (longer_serves c session more a.replies long a.are))
 
 -- the answers to what was read are those to what the source gives
 pub serves_to : (c : ConfigView) (rest left old new : Option (List ℕ)) (asked_before asked_now before now : ℕ) (session : List ℕ) (result : Status)

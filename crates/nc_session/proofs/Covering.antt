@@ -1,5 +1,5 @@
 -- What is covered, one row more at a time.
-use Rattle.std.proofs.Common.{◌≡◌, ◌≢◌, ℕ, zero, suc, ◌+◌, ◌-◌, ◌<◌, ◌≤◌, Bool, true, false, cond, ◌||◌, List, [], ◌∷◌, ◌++◌, length, get_or, set, replicate, Option, Some, None, refl, sym, ap, ◌∙◌, subst, arith, inl, inr, nat_eq, count_by, append_assoc}
+use Rattle.std.proofs.Common.{◌≡◌, ℕ, zero, suc, ◌+◌, ◌-◌, ◌<◌, ◌≤◌, Bool, true, false, ◌||◌, List, [], ◌∷◌, ◌++◌, length, get_or, set, replicate, Some, refl, sym, ap, ◌∙◌, arith, inl, inr, nat_eq, count_by, append_assoc}
 use Rattle.std.specs.List.{list_any, range_with_len}
 use Rattle.std.specs.Option.{option_map_or}
 use Rattle.std.specs.Prelude.{slice_get}
@@ -43,12 +43,12 @@ set_more flags p places place at k lt so_far is =
     let more : list_any (p k) (places ++ place ∷ []) ≡ (list_any (p k) places || nat_eq at k) = any_push (p k) places place ∙ ap (λ b. list_any (p k) places || b) is in
     elim (cases_eq at k) [
       | inl same ↦
-        let here : get_or (set flags at true) at false ≡ true = get_or-set_same flags at true false (omega arith) in
-        ap (λ j. get_or (set flags at true) j false) (sym same) ∙ here ∙ sym (more ∙ ap (λ b. list_any (p k) places || b) (eq-eqb at k same) ∙ or_true (list_any (p k) places))
+          let here : get_or (set flags at true) at false ≡ true = get_or-set_same flags at true false (omega arith) in
+          ap (λ j. get_or (set flags at true) j false) (sym same) ∙ here ∙ sym (more ∙ ap (λ b. list_any (p k) places || b) (eq-eqb at k same) ∙ or_true (list_any (p k) places))
       | inr other ↦
-        let elsewhere : get_or (set flags at true) k false ≡ get_or flags k false = get_or-set_other flags at k true false (λ e. other (sym e)) in
-        let no : nat_eq at k ≡ false = grind (arith, nat_tests) in
-        elsewhere ∙ so_far ∙ sym (more ∙ ap (λ b. list_any (p k) places || b) no ∙ or_false (list_any (p k) places))
+          let elsewhere : get_or (set flags at true) k false ≡ get_or flags k false = get_or-set_other flags at k true false (λ e. other (sym e)) in
+          let no : nat_eq at k ≡ false = grind (arith, nat_tests) in
+          elsewhere ∙ so_far ∙ sym (more ∙ ap (λ b. list_any (p k) places || b) no ∙ or_false (list_any (p k) places))
     ]
 
 eq_swap : (a b : ℕ) → nat_eq a b ≡ nat_eq b a

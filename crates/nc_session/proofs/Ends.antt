@@ -1,18 +1,17 @@
 -- How a run ends, from what its last step answered.
-use Rattle.std.proofs.Common.{◌≡◌, ◌⊎◌, ℕ, ◌≤◌, nat_le, List, [], ◌++◌, length, Option, None, Some, IfSome, refl, sym, ap, ◌∙◌, subst, inl, inr}
-use Rattle.std.specs.Io.KnownBytes.{Appends, Keeps}
+use Rattle.std.proofs.Common.{◌≡◌, ◌⊎◌, ℕ, ◌≤◌, List, Option, None, Some, IfSome, refl, sym, ap, ◌∙◌, subst, inl, inr}
+use Rattle.std.specs.Io.KnownBytes.{Appends}
 use Rattle.nc_types.specs.Config.{ConfigView}
 use Rattle.nc_outside.specs.Named.{Named, content_of}
 use Rattle.nc_outside.specs.Counts.{Rose, IsMissing}
 use Rattle.nc_reader.specs.Configuration.{Fault}
-use Rattle.nc_session.specs.declared.TheConstants.{SESSION_LIMIT}
 use Rattle.nc_session.specs.declared.load.LoadFault.{LoadFault}
 use Rattle.nc_session.specs.declared.load.LoadFault.TheVariants as load
 use Rattle.nc_session.specs.declared.status.Status.{Status}
 use Rattle.nc_session.specs.declared.status.Status.TheVariants.{Done, Config, Usage, Unstable, InputFault, OutputFault, FileFault, Memory, Limit}
 use Rattle.nc_session.specs.Loading.{IsLoadFault, HasLoadFaultCause}
-use Rattle.nc_session.specs.Output.{Loaded, WrongWords, Missing, LongFile, Faulty, Ready, Concludes, Serves, Settles, Output, load, load_named, load_content, file_of, usage_text, long_file_text, fault_text, Writes, IsAbsent}
-use Rattle.nc_session.specs.Ending.{Says, Silent, Refuses, ServesTo, Seen, NoFault, IsTold, EndsAs}
+use Rattle.nc_session.specs.Output.{Loaded, WrongWords, LongFile, Faulty, Ready, Concludes, Settles, Output, load, load_named, load_content, file_of, usage_text, long_file_text, fault_text, Writes, IsAbsent}
+use Rattle.nc_session.specs.Ending.{Says, Refuses, ServesTo, Seen, NoFault, IsTold, EndsAs}
 use Rattle.nc_session.proofs.Concluding.{writes}
 
 -- what holds of every value holds of one that may be there
@@ -42,15 +41,15 @@ told : (words : List (List ℕ)) (before now : Seen) (loaded : Loaded) (status :
     → IfSome before.rest (λ session. Writes before.written now.written (λ bytes. Concludes loaded session status bytes)) → IsTold words before now status
 told words before now loaded status is settles writes =
     some_more before.files (λ fs. load words fs ≡ loaded) (λ fs. Settles (load words fs) status × IfSome before.rest (λ session. Writes before.written now.written (λ bytes. Output words fs session status bytes)))
-        (λ fs same. subst (λ (l : Loaded). Settles l status × IfSome before.rest (λ session. Writes before.written now.written (λ bytes. Concludes l session status bytes))) (sym same) (settles, writes)) is
+    (λ fs same. subst (λ (l : Loaded). Settles l status × IfSome before.rest (λ session. Writes before.written now.written (λ bytes. Concludes l session status bytes))) (sym same) (settles, writes)) is
 
 -- a text was written that doesn't depend on the session
 told_text : (words : List (List ℕ)) (before now : Seen) (loaded : Loaded) (status : Status) (text : List ℕ) → IsLoadOf words before.files loaded → Settles loaded status
     → ((session : List ℕ) → Concludes loaded session status text) → Appends before.written now.written text → IsTold words before now status
 told_text words before now loaded status text is settles concludes appends =
     told words before now loaded status is settles
-        (some_of before.rest (λ session. Writes before.written now.written (λ bytes. Concludes loaded session status bytes))
-            (λ session. writes before.written now.written text (λ bytes. Concludes loaded session status bytes) appends (concludes session)))
+    (some_of before.rest (λ session. Writes before.written now.written (λ bytes. Concludes loaded session status bytes))
+    (λ session. writes before.written now.written text (λ bytes. Concludes loaded session status bytes) appends (concludes session)))
 
 module _ (words : List (List ℕ)) (before now : Seen) (result : Status) where
   by_status : (status : Status) → result ≡ status → EndsAs words before now status → EndsAs words before now result

@@ -1,9 +1,9 @@
 -- The facts of a router with its base table are a flow graph, and one element stands behind each main row.
-use Rattle.std.proofs.Common.{◌≡◌, ◌↔◌, ℕ, suc, ◌+◌, ◌<◌, ◌≤◌, Bool, true, false, ◌&&◌, ◌||◌, List, [], ◌∷◌, length, get_or, Option, Some, None, refl, sym, ap, ◌∙◌, subst, arith, inl, inr, nat_eq, nat_lt, is_some, All, option_and_then, lit<}
+use Rattle.std.proofs.Common.{◌≡◌, ℕ, suc, ◌+◌, ◌<◌, Bool, true, false, ◌&&◌, ◌||◌, List, [], ◌∷◌, length, Option, Some, None, refl, ap, ◌∙◌, subst, arith, nat_eq, nat_lt, is_some, All, option_and_then, lit<}
 use Rattle.std.specs.Option.{option_map_or}
 use Rattle.std.specs.List.{list_any}
 use Rattle.std.specs.Prelude.{slice_get}
-use Rattle.std.proofs.lemmas.Bool.{eqb-true, eq-eqb, ltb-true, lt-ltb}
+use Rattle.std.proofs.lemmas.Bool.{eqb-true, eq-eqb, lt-ltb}
 use Rattle.std.proofs.lemmas.List.Elements.{All-nil, All-cons, All-get_or, All-weaker}
 use Rattle.std.proofs.lemmas.List.Sorted.{All-permutation}
 use Rattle.std.proofs.lemmas.Option.{slice_get_within, get_or_from_slice_get}
@@ -12,13 +12,12 @@ use Rattle.nc_types.specs.declared.config.Interface.{Interface}
 use Rattle.nc_types.specs.declared.config.IfaceAddr.{IfaceAddr}
 use Rattle.nc_types.specs.declared.config.IfaceId.{IfaceId}
 use Rattle.nc_types.specs.declared.config.RouterId.{RouterId}
-use Rattle.nc_graph.specs.Flow.{Flow, IsFlow, by_kind}
+use Rattle.nc_graph.specs.Flow.{IsFlow, by_kind}
 use Rattle.nc_graph.specs.declared.node.NodeKind.TheVariants.{Leaf, Every, Any}
 use Rattle.nc_session.specs.declared.table.BaseRow.{BaseRow}
 use Rattle.nc_session.specs.declared.fact.Fact.{Fact}
 use Rattle.nc_session.specs.declared.fact.Fact.TheVariants.{Element, Connected, Base, Main}
 use Rattle.nc_session.specs.Facts.{up_of, up_at, with_route, connected_from, IsBaseTable, same_fact, holds_in, kind_of, parents_in, rank_of, flow_of, main_row}
-use Rattle.nc_session.specs.Coverage.{is_row_of}
 
 -- ---- facts are told apart
 
@@ -75,7 +74,7 @@ up_by : (place : ℕ) (i : Interface) (is : List Interface) (rows : List BaseRow
 up_by place i is rows None e rest = All-weaker (IsUpFrom (place + 1) is) (IsUpFrom place (i ∷ is)) (λ row. later place i is row) rows rest
 up_by place i is rows (Some a) e rest =
     All-cons (IsUpFrom place (i ∷ is)) (record { prefix = a.prefix; iface = record { 0 = place } }) rows (0, i, a, refl, e, omega arith)
-        (All-weaker (IsUpFrom (place + 1) is) (IsUpFrom place (i ∷ is)) (λ row. later place i is row) rows rest)
+    (All-weaker (IsUpFrom (place + 1) is) (IsUpFrom place (i ∷ is)) (λ row. later place i is row) rows rest)
 
 all_up : (place : ℕ) (is : List Interface) → All (IsUpFrom place is) (connected_from place is)
 all_up place [] = All-nil (IsUpFrom place [])

@@ -1,15 +1,14 @@
 -- The marks that are kept are those of the definitions.
-use Rattle.std.proofs.Common.{◌≡◌, ◌↔◌, ℕ, zero, suc, ◌+◌, ◌<◌, ◌≤◌, Bool, true, false, cond, List, [], ◌∷◌, ◌++◌, length, get_or, map, Option, Some, None, refl, sym, ap, ◌∙◌, subst, arith, nat_eq, All}
-use Rattle.std.specs.List.{list_any, flat_map, Any}
+use Rattle.std.proofs.Common.{◌≡◌, ◌↔◌, ℕ, suc, ◌+◌, ◌<◌, Bool, true, false, cond, List, [], ◌∷◌, ◌++◌, length, get_or, map, Option, Some, None, refl, sym, ap, ◌∙◌, subst, arith, nat_eq, All}
+use Rattle.std.specs.List.{list_any, Any}
 use Rattle.std.specs.Prelude.{slice_get}
-use Rattle.std.proofs.lemmas.List.{map-append, length-map}
+use Rattle.std.proofs.lemmas.List.{map-append}
 use Rattle.std.proofs.lemmas.List.Elements.{All-contains}
 use Rattle.std.proofs.lemmas.List.Folds.{Any-from_list_any, list_any-from_Any}
 use Rattle.nc_types.specs.Config.{ConfigView, ElementView, IsPlaced}
 use Rattle.nc_graph.specs.Derivation.{IsStrong, IsInSome}
 use Rattle.nc_session.specs.declared.table.BaseRow.{BaseRow}
 use Rattle.nc_session.specs.declared.fact.Fact.{Fact}
-use Rattle.nc_session.specs.declared.mark.Mark.{Mark}
 use Rattle.nc_session.specs.Facts.{IsBaseTable, flow_of, main_row}
 use Rattle.nc_session.specs.Coverage.{is_row_of, mark_of}
 use Rattle.nc_session.specs.Standing.{RowsStand}
@@ -53,8 +52,10 @@ module _ (c : ConfigView) (rows : List BaseRow) (placed : IsPlaced c) (table : I
       rw is (any_row (IsStrong (flow_of c rows) e) (is_row_of rows e) (length rows) (λ k below. (stand c rows placed table e k below).0) ks within (sym (covers e lt) ∙ is))
   element_mark e lt false is =
       let none : list_any (is_row_of rows e) ks ≡ false = sym (covers e lt) ∙ is in
-      rw is (λ a. let yes = row_any (IsStrong (flow_of c rows) e) (is_row_of rows e) (length rows) (λ k below. (stand c rows placed table e k below).0) ks within a in cc,
-          λ a. let yes = row_any (IsInSome (flow_of c rows) e) (is_row_of rows e) (length rows) (λ k below. (stand c rows placed table e k below).1) ks within a in cc)
+      rw is (
+        λ a. let yes = row_any (IsStrong (flow_of c rows) e) (is_row_of rows e) (length rows) (λ k below. (stand c rows placed table e k below).0) ks within a in cc,
+        λ a. let yes = row_any (IsInSome (flow_of c rows) e) (is_row_of rows e) (length rows) (λ k below. (stand c rows placed table e k below).1) ks within a in cc,
+      )
 
   owner_mark : (line : ℕ) (o : Option ℕ) → owner_from 0 c.elements line ≡ o → IsMark (flow_of c rows) (map main_row ks) o (mark_of strong o)
   owner_mark line None is = tt

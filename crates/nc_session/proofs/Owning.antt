@@ -17,4 +17,4 @@ owner_from-push place [] e line = ap (λ (k : ℕ). cond (list_any (nat_eq line)
 owner_from-push place (f ∷ es) e line =
     let places : (place + 1) + length es ≡ place + suc (length es) = omega arith in
     later (list_any (nat_eq line) f.lines) place (owner_from (place + 1) (es ++ e ∷ []) line) (owner_from (place + 1) es line) es e line
-        (owner_from-push (place + 1) es e line ∙ ap (λ (k : ℕ). claimed k e.lines line (Some (owner_from (place + 1) es line))) places)
+    (owner_from-push (place + 1) es e line ∙ ap (λ (k : ℕ). claimed k e.lines line (Some (owner_from (place + 1) es line))) places)

@@ -1,11 +1,11 @@
 -- Rows in order: those of one prefix stand side by side.
-use Rattle.std.proofs.Common.{◌≡◌, ℕ, zero, suc, ◌+◌, ◌-◌, ◌<◌, ◌≤◌, Bool, true, false, cond, not, ◌&&◌, ◌==◌, List, [], ◌∷◌, length, get_or, refl, sym, ap, ◌∙◌, subst, arith, inl, inr}
+use Rattle.std.proofs.Common.{◌≡◌, ℕ, zero, suc, ◌+◌, ◌-◌, ◌<◌, ◌≤◌, Bool, true, false, cond, not, ◌&&◌, ◌==◌, List, [], ◌∷◌, length, get_or, refl, ap, ◌∙◌, arith, inl, inr}
 use Rattle.std.specs.List.{AllWithin, range_with_len}
 use Rattle.std.specs.List.Sorted.{IsSorted, IsPartitionPoint, IsPartitionedBy}
 use Rattle.std.specs.Cmp.{IsTotalOrder}
 use Rattle.std.specs.declared.cmp.Ordering.{Ordering}
 use Rattle.std.specs.declared.cmp.Ordering.TheVariants.{Less, Equal, Greater}
-use Rattle.std.specs.Ordering.{nat_cmp, ordering_then, ordering_reverse, is_lt, is_le, is_gt, is_eq}
+use Rattle.std.specs.Ordering.{ordering_then, ordering_reverse, is_lt, is_le, is_gt, is_eq}
 use Rattle.std.proofs.lemmas.Cmp.{nat_cmp_total, on_total, then_total, upto}
 use Rattle.std.proofs.lemmas.Bool.{cases_lt}
 use Rattle.std.proofs.lemmas.Bool.Decides.{nat_tests}
@@ -139,7 +139,7 @@ module _ (p : Cidr) (rows : List BaseRow) (from to : ℕ) (in_from : from ≤ le
   side_by_side =
       let here : 0 + from ≡ from = omega arith in
       places_between p rows zero from to in_order in_to
-          (λ k d lo hi. is_of_by_cmp p (get_or rows k d) ∙ below_not (prefix_cmp (get_or rows k d).prefix p) (first.0 k d lo hi))
-          (λ k d lo hi. is_of_by_cmp p (get_or rows k d) ∙ between_is (prefix_cmp (get_or rows k d).prefix p) (first.1 k d lo (omega arith)) (last.0 k d (omega arith) hi))
-          (λ k d lo hi. is_of_by_cmp p (get_or rows k d) ∙ behind_not (prefix_cmp (get_or rows k d).prefix p) (last.1 k d lo hi))
+      (λ k d lo hi. is_of_by_cmp p (get_or rows k d) ∙ below_not (prefix_cmp (get_or rows k d).prefix p) (first.0 k d lo hi))
+      (λ k d lo hi. is_of_by_cmp p (get_or rows k d) ∙ between_is (prefix_cmp (get_or rows k d).prefix p) (first.1 k d lo (omega arith)) (last.0 k d (omega arith) hi))
+      (λ k d lo hi. is_of_by_cmp p (get_or rows k d) ∙ behind_not (prefix_cmp (get_or rows k d).prefix p) (last.1 k d lo hi))
       ∙ ap (λ (k : ℕ). range_with_len k (to - from)) here

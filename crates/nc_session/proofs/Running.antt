@@ -1,5 +1,5 @@
 -- A run of a session, one line more at a time.
-use Rattle.std.proofs.Common.{◌≡◌, ℕ, List, [], ◌∷◌, ◌++◌, Option, refl, sym, ap, ◌∙◌, subst, append_assoc, append-nil}
+use Rattle.std.proofs.Common.{ℕ, List, [], ◌∷◌, ◌++◌, Option, refl, sym, ◌∙◌, subst, append_assoc, append-nil}
 use Rattle.std.specs.Io.KnownBytes.{Appends}
 use Rattle.std.proofs.KnownBytes.{Appends-trans, Appends-nil}
 use Rattle.nc_types.specs.Config.{ConfigView}
@@ -34,7 +34,7 @@ answered_more first now next s all rest line old mid new router turns a =
       keeps = t.keeps;
       goes_on = λ more last run.
           subst (λ (l : List ℕ). Run (config_in first) first.rows.items s all l last) (sym (append_assoc a.replies t.reply more))
-              (a.goes_on (t.reply ++ more) last (t.reply, t.state, more, step, run, refl));
+          (a.goes_on (t.reply ++ more) last (t.reply, t.state, more, step, run, refl));
       written = Appends-trans old mid new a.replies t.reply a.written t.written;
     }
 

@@ -1,5 +1,5 @@
 -- What an engine answers to a test of main rows, in each of its cases.
-use Rattle.std.proofs.Common.{◌≡◌, ℕ, zero, suc, ◌+◌, ◌-◌, ◌<◌, Bool, true, false, List, [], ◌∷◌, ◌++◌, length, map, refl, sym, ap, ◌∙◌, subst, arith}
+use Rattle.std.proofs.Common.{◌≡◌, ℕ, ◌<◌, true, false, List, [], ◌∷◌, ◌++◌, length, map, refl, sym, ap, ◌∙◌, subst, arith}
 use Rattle.std.specs.Prelude.{codes}
 use Rattle.std.specs.List.{range_with_len}
 use Rattle.std.specs.Str.{bytes_eq}
@@ -9,7 +9,7 @@ use Rattle.nc_session.specs.declared.table.BaseRow.{BaseRow}
 use Rattle.nc_session.specs.declared.engine.Engine.{Engine}
 use Rattle.nc_session.specs.declared.fact.Fact.{Fact}
 use Rattle.nc_session.specs.Facts.{places_from, main_row}
-use Rattle.nc_session.specs.Session.{State, Command, Rib, Answers, Named, Tests, IsReply, facts_of, line_of}
+use Rattle.nc_session.specs.Session.{State, Rib, Answers, Named, Tests, IsReply, facts_of, line_of}
 use Rattle.nc_session.specs.Engine.{Keeps, IsSameRouter, Accepts, Turns, config_in}
 
 abbrev test_text : List ℕ → List ℕ → List ℕ
@@ -30,7 +30,7 @@ module _ (e : Engine) (s : State) (keeps : Keeps e s) (name : List ℕ) (prefix 
       → Answers (config_in e) e.rows.items s (Rib name prefix word) reply new
   named new reply same facts are tests =
       subst (λ b. Named (config_in e) e.rows.items b s name (facts_of (config_in e) e.rows.items prefix) (test_text name word) reply new) (sym same)
-          (subst (λ (fs : List Fact). Tests (config_in e) e.rows.items s fs (test_text name word) reply new) (sym are) tests)
+      (subst (λ (fs : List Fact). Tests (config_in e) e.rows.items s fs (test_text name word) reply new) (sym are) tests)
 
   -- the prefix has no row
   pub absent : (from len : ℕ) → bytes_eq name e.router.name ≡ true → places_from 0 prefix e.rows.items ≡ range_with_len from len → len ≡ 0

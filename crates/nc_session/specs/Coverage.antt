@@ -1,5 +1,5 @@
 -- What the tested rows cover, as it is kept.
-use Rattle.std.specs.Prelude.{◌≡◌, ℕ, ◌<◌, Bool, true, false, ◌==◌, List, length, Option, Some, None, slice_get, slice_index_or, nat_eq, count_by, if◌then◌else◌}
+use Rattle.std.specs.Prelude.{◌≡◌, ℕ, ◌<◌, Bool, false, ◌==◌, List, length, Option, Some, None, slice_get, slice_index_or, nat_eq, count_by, if◌then◌else◌}
 use Rattle.std.specs.List.{list_any}
 use Rattle.std.specs.Option.{option_map_or}
 use Rattle.nc_session.specs.declared.table.BaseRow.{BaseRow}

@@ -12,7 +12,7 @@ use Rattle.nc_session.specs.declared.reading.Stop.{Stop}
 use Rattle.nc_session.specs.declared.reading.Stop.TheVariants as stop
 use Rattle.nc_session.specs.declared.load.LoadFault.{LoadFault}
 use Rattle.nc_session.specs.declared.load.LoadFault.TheVariants.{Outside, Long, Bad, Memory}
-use Rattle.nc_session.specs.Output.{Loaded, Missing, LongFile, Faulty, Ready}
+use Rattle.nc_session.specs.Output.{Loaded, LongFile, Faulty, Ready}
 
 -- the words as their bytes
 abbrev pub texts : List (String Global) → List (List ℕ)

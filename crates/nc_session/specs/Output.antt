@@ -1,5 +1,5 @@
 -- What a whole run writes, and with which status it ends.
-use Rattle.std.specs.Prelude.{◌≡◌, ◌⊎◌, ℕ, Bool, true, false, ◌==◌, nat_lt, nat_le, List, [], ◌∷◌, ◌++◌, length, map, take, Option, Some, None, Result, Ok, Err, if◌then◌else◌, codes, IfSome}
+use Rattle.std.specs.Prelude.{◌≡◌, ◌⊎◌, ℕ, Bool, true, false, ◌==◌, nat_le, List, [], ◌∷◌, ◌++◌, length, map, take, Option, Some, None, Result, Ok, Err, if◌then◌else◌, codes}
 use Rattle.std.specs.List.{slice_split}
 use Rattle.std.specs.Fmt.{decimal}
 use Rattle.nc_types.specs.Config.{ConfigView}
@@ -65,7 +65,6 @@ number_of OutputFault = 5
 number_of FileFault = 6
 number_of Memory = 7
 number_of Limit = 8
-
 
 abbrev pub usage_text : List ℕ
 usage_text = line_of (codes "refused usage")

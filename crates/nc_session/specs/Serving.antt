@@ -1,5 +1,5 @@
 -- Serving a session: the replies to lines go to the sink one after another.
-use Rattle.std.specs.Prelude.{◌≡◌, ℕ, List, Option}
+use Rattle.std.specs.Prelude.{ℕ, List, Option}
 use Rattle.std.specs.Io.KnownBytes.{Appends}
 use Rattle.nc_session.specs.declared.engine.Engine.{Engine}
 use Rattle.nc_session.specs.Session.{State, Step, Run}

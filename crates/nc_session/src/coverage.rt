@@ -1,6 +1,6 @@
 //! What the accepted tests cover: which rows were asked, and which elements are strong.
 
-ghost use Rattle.std.specs.Prelude.{◌≡◌, ◌<◌, ◌≤◌, ◌+◌, ◌-◌, ◌++◌, ◌^◌, ℕ, List, true, false, [], length, map, All, IfOk, count_by, replicate, slice_set};
+ghost use Rattle.std.specs.Prelude.{◌≡◌, ◌<◌, ◌≤◌, ◌+◌, ◌-◌, ◌++◌, ℕ, List, true, false, [], length, map, All, IfOk, count_by, replicate, slice_set};
 ghost use Rattle.std.specs.List.{range_with_len};
 ghost use Rattle.nc_session.specs.declared.table.BaseRow.{BaseRow};
 

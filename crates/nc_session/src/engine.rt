@@ -1,6 +1,6 @@
 //! The engine: a router with what a session needs of it, and the answers to the lines of a session.
 
-ghost use Rattle.std.specs.Prelude.{◌≡◌, ◌++◌, ◌∷◌, ◌*◌, ◌<◌, ◌≤◌, ◌-◌, ◌^◌, ℕ, List, IfOk, OnOk, length, string_bytes, codes};
+ghost use Rattle.std.specs.Prelude.{◌≡◌, ◌++◌, ◌∷◌, ◌*◌, ◌<◌, ◌≤◌, ◌-◌, List, IfOk, OnOk, length, codes};
 ghost use Rattle.nc_types.specs.Config.{IsPlaced, config_view};
 ghost use Rattle.std.specs.List.{range_with_len};
 ghost use Rattle.std.specs.Str.{bytes_eq};

@@ -24,9 +24,6 @@ mod status;
 mod table;
 mod writing;
 
-#[cfg(test)]
-mod tests;
-
 pub use fact::Fact;
 pub use mark::Mark;
 pub use runs::run;
@@ -38,3 +35,6 @@ pub const FILE_LIMIT: usize = 4_194_304;
 
 /// How many bytes of a session are read.
 pub const SESSION_LIMIT: usize = 16_777_216;
+
+#[cfg(test)]
+mod tests;

@@ -1,8 +1,7 @@
 //! Which element has each line of a file.
 
-ghost use Rattle.std.specs.Prelude.{◌≡◌, ◌+◌, ◌-◌, ◌^◌, ◌<◌, ◌≤◌, ◌∷◌, [], ℕ, length, map, IfOk, Option, None, Some, slice_get};
+ghost use Rattle.std.specs.Prelude.{◌≡◌, ◌+◌, ◌-◌, ◌^◌, ◌<◌, ◌∷◌, [], ℕ, length, map, IfOk, Option, None, Some, slice_get};
 ghost use Rattle.nc_types.specs.Config.{element_view};
-ghost use Rattle.nc_session.specs.Marks.{owner_from};
 ghost use Rattle.nc_session.specs.Owners.{AreOwners, claimed};
 
 use nc_types::Element;

@@ -1,6 +1,6 @@
 //! Reading files and sessions, each up to one byte past its limit.
 
-ghost use Rattle.std.specs.Prelude.{◌≡◌, ◌≤◌, [], length, IfOk};
+ghost use Rattle.std.specs.Prelude.{◌≡◌, ◌≤◌, length, IfOk};
 ghost use Rattle.nc_session.specs.Reading.{IsPiece, IsRead, HasStopCause};
 ghost use Rattle.nc_session.specs.declared.reading.Stop.TheVariants.{Outside, Memory};
 

@@ -1,6 +1,6 @@
 //! The report: how the lines are marked, as text.
 
-ghost use Rattle.std.specs.Prelude.{◌≡◌, ◌++◌, ◌∷◌, [], ◌+◌, ℕ, length, map, OnOk, IfOk, codes, string_bytes};
+ghost use Rattle.std.specs.Prelude.{◌≡◌, ◌++◌, ◌+◌, map, OnOk, IfOk, string_bytes};
 ghost use Rattle.nc_session.specs.Session.{letter, count_of, summary_of, report_of, line_of};
 
 use crate::mark::Mark;

@@ -1,10 +1,10 @@
 //! The top call: from the words, the files and the session to the replies and the status.
 
-ghost use Rattle.std.specs.Prelude.{◌≡◌, ◌⊎◌, ◌≢◌, None, Some, IfSome, MatchOption, MatchResult, OnOk, IfOk, length, Contains};
+ghost use Rattle.std.specs.Prelude.{◌≡◌, ◌⊎◌, ◌≢◌, Some, IfSome, MatchOption, IfOk, length};
 ghost use Rattle.std.specs.Io.KnownBytes.{Appends, Keeps, IsAtEnd};
 ghost use Rattle.nc_types.specs.Config.{IsPlaced, config_view};
 ghost use Rattle.nc_outside.specs.Counts.{Rose};
-ghost use Rattle.nc_session.specs.Output.{Output, Concludes, Faulty, LongFile, Ready, usage_text, fault_text, cause_text, whole_lines_of, file_of, Writes, IsAnswer, IsUsageOrUntold, IsAbsent, IsOfFiles, Settles, load};
+ghost use Rattle.nc_session.specs.Output.{Output, usage_text, fault_text, cause_text, whole_lines_of, file_of, Writes, IsAnswer, IsUsageOrUntold, IsAbsent, IsOfFiles, Settles, load};
 ghost use Rattle.nc_reader.specs.Lines.{lines_of};
 ghost use Rattle.nc_session.specs.Loading.{texts};
 ghost use Rattle.nc_session.specs.Ending.{Says, Refuses, stopped_as, AnswersSession, ServesTo, EndsAs, EntersNamed};
@@ -146,10 +146,22 @@ fn run_words<F: Files, S: Source, K: Sink>(
     output: &mut K,
 ) -> Status
     ensures ends { EndsAs (texts words.now)
-        (record { files = F.files files.old; rest = S.rest input.old; written = K.written output.old;
-            file_faults = F.faults files.old; input_faults = S.faults input.old; output_faults = K.faults output.old })
-        (record { files = F.files files.new; rest = S.rest input.new; written = K.written output.new;
-            file_faults = F.faults files.new; input_faults = S.faults input.new; output_faults = K.faults output.new })
+        (record {
+          files = F.files files.old;
+          rest = S.rest input.old;
+          written = K.written output.old;
+          file_faults = F.faults files.old;
+          input_faults = S.faults input.old;
+          output_faults = K.faults output.old;
+        })
+        (record {
+          files = F.files files.new;
+          rest = S.rest input.new;
+          written = K.written output.new;
+          file_faults = F.faults files.new;
+          input_faults = S.faults input.new;
+          output_faults = K.faults output.new;
+        })
         result }
     ensures entered { EntersNamed (texts words.now) (F.entered files.old) (F.entered files.new) }
 {

@@ -1,6 +1,6 @@
 //! Serving a session: every line is answered, and its reply written before the next is looked at.
 
-ghost use Rattle.std.specs.Prelude.{◌≡◌, OnOk};
+ghost use Rattle.std.specs.Prelude.{OnOk};
 ghost use Rattle.nc_reader.specs.Lines.{lines_of};
 ghost use Rattle.nc_session.specs.Session.{State};
 ghost use Rattle.nc_session.specs.Engine.{IsEngine, IsSameRouter, Keeps};

@@ -1,6 +1,6 @@
 //! The base table of a router: the connected routes of its interfaces.
 
-ghost use Rattle.std.specs.Prelude.{◌≡◌, ◌+◌, ◌-◌, ◌^◌, ◌<◌, ◌≤◌, length, All, IfOk, IsPermutation};
+ghost use Rattle.std.specs.Prelude.{◌≡◌, ◌-◌, ◌^◌, ◌<◌, ◌≤◌, length, All, IfOk, IsPermutation};
 ghost use Rattle.std.specs.List.Sorted.{IsSorted};
 ghost use Rattle.std.specs.List.{range_with_len};
 ghost use Rattle.nc_session.specs.Facts.{up_of, connected_from, row_cmp, places_from};
@@ -46,10 +46,7 @@ fn connected(alloc: Global, interfaces: &[Interface]) -> Result<Vec<BaseRow>, Al
 }
 
 /// The rows of a base table, in order of prefix and then of interface.
-pub(crate) fn base_rows(
-    alloc: Global,
-    interfaces: &[Interface],
-) -> Result<Vec<BaseRow>, AllocError>
+pub(crate) fn base_rows(alloc: Global, interfaces: &[Interface]) -> Result<Vec<BaseRow>, AllocError>
     requires { length interfaces.now < 2 ^ 32 }
     ensures connected { IfOk result (λ rows. IsPermutation (connected_from 0 interfaces.now) rows.items) }
     ensures ordered { IfOk result (λ rows. IsSorted row_cmp rows.items) }

@@ -4,7 +4,8 @@ use nc_types::Text;
 use std::alloc::{AllocError, Global};
 use std::test::Fail;
 
-const FILE: &[u8] = b"!\nhostname r1\ninterface Ethernet0\n description lan\n ip address 10.0.0.1 255.255.255.0\n!\ninterface Ethernet1\n ip address 10.0.1.1 255.255.255.0\n shutdown\n";
+const FILE: &[u8] =
+    b"!\nhostname r1\ninterface Ethernet0\n description lan\n ip address 10.0.0.1 255.255.255.0\n!\ninterface Ethernet1\n ip address 10.0.1.1 255.255.255.0\n shutdown\n";
 
 const SESSION: &[u8] = b"rib r1 10.0.0.0/24\n";
 
@@ -101,9 +102,24 @@ fn a_full_sink_keeps_a_prefix(rt: HostRuntime) -> Result<(), Fail> {
 fn refusals_before_the_session(rt: HostRuntime) -> Result<(), Fail> {
     let alloc = rt.alloc();
     let cases = [
-        ("r1.cfg", "hostname r1\nbad\n", Status::Config, "refused config r1.cfg 2 unsupported\n"),
-        ("r1.cfg", "!\n", Status::Config, "refused config r1.cfg 0 no-name\n"),
-        ("--rounds", "hostname r1\n", Status::Usage, "refused usage\n"),
+        (
+            "r1.cfg",
+            "hostname r1\nbad\n",
+            Status::Config,
+            "refused config r1.cfg 2 unsupported\n",
+        ),
+        (
+            "r1.cfg",
+            "!\n",
+            Status::Config,
+            "refused config r1.cfg 0 no-name\n",
+        ),
+        (
+            "--rounds",
+            "hostname r1\n",
+            Status::Usage,
+            "refused usage\n",
+        ),
         ("-", "hostname r1\n", Status::FileFault, ""),
         ("r2.cfg", "hostname r1\n", Status::FileFault, ""),
     ];
@@ -125,7 +141,10 @@ fn refusals_within_the_session(rt: HostRuntime) -> Result<(), Fail> {
         ("", ""),
         ("# a comment\n\n", ""),
         ("rib r2 10.9.0.0/24\n", "refused router r2\n"),
-        ("rib r1 10.9.0.0/24\n", "refused absent rib r1 10.9.0.0/24\n"),
+        (
+            "rib r1 10.9.0.0/24\n",
+            "refused absent rib r1 10.9.0.0/24\n",
+        ),
         ("rib r1 10.0.0.1/24\n", "refused syntax\n"),
         ("exit\n", "refused syntax\n"),
     ];

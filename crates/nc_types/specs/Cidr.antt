@@ -1,5 +1,5 @@
 -- A prefix as its network address and its length, and what it covers.
-use Rattle.std.specs.Prelude.{◌≡◌, ℕ, ◌/◌, ◌≤◌}
+use Rattle.std.specs.Prelude.{◌≡◌, ℕ, ◌+◌, ◌/◌, ◌≤◌, ◌<◌}
 use Rattle.nc_types.specs.Masks.{size_of, network_of}
 
 -- a network address and how many of its bits are fixed
@@ -19,3 +19,7 @@ Covers p addr = addr / size_of p.len ≡ p.base / size_of p.len
 -- p is the outer prefix or a part of it
 abbrev pub IsInside : Cidr → Cidr → Type 0
 IsInside p outer = (outer.len ≤ p.len) × Covers outer p.base
+
+-- from the network address on, as many addresses as the length leaves
+abbrev pub IsInRange : Cidr → ℕ → Type 0
+IsInRange p addr = (p.base ≤ addr) × (addr < p.base + size_of p.len)

@@ -7,6 +7,7 @@
 
 mod addr;
 mod config;
+pub mod laws;
 mod prefix;
 mod text;
 

@@ -1,4 +1,4 @@
-use Rattle.std.proofs.Common.{◌≡◌, ℕ, ◌+◌, ◌∷◌, ◌++◌, [], length, map, take, Option, Some, sym, ap, ◌∙◌, arith, refl, List}
+use Rattle.std.proofs.Common.{◌≡◌, ℕ, ◌+◌, ◌∷◌, ◌++◌, [], length, map, take, Some, sym, ap, ◌∙◌, arith, refl, List}
 use Rattle.std.proofs.lemmas.List.{take_more, map_push, length-map, length-take-le}
 use Rattle.nc_types.specs.Config.{ElementView, element_view}
 use Rattle.nc_types.specs.declared.config.Element.{Element}
@@ -17,5 +17,5 @@ elements-preserved c k lt =
     let more : map element_view (take (place + 1) es) ≡ before ++ element_view e ∷ [] = ap (map element_view) taken ∙ map_push element_view (take place es) e in
     let here : 0 + length before ≡ place = omega (arith, length-map (take place es) element_view, length-take-le place es (omega arith)) in
     let owned : owner_from 0 (before ++ element_view e ∷ []) (k + 1) ≡ claimed place e.lines.items (k + 1) (Some (owner_from 0 before (k + 1))) =
-        owner_from-push 0 before (element_view e) (k + 1) ∙ ap (λ (p : ℕ). claimed p e.lines.items (k + 1) (Some (owner_from 0 before (k + 1)))) here in
+    owner_from-push 0 before (element_view e) (k + 1) ∙ ap (λ (p : ℕ). claimed p e.lines.items (k + 1) (Some (owner_from 0 before (k + 1)))) here in
     rw (c.claim.ensures k (omega arith), c.deref.ensures.value, c.elements.invariant k lt, more, owned) refl

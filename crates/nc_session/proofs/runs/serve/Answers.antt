@@ -1,4 +1,4 @@
-use Rattle.std.proofs.Common.{ap, subst, List, ℕ}
+use Rattle.std.proofs.Common.{subst, List, ℕ}
 use Rattle.nc_types.specs.Config.{config_view}
 use Rattle.nc_session.specs.Ending.{AnswersSession}
 use Rattle.nc_session.proofs.Concluding.{serves_to}

@@ -1,8 +1,7 @@
-use Rattle.std.proofs.Common.{◌≡◌, List, ℕ, length}
+use Rattle.std.proofs.Common.{◌≡◌, length}
 use Rattle.nc_reader.specs.Lines.{lines_of}
 use Rattle.nc_session.specs.Session.{State}
 use Rattle.nc_session.specs.Engine.{IsEngine, IsSameRouter, Keeps}
-use Rattle.nc_session.specs.Serving.{Replied}
 use Rattle.nc_session.proofs.Running.{Answered}
 use Rattle.nc_session.proofs.serving.answer_lines.Given as goal
 

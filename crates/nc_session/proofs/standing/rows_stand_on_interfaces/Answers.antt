@@ -5,10 +5,8 @@ use Rattle.std.specs.Prelude.{slice_get}
 use Rattle.std.proofs.lemmas.Option.{slice_get-get_or}
 use Rattle.std.proofs.lemmas.Bool.Decides.{nat_tests}
 use Rattle.nc_graph.specs.Derivation.{IsStrong, IsInSome, strong, occurs}
-use Rattle.nc_types.specs.Config.{ConfigView, IsPlaced}
 use Rattle.nc_session.specs.declared.table.BaseRow.{BaseRow}
-use Rattle.nc_session.specs.declared.fact.Fact.{Fact}
-use Rattle.nc_session.specs.Facts.{IsBaseTable, flow_of, holds_in, parents_in, main_row}
+use Rattle.nc_session.specs.Facts.{flow_of, holds_in, parents_in, main_row}
 use Rattle.nc_session.specs.Coverage.{is_row_of}
 use Rattle.nc_session.proofs.FlowLaws.{lawful, value_of_row, row_holds}
 use Rattle.nc_session.proofs.standing.rows_stand_on_interfaces.Goals as goal
@@ -34,8 +32,9 @@ returns c config rows placed table e k lt =
     let g = flow_of config rows in
     let law = lawful config rows placed table in
     let r = row_at rows k lt in
-    let holds : holds_in config rows (main_row k) ≡ true = row_holds config rows k lt in
-    (through_iff (IsStrong g e (main_row k)) (strong g e (main_row k)) (is_row_of rows e k) (c.strong_is_evaluation.ensures.is g law e (main_row k) holds)
-        (at_row rows e k r.0 (strong g e (main_row k)) r.1 (value_of_row config rows placed table e (strong g e) (λ f. list_all (strong g e) (parents_in config rows f)) (λ f h. c.strong_is_evaluation.ensures.through g law e f h) k r.0 r.1)),
-     through_iff (IsInSome g e (main_row k)) (occurs g e (main_row k)) (is_row_of rows e k) (c.some_is_evaluation.ensures.is g law e (main_row k) holds)
-        (at_row rows e k r.0 (occurs g e (main_row k)) r.1 (value_of_row config rows placed table e (occurs g e) (λ f. list_any (occurs g e) (parents_in config rows f)) (λ f h. c.some_is_evaluation.ensures.through g law e f h) k r.0 r.1)))
+    let holds : holds_in config rows (main_row k) ≡ true = row_holds config rows k lt in (
+      through_iff (IsStrong g e (main_row k)) (strong g e (main_row k)) (is_row_of rows e k) (c.strong_is_evaluation.ensures.is g law e (main_row k) holds)
+          (at_row rows e k r.0 (strong g e (main_row k)) r.1 (value_of_row config rows placed table e (strong g e) (λ f. list_all (strong g e) (parents_in config rows f)) (λ f h. c.strong_is_evaluation.ensures.through g law e f h) k r.0 r.1)),
+      through_iff (IsInSome g e (main_row k)) (occurs g e (main_row k)) (is_row_of rows e k) (c.some_is_evaluation.ensures.is g law e (main_row k) holds)
+          (at_row rows e k r.0 (occurs g e (main_row k)) r.1 (value_of_row config rows placed table e (occurs g e) (λ f. list_any (occurs g e) (parents_in config rows f)) (λ f h. c.some_is_evaluation.ensures.through g law e f h) k r.0 r.1)),
+    )

@@ -1,7 +1,6 @@
-use Rattle.std.proofs.Common.{◌+◌, ◌++◌, ◌∙◌, List, ℕ, take, take-add, drop, sym, ap, subst, arith, length}
+use Rattle.std.proofs.Common.{◌++◌, ◌∙◌, List, ℕ, take, take-add, sym, ap, subst, arith}
 use Rattle.std.specs.Io.KnownBytes.{Appends}
 use Rattle.std.proofs.KnownBytes.{Appends-trans}
-
 use Rattle.nc_session.proofs.writing.write_all.Goals as goal
 
 pub writing-preserved : goal.writing-preserved
