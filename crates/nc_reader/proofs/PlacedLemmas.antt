@@ -101,7 +101,7 @@ clean_ok (Some line) rest c e = absurd cc
 pub judged_ok : (ss : List Stated) (count : ℕ) (c : ConfigView) → judged ss count ≡ Ok c → (name : ℕ × List ℕ) × (config_of ss count name ≡ c) × (name_of ss ≡ Some name)
 judged_ok ss count c e = named_ok ss count c (name_of ss) (clean_ok (first_of (filter_map (λ s. unread_at s.line s.says) ss)) _ c e)
 
-placed_view : (bytes : List ℕ) (c : ConfigView) → length bytes < 2 ^ 32 → configuration bytes ≡ Ok c → IsPlaced c
+pub placed_view : (bytes : List ℕ) (c : ConfigView) → length bytes < 2 ^ 32 → configuration bytes ≡ Ok c → IsPlaced c
 unfolding configuration
 placed_view bytes c few e =
     let ss = stated [] (lines_of bytes) in

@@ -11,3 +11,6 @@ pub mod Running
 pub mod WholeLines
 pub mod Concluding
 pub mod Ends
+pub mod SortedOnce
+pub mod OneOutput
+pub mod Taking

@@ -19,7 +19,7 @@ use Rattle.nc_session.specs.Facts.{prefix_cmp, row_cmp, places_from}
 prefix_total : IsTotalOrder prefix_cmp
 prefix_total = then_total (on_total (λ (p : Cidr). p.base) nat_cmp_total) (on_total (λ (p : Cidr). p.len) nat_cmp_total)
 
-row_total : IsTotalOrder row_cmp
+pub row_total : IsTotalOrder row_cmp
 row_total = then_total (on_total (λ (r : BaseRow). r.prefix) prefix_total) (on_total (λ (r : BaseRow). r.iface.0) nat_cmp_total)
 
 first_below : (o x : Ordering) → is_lt (ordering_then o x) ≡ false → is_lt o ≡ false

@@ -1,10 +1,10 @@
 -- What loading returns, and why it fails.
-use Rattle.std.specs.Prelude.{◌≡◌, ◌⊎◌, ℕ, ◌≤◌, List, map, Option, Result, Ok, Err}
+use Rattle.std.specs.Prelude.{◌≡◌, ◌⊎◌, ℕ, ◌≤◌, List, map, Option, Result, Ok, Err, ◌+◌, Some, None}
 use Rattle.std.specs.Prelude.{string_bytes, String}
 use Rattle.std.specs.declared.alloc.Global.{Global}
 use Rattle.nc_types.specs.declared.config.RouterConfig.{RouterConfig}
 use Rattle.nc_types.specs.Config.{config_view}
-use Rattle.nc_outside.specs.Named.{Named}
+use Rattle.nc_outside.specs.Named.{Named, content_of}
 use Rattle.nc_outside.specs.Counts.{Rose, IsMissing}
 use Rattle.nc_reader.specs.declared.fault.ConfigFault.{ConfigFault}
 use Rattle.nc_reader.specs.declared.fault.ConfigFault.TheVariants as config
@@ -12,6 +12,8 @@ use Rattle.nc_session.specs.declared.reading.Stop.{Stop}
 use Rattle.nc_session.specs.declared.reading.Stop.TheVariants as stop
 use Rattle.nc_session.specs.declared.load.LoadFault.{LoadFault}
 use Rattle.nc_session.specs.declared.load.LoadFault.TheVariants.{Outside, Long, Bad, Memory}
+use Rattle.nc_session.specs.declared.TheConstants.{FILE_LIMIT}
+use Rattle.nc_session.specs.Reading.{TakesAtMost}
 use Rattle.nc_session.specs.Output.{Loaded, LongFile, Faulty, Ready}
 
 -- the words as their bytes
@@ -46,3 +48,14 @@ HasLoadFaultCause files name before now fault = now ≡ before
 abbrev pub HasLoadCause : Option (List Named) → List ℕ → ℕ → ℕ → Result RouterConfig LoadFault → Type 0
 HasLoadCause files name before now (Ok c) = now ≡ before
 HasLoadCause files name before now (Err fault) = HasLoadFaultCause files name before now fault
+
+-- where the files are told, what is left of the entered one is its content less at most one byte more than is read of a file
+abbrev pub TakesOfFile : Option (List Named) → List ℕ → Option (List ℕ) → Type 0
+TakesOfFile None name left = Unit {0}
+TakesOfFile (Some files) name None = Unit {0}
+TakesOfFile (Some files) name (Some left) = (content : List ℕ) × (content_of files name ≡ Some content) × TakesAtMost (FILE_LIMIT + 1) (Some content) (Some left)
+
+-- the words name no file and what is left of the entered one stays, or they name one
+abbrev pub TakesOfNamed : Option (List ℕ) → Option (List Named) → Option (List ℕ) → Option (List ℕ) → Type 0
+TakesOfNamed None files old new = new ≡ old
+TakesOfNamed (Some name) files old new = TakesOfFile files name new

@@ -20,6 +20,10 @@ pub record IsRead (most : ℕ) (left rest : Option (List ℕ)) (bytes : List ℕ
   pub ended : length bytes ≤ most → IsAtEnd rest
   pub within : length bytes ≤ most + 1
 
+-- no more than so many bytes were taken off the front, where they are told
+abbrev pub TakesAtMost : ℕ → Option (List ℕ) → Option (List ℕ) → Type 0
+TakesAtMost most old new = (taken : List ℕ) × Consumes old new taken × (length taken ≤ most)
+
 -- work stops for the outside only where its count of faults rose, and else leaves the count
 abbrev pub HasStopCause : {T : Type 0} → ℕ → ℕ → Result T Stop → Type 0
 HasStopCause before now (Ok x) = now ≡ before

@@ -12,6 +12,7 @@ mod command;
 mod coverage;
 mod engine;
 mod fact;
+pub mod laws;
 mod load;
 mod mark;
 mod owners;

@@ -4,7 +4,7 @@ ghost use Rattle.std.specs.Prelude.{◌≡◌, Some, None, MatchOption, IfSome, 
 ghost use Rattle.nc_types.specs.Config.{IsPlaced, config_view};
 ghost use Rattle.nc_session.specs.Output.{file_of, load_content, is_option};
 ghost use Rattle.nc_outside.specs.Named.{content_of};
-ghost use Rattle.nc_session.specs.Loading.{IsLoad, HasLoadCause, texts, load_stop, load_fault};
+ghost use Rattle.nc_session.specs.Loading.{IsLoad, HasLoadCause, TakesOfFile, texts, load_stop, load_fault};
 
 use crate::FILE_LIMIT;
 use crate::reading::{Stop, read_file};
@@ -77,6 +77,7 @@ pub(crate) fn load<F: Files>(
     ensures placed { IfOk result (λ c. IsPlaced (config_view c)) }
     ensures cause { HasLoadCause (F.files files.old) name.now (F.faults files.old) (F.faults files.new) result }
     ensures entered { IfSome (F.entered files.new) (λ entered. entered ≡ name.now) }
+    ensures takes { TakesOfFile (F.files files.old) name.now (F.left files.new) }
 {
     if files.enter(name).is_err() {
         return Err(LoadFault::Outside);

@@ -1,7 +1,7 @@
 //! Reading files and sessions, each up to one byte past its limit.
 
-ghost use Rattle.std.specs.Prelude.{◌≡◌, ◌≤◌, length, IfOk};
-ghost use Rattle.nc_session.specs.Reading.{IsPiece, IsRead, HasStopCause};
+ghost use Rattle.std.specs.Prelude.{◌≡◌, ◌≤◌, ◌+◌, ◌-◌, length, IfOk};
+ghost use Rattle.nc_session.specs.Reading.{IsPiece, IsRead, TakesAtMost, HasStopCause};
 ghost use Rattle.nc_session.specs.declared.reading.Stop.TheVariants.{Outside, Memory};
 
 use crate::{FILE_LIMIT, SESSION_LIMIT};
@@ -50,6 +50,7 @@ fn read_file_piece<F: Files>(files: &mut F, bytes: &mut Vec<u8>) -> Result<usize
     ensures files { F.files files.new ≡ F.files files.old }
     ensures entered { F.entered files.new ≡ F.entered files.old }
     ensures piece { IfOk result (IsPiece FILE_LIMIT (F.left files.old) (F.left files.new) bytes.old.items bytes.new.items) }
+    ensures takes { TakesAtMost (FILE_LIMIT + 1 - length bytes.old.items) (F.left files.old) (F.left files.new) }
     ensures cause { HasStopCause (F.faults files.old) (F.faults files.new) result }
 {
     let mut buffer = [0u8; PIECE];
@@ -64,6 +65,7 @@ pub(crate) fn read_file<F: Files>(alloc: Global, files: &mut F) -> Result<Vec<u8
     ensures files { F.files files.new ≡ F.files files.old }
     ensures entered { F.entered files.new ≡ F.entered files.old }
     ensures read { IfOk result (λ bytes. IsRead FILE_LIMIT (F.left files.old) (F.left files.new) bytes.items) }
+    ensures takes { TakesAtMost (FILE_LIMIT + 1) (F.left files.old) (F.left files.new) }
     ensures cause { HasStopCause (F.faults files.old) (F.faults files.new) result }
 {
     let mut bytes = Vec::new(alloc);
@@ -79,6 +81,7 @@ pub(crate) fn read_file<F: Files>(alloc: Global, files: &mut F) -> Result<Vec<u8
 fn read_session_piece<S: Source>(input: &mut S, bytes: &mut Vec<u8>) -> Result<usize, Stop>
     requires { length bytes.old.items ≤ SESSION_LIMIT }
     ensures piece { IfOk result (IsPiece SESSION_LIMIT (S.rest input.old) (S.rest input.new) bytes.old.items bytes.new.items) }
+    ensures takes { TakesAtMost (SESSION_LIMIT + 1 - length bytes.old.items) (S.rest input.old) (S.rest input.new) }
     ensures cause { HasStopCause (S.faults input.old) (S.faults input.new) result }
 {
     let mut buffer = [0u8; PIECE];
@@ -91,6 +94,7 @@ fn read_session_piece<S: Source>(input: &mut S, bytes: &mut Vec<u8>) -> Result<u
 /// The bytes of the session, or one byte more than the limit.
 pub(crate) fn read_session<S: Source>(alloc: Global, input: &mut S) -> Result<Vec<u8>, Stop>
     ensures read { IfOk result (λ bytes. IsRead SESSION_LIMIT (S.rest input.old) (S.rest input.new) bytes.items) }
+    ensures takes { TakesAtMost (SESSION_LIMIT + 1) (S.rest input.old) (S.rest input.new) }
     ensures cause { HasStopCause (S.faults input.old) (S.faults input.new) result }
 {
     let mut bytes = Vec::new(alloc);

@@ -1,12 +1,13 @@
 //! The top call: from the words, the files and the session to the replies and the status.
 
-ghost use Rattle.std.specs.Prelude.{◌≡◌, ◌⊎◌, ◌≢◌, Some, IfSome, MatchOption, IfOk, length};
+ghost use Rattle.std.specs.Prelude.{◌≡◌, ◌⊎◌, ◌≢◌, ◌+◌, Some, IfSome, MatchOption, IfOk, length};
 ghost use Rattle.std.specs.Io.KnownBytes.{Appends, Keeps, IsAtEnd};
 ghost use Rattle.nc_types.specs.Config.{IsPlaced, config_view};
 ghost use Rattle.nc_outside.specs.Counts.{Rose};
 ghost use Rattle.nc_session.specs.Output.{Output, usage_text, fault_text, cause_text, whole_lines_of, file_of, Writes, IsAnswer, IsUsageOrUntold, IsAbsent, IsOfFiles, Settles, load};
 ghost use Rattle.nc_reader.specs.Lines.{lines_of};
-ghost use Rattle.nc_session.specs.Loading.{texts};
+ghost use Rattle.nc_session.specs.Loading.{texts, TakesOfNamed};
+ghost use Rattle.nc_session.specs.Reading.{TakesAtMost};
 ghost use Rattle.nc_session.specs.Ending.{Says, Refuses, stopped_as, AnswersSession, ServesTo, EndsAs, EntersNamed};
 ghost use Rattle.nc_session.specs.declared.status.Status.TheVariants as Status;
 
@@ -127,8 +128,9 @@ fn serve<S: Source, K: Sink>(
     output: &mut K,
 ) -> Status
     requires { IsPlaced (config_view router) }
-    ensures { ServesTo (config_view router) (S.rest input.old) (S.rest input.new) (K.written output.old) (K.written output.new)
+    ensures serves { ServesTo (config_view router) (S.rest input.old) (S.rest input.new) (K.written output.old) (K.written output.new)
         (S.faults input.old) (S.faults input.new) (K.faults output.old) (K.faults output.new) result }
+    ensures takes { TakesAtMost (SESSION_LIMIT + 1) (S.rest input.old) (S.rest input.new) }
 {
     match read_session(alloc, input) {
         Ok(session) => answer_session(alloc, router, &session, output),
@@ -164,6 +166,8 @@ fn run_words<F: Files, S: Source, K: Sink>(
         })
         result }
     ensures entered { EntersNamed (texts words.now) (F.entered files.old) (F.entered files.new) }
+    ensures file_taken { TakesOfNamed (file_of (texts words.now)) (F.files files.old) (F.left files.old) (F.left files.new) }
+    ensures session_taken { TakesAtMost (SESSION_LIMIT + 1) (S.rest input.old) (S.rest input.new) }
 {
     let Some(name) = file_of(words) else {
         return say(output, b"refused usage\n", Status::Usage);
@@ -198,6 +202,8 @@ pub fn run<F: Files, S: Source, K: Sink>(
     ensures file_fault { result ≡ Status.FileFault → Rose (F.faults files.old) (F.faults files.new) ⊎ IsAbsent (texts words.now) (F.files files.old) }
     ensures file_fault_silent { result ≡ Status.FileFault → Keeps (K.written output.old) (K.written output.new) }
     ensures entered { EntersNamed (texts words.now) (F.entered files.old) (F.entered files.new) }
+    ensures file_taken { TakesOfNamed (file_of (texts words.now)) (F.files files.old) (F.left files.old) (F.left files.new) }
+    ensures session_taken { TakesAtMost (SESSION_LIMIT + 1) (S.rest input.old) (S.rest input.new) }
     ensures input_fault { result ≡ Status.InputFault → Rose (S.faults input.old) (S.faults input.new) }
     ensures input_fault_silent { result ≡ Status.InputFault → Keeps (K.written output.old) (K.written output.new) }
     ensures output_fault { result ≡ Status.OutputFault → Rose (K.faults output.old) (K.faults output.new) }
