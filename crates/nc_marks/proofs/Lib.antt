@@ -1,0 +1,4 @@
+pub mod MarkLemmas
+pub mod ReachLemmas
+pub mod SetLemmas
+pub mod StrongLemmas

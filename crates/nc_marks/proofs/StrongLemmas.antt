@@ -1,0 +1,73 @@
+-- The set of a node's strong elements is made of those of its parents.
+use Rattle.std.proofs.Common.{◌≡◌, ℕ, ◌<◌, inl, inr, Bool, true, ◌||◌, List, [], ◌∷◌, length, get_or, map, Some, slice_get, sym, ap, ◌∙◌, subst, refl, arith, nat_eq, nat_lt, All}
+use Rattle.std.proofs.lemmas.List.{length-map}
+use Rattle.std.proofs.lemmas.List.Folds.{list_all-map}
+use Rattle.std.proofs.lemmas.Option.{get_or_from_slice_get}
+use Rattle.std.specs.List.{list_any, list_all}
+use Rattle.nc_graph.specs.declared.node.NodeKind.{NodeKind}
+use Rattle.nc_graph.specs.declared.node.NodeKind.TheVariants.{Leaf, Every, Any}
+use Rattle.nc_graph.specs.declared.node.NodeId.{NodeId}
+use Rattle.nc_graph.specs.Flow.{by_kind}
+use Rattle.nc_graph.specs.Derivation.{strong}
+use Rattle.nc_graph.specs.Nodes.{Nodes, node_flow, IsGraph}
+use Rattle.nc_graph.proofs.Members.{In, any_same, all_same, of_all}
+use Rattle.nc_graph.proofs.DerivationLaws.{strong-step}
+use Rattle.nc_marks.specs.Sets.{Table, has_at, IsAt, in_some, in_each}
+use Rattle.nc_marks.proofs.ReachLemmas.{all_from, parents-at}
+
+-- the same set by another test
+pub at-same : (t : Table) (place : ℕ) (p q : ℕ → Bool) → IsAt t place p → ((e : ℕ) → e < t.width → p e ≡ q e) → IsAt t place q
+at-same t place p q is same = record { within = is.within; exact = λ e lt. is.exact e lt ∙ same e lt }
+
+in-map : (ps : List NodeId) (p : NodeId) → In p ps → In p.0 (map (λ p. p.0) ps)
+in-map [] p i = absurd i
+in-map (q ∷ qs) p i = elim i [ inl e ↦ inl (ap (λ p. p.0) e) | inr i' ↦ inr (in-map qs p i') ]
+
+pub any-map : (f : ℕ → Bool) (ps : List NodeId) → list_any f (map (λ p. p.0) ps) ≡ list_any (λ p. f p.0) ps
+any-map f [] = refl
+any-map f (p ∷ ps) = ap (λ b. f p.0 || b) (any-map f ps)
+
+-- a node's kind
+pub kind-at : {F : Type 0} (n : Nodes F) (i : ℕ) (k : NodeKind) → slice_get n.kinds i ≡ Some k → (node_flow n).kind i ≡ k
+kind-at n i k at = get_or_from_slice_get n.kinds i k Every at
+
+module _ {F : Type 0} (n : Nodes F) (is : IsGraph n) (i : ℕ) (h : nat_lt i (length n.facts) ≡ true) where
+  through : (e : ℕ) (k : NodeKind) → (node_flow n).kind i ≡ k
+      → strong (node_flow n) e i ≡ by_kind k (nat_eq e) (list_any (strong (node_flow n) e) ((node_flow n).parents i)) (list_all (strong (node_flow n) e) ((node_flow n).parents i))
+  through e k s = strong-step (node_flow n) is.flow e i h ∙ ap (λ k. by_kind k (nat_eq e) (list_any (strong (node_flow n) e) ((node_flow n).parents i)) (list_all (strong (node_flow n) e) ((node_flow n).parents i))) s
+
+  pub leaf-strong : (e m : ℕ) → (node_flow n).kind i ≡ Leaf m → nat_eq e m ≡ strong (node_flow n) e i
+  leaf-strong e m s = sym (through e (Leaf m) s)
+
+  module _ (old : Table) (places : List ℕ) (ps : List NodeId) (at : slice_get n.parents i ≡ Some ps)
+      (below : All (λ p. IsAt old (get_or places p 0) (λ e. strong (node_flow n) e p)) ((node_flow n).parents i)) where
+    below-each : (p : NodeId) → In p ps → IsAt old (get_or places p.0 0) (λ e. strong (node_flow n) e p.0)
+    below-each p within = of_all (λ p. IsAt old (get_or places p 0) (λ e. strong (node_flow n) e p)) ((node_flow n).parents i) p.0 below
+        (subst (λ xs. In p.0 xs) (sym (parents-at n i ps at)) (in-map ps p within))
+
+    pub below-placed : All (λ p. get_or places p.0 0 < length old.sets) ps
+    below-placed = all_from (λ p. get_or places p.0 0 < length old.sets) ps (λ p within. (below-each p within).within)
+
+    pub some-parent : (node_flow n).kind i ≡ Any → 0 < length ps
+    some-parent s =
+        let some : 0 < length ((node_flow n).parents i) = is.flow.chosen i h s in
+        let same : length ((node_flow n).parents i) ≡ length ps = ap length (parents-at n i ps at) ∙ length-map ps (λ p. p.0) in
+        omega arith
+
+    pub every-strong : (node_flow n).kind i ≡ Every → (e : ℕ) → e < old.width → in_some old places ps e ≡ strong (node_flow n) e i
+    every-strong s e lt =
+        any_same (λ p. has_at old (get_or places p.0 0) e) (λ p. strong (node_flow n) e p.0) ps (λ p within. (below-each p within).exact e lt)
+        ∙ sym (any-map (strong (node_flow n) e) ps) ∙ ap (list_any (strong (node_flow n) e)) (sym (parents-at n i ps at)) ∙ sym (through e Every s)
+
+    pub any-strong : (node_flow n).kind i ≡ Any → (e : ℕ) → e < old.width → in_each old places ps e ≡ strong (node_flow n) e i
+    any-strong s e lt =
+        all_same (λ p. has_at old (get_or places p.0 0) e) (λ p. strong (node_flow n) e p.0) ps (λ p within. (below-each p within).exact e lt)
+        ∙ sym (list_all-map (strong (node_flow n) e) (λ p. p.0) ps) ∙ ap (list_all (strong (node_flow n) e)) (sym (parents-at n i ps at)) ∙ sym (through e Any s)
+
+-- an element is in the set of some tested node where it is strong for one
+pub tested-strong : {F : Type 0} (n : Nodes F) (t : Table) (places : List ℕ) (ps : List NodeId) (e : ℕ) → e < t.width
+    → All (λ p. IsAt t (get_or places p.0 0) (λ e. strong (node_flow n) e p.0)) ps → in_some t places ps e ≡ list_any (strong (node_flow n) e) (map (λ p. p.0) ps)
+tested-strong n t places ps e lt all =
+    any_same (λ p. has_at t (get_or places p.0 0) e) (λ p. strong (node_flow n) e p.0) ps
+    (λ p within. (of_all (λ p. IsAt t (get_or places p.0 0) (λ e. strong (node_flow n) e p.0)) ps p all within).exact e lt)
+    ∙ sym (any-map (strong (node_flow n) e) ps)

@@ -1,0 +1,3 @@
+pub mod Marks
+pub mod Reach
+pub mod Sets

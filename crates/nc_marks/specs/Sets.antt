@@ -1,0 +1,43 @@
+-- Sets of elements as lists, kept in a table, where each has a place.
+use Rattle.std.specs.Prelude.{◌≡◌, ℕ, ◌<◌, ◌≤◌, Bool, false, List, [], length, nat_eq, slice_index_or}
+use Rattle.std.specs.List.{list_any, list_all}
+use Rattle.nc_graph.specs.declared.node.NodeId.{NodeId}
+
+-- whether a set has an element
+abbrev pub has : List ℕ → ℕ → Bool
+has set e = list_any (nat_eq e) set
+
+-- whether a flag is set; there are no flags past the end
+abbrev pub flag : List Bool → ℕ → Bool
+flag flags i = slice_index_or flags i false
+
+-- the numbers of nodes
+abbrev pub has_node : List NodeId → ℕ → Bool
+has_node nodes i = list_any (λ p. nat_eq i p.0) nodes
+
+-- a table of sets, of which the elements below `width` count
+pub record Table : Type 0 where
+  pub sets : List (List ℕ)
+  pub width : ℕ
+
+-- the set at a place has an element
+abbrev pub has_at : Table → ℕ → ℕ → Bool
+has_at t place e = has (slice_index_or t.sets place []) e
+
+-- new has the sets of old at their places, perhaps with others after them
+pub record Grows (old new : Table) : Type 0 where
+  pub width : new.width ≡ old.width
+  pub more : length old.sets ≤ length new.sets
+  pub kept : (place : ℕ) → place < length old.sets → slice_index_or new.sets place [] ≡ slice_index_or old.sets place []
+
+-- the set at the place has just the elements that pass
+pub record IsAt (t : Table) (place : ℕ) (passes : ℕ → Bool) : Type 0 where
+  pub within : place < length t.sets
+  pub exact : (e : ℕ) → e < t.width → has_at t place e ≡ passes e
+
+-- an element is in the set of some node, and in that of each
+abbrev pub in_some : Table → List ℕ → List NodeId → ℕ → Bool
+in_some t places nodes e = list_any (λ p. has_at t (slice_index_or places p.0 0) e) nodes
+
+abbrev pub in_each : Table → List ℕ → List NodeId → ℕ → Bool
+in_each t places nodes e = list_all (λ p. has_at t (slice_index_or places p.0 0) e) nodes

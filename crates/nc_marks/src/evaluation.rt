@@ -1,0 +1,162 @@
+//! The marks of elements by one evaluation of a graph.
+ghost use Rattle.std.specs.Prelude.{◌≡◌, ◌<◌, ℕ, All, length, false, true, map, IfOk, OnOk, slice_index_or};
+ghost use Rattle.nc_graph.specs.Nodes.{node_flow, IsGraph};
+ghost use Rattle.nc_graph.specs.Derivation.{strong};
+ghost use Rattle.nc_marks.specs.Marks.{AreMarks};
+ghost use Rattle.nc_marks.specs.Reach.{IsClosed, strong_in};
+ghost use Rattle.nc_marks.specs.Sets.{flag, Grows, IsAt, in_some, in_each};
+
+use crate::flags::flag_set;
+use crate::mark::Marks;
+use crate::reach::{elements_reached, reach};
+use crate::sets::Sets;
+use nc_graph::graph::Graph;
+use nc_graph::node::{NodeId, NodeKind};
+use std::alloc::{AllocError, Global};
+use std::hash::Hash;
+
+#[cfg(test)]
+mod tests;
+
+// The place of the union of the sets of nodes. The set at the place 0 is empty.
+fn union_of(sets: &mut Sets, places: &[usize], nodes: &[NodeId]) -> Result<usize, AllocError>
+    requires empty { IsAt sets.old 0 (λ _. false) }
+    requires within { All (λ p. p.0 < length places.now) nodes.now }
+    requires placed { All (λ p. slice_index_or places.now p.0 0 < length sets.old.sets) nodes.now }
+    ensures grows { OnOk result (Grows sets.old sets.new) }
+    ensures union { IfOk result (λ place. IsAt sets.new place (in_some sets.old places.now nodes.now)) }
+{
+    let mut place = 0;
+    'nodes: for node in nodes {
+        place = sets.union(place, places[node.0 as usize])?;
+    }
+    Ok(place)
+}
+
+// The place of the intersection of the sets of nodes, of which there is one.
+fn intersection_of(sets: &mut Sets, places: &[usize], nodes: &[NodeId]) -> Result<usize, AllocError>
+    requires some { 0 < length nodes.now }
+    requires within { All (λ p. p.0 < length places.now) nodes.now }
+    requires placed { All (λ p. slice_index_or places.now p.0 0 < length sets.old.sets) nodes.now }
+    ensures grows { OnOk result (Grows sets.old sets.new) }
+    ensures intersection { IfOk result (λ place. IsAt sets.new place (in_each sets.old places.now nodes.now)) }
+{
+    let mut place = places[nodes[0].0 as usize];
+    'nodes: for node in nodes {
+        place = sets.intersection(place, places[node.0 as usize])?;
+    }
+    Ok(place)
+}
+
+// The place of the strong elements of a node, by those of its parents.
+fn place_of<F: Copy + Eq + Hash>(
+    graph: &Graph<F>,
+    sets: &mut Sets,
+    places: &[usize],
+    node: NodeId,
+) -> Result<usize, AllocError>
+    requires graph { IsGraph graph.now }
+    requires valid { node.0 < length graph.now.facts }
+    requires len { length places.now ≡ node.0 }
+    requires empty { IsAt sets.old 0 (λ _. false) }
+    requires below { All (λ p. IsAt sets.old (slice_index_or places.now p 0) (λ e. strong (node_flow graph.now) e p))
+        ((node_flow graph.now).parents node.0) }
+    ensures grows { OnOk result (Grows sets.old sets.new) }
+    ensures strong { IfOk result (λ place. IsAt sets.new place (λ e. strong (node_flow graph.now) e node.0)) }
+{
+    let parents = graph.parents(node);
+    let place = match graph.kind(node) {
+        NodeKind::Leaf(element) => sets.single(element)?,
+        NodeKind::Every => union_of(sets, places, parents)?,
+        NodeKind::Any => intersection_of(sets, places, parents)?,
+    };
+    Ok(place)
+}
+
+// By node, the place of its strong elements; of a node that isn't reached the place 0.
+fn places_of<F: Copy + Eq + Hash>(
+    alloc: Global,
+    graph: &Graph<F>,
+    sets: &mut Sets,
+    reached: &[bool],
+) -> Result<Vec<usize>, AllocError>
+    requires len { length reached.now ≡ length graph.now.facts }
+    requires closed { IsClosed (node_flow graph.now) 0 reached.now }
+    requires empty { IsAt sets.old 0 (λ _. false) }
+    ensures len { IfOk result (λ places. length places.items ≡ length graph.now.facts) }
+    ensures width { OnOk result (sets.new.width ≡ sets.old.width) }
+    ensures strong { IfOk result (λ places. (i : ℕ) → flag reached.now i ≡ true
+        → IsAt sets.new (slice_index_or places.items i 0) (λ e. strong (node_flow graph.now) e i)) }
+{
+    let mut places = Vec::with_capacity(alloc, graph.len() as usize)?;
+    'nodes: for number in 0..graph.len() {
+        let place = if reached[number as usize] {
+            place_of(graph, sets, &places, NodeId(number))?
+        } else {
+            0
+        };
+        places.push(place)?;
+    }
+    Ok(places)
+}
+
+// Raises the flags of the elements of the sets of nodes, where none is raised.
+fn flag_strong(sets: &Sets, places: &[usize], nodes: &[NodeId], flags: &mut [bool])
+    requires within { All (λ p. p.0 < length places.now) nodes.now }
+    requires placed { All (λ p. slice_index_or places.now p.0 0 < length sets.now.sets) nodes.now }
+    requires lowered { (e : ℕ) → e < length flags.old → flag flags.old e ≡ false }
+    ensures len { length flags.new ≡ length flags.old }
+    ensures flags { (e : ℕ) → e < length flags.old
+        → flag flags.new e ≡ in_some sets.now places.now nodes.now e }
+{
+    'nodes: for node in nodes {
+        flag_set(flags, sets.get(places[node.0 as usize]), true);
+    }
+}
+
+// Which elements are strong for a tested node.
+fn elements_strong<F: Copy + Eq + Hash>(
+    alloc: Global,
+    graph: &Graph<F>,
+    elements: u32,
+    tested: &[NodeId],
+    reached: &[bool],
+) -> Result<Vec<bool>, AllocError>
+    requires valid { All (λ p. p.0 < length graph.now.facts) tested.now }
+    requires len { length reached.now ≡ length graph.now.facts }
+    requires tested { All (λ p. flag reached.now p.0 ≡ true) tested.now }
+    requires closed { IsClosed (node_flow graph.now) 0 reached.now }
+    ensures len { IfOk result (λ flags. length flags.items ≡ elements) }
+    ensures strong { IfOk result (λ flags. (e : ℕ) → e < elements
+        → flag flags.items e ≡ strong_in (node_flow graph.now) e (map (λ p. p.0) tested.now)) }
+{
+    let mut sets = Sets::new(alloc, elements)?;
+    let places = places_of(alloc, graph, &mut sets, reached)?;
+    let mut flags = vec![in alloc; false; elements as usize]?;
+    flag_strong(&sets, &places, tested, &mut flags);
+    Ok(flags)
+}
+
+/// The marks of the elements below `elements`, for tested nodes of a graph: of each element whether
+/// it stands in every derivation of some tested node, in some derivation of one, or in none. A
+/// derivation is made by a choice of one parent of each disjunctive node. An element of a leaf that
+/// isn't below `elements` has no mark.
+///
+/// # Errors
+///
+/// That memory is refused.
+pub fn marks<F: Copy + Eq + Hash>(
+    alloc: Global,
+    graph: &Graph<F>,
+    elements: u32,
+    tested: &[NodeId],
+) -> Result<Marks, AllocError>
+    requires { All (λ p. p.0 < length graph.now.facts) tested.now }
+    ensures { IfOk result
+        (λ marks. AreMarks (node_flow graph.now) (map (λ p. p.0) tested.now) elements marks) }
+{
+    let reached = reach(alloc, graph, tested)?;
+    let some = elements_reached(alloc, graph, elements, tested, &reached)?;
+    let strong = elements_strong(alloc, graph, elements, tested, &reached)?;
+    Ok(Marks::new(strong, some))
+}

@@ -1,0 +1,15 @@
+//! Marks: how well the tests cover each element of a configuration.
+//!
+//! An element is strong where it stands in every derivation of some tested fact, weak where it
+//! stands in some derivation of one, and uncovered elsewhere; a line without an owner is outside.
+//! This crate stands on `nc_graph`, whose graphs of facts and derivations it reads. Its contract
+//! promises the marks by their definition, over all derivations of the tested nodes of any graph.
+//! They are worked out in one pass down the numbers of the nodes, for what the tested ones reach, and
+//! one pass up, which makes each node's set of strong elements of those of its parents.
+#![tactic(auto)]
+
+pub mod evaluation;
+mod flags;
+pub mod mark;
+mod reach;
+mod sets;
