@@ -1,6 +1,6 @@
 //! Times `and` on diagrams of 100,000 nodes: two chains of variables, and two chains of clauses of two
-//! variables, each over every second variable. The counts go to the standard output, times and memory to the
-//! standard error. It stands on `nc_diagram`, and promises nothing but what its calls do.
+//! variables, each over every second variable. The counts go to the standard output, the times to the standard
+//! error. It stands on `nc_diagram`, and promises nothing but what its calls do.
 #![tactic(auto)]
 
 ghost use Rattle.std.specs.Prelude.{◌<◌, ◌+◌, ◌*◌, ◌^◌, IfOk, OnOk};
@@ -9,8 +9,6 @@ ghost use Rattle.bench_diagram.specs.Held.{HoldsOn};
 
 use anyhow::Result;
 use nc_diagram::{Ref, Store, StoreFault};
-use std::fs::File;
-use std::io;
 use std::time::Instant;
 
 /// The conjunction of `count` variables, every second from `first` on.
@@ -44,25 +42,7 @@ fn clauses(store: &mut Store, first: u32, count: u32) -> Result<Ref, StoreFault>
     Ok(all)
 }
 
-/// The pages of memory that the process has, from the system's own file.
-fn pages(rt: &HostRuntime) -> Result<u64> {
-    let text = io::read_to_string(rt.alloc(), File::open(rt, "/proc/self/statm")?)?;
-    let mut words = text.split_whitespace();
-    let _all = words.next();
-    let resident = words.next().unwrap_or("0");
-    Ok(resident.parse::<u64>()?)
-}
-
 fn main(rt: HostRuntime) -> Result<()> {
-    let mut store = Store::new(rt.alloc(), 4000000);
-    let before = pages(&rt)?;
-    for variable in 0..1000000u32 {
-        let _one = store.variable(variable)?;
-    }
-    let after = pages(&rt)?;
-    println!(rt; "memory: nodes {}", store.len())?;
-    eprintln!(rt; "memory: pages {before} to {after}")?;
-
     let mut store = Store::new(rt.alloc(), 4000000);
     let even = chain(&mut store, 0, 100000)?;
     let odd = chain(&mut store, 1, 100000)?;
