@@ -5,6 +5,13 @@
 //! of the status.
 #![tactic(auto)]
 
+ghost use Rattle.std.specs.Prelude.{◌≡◌, ◌≢◌, MatchOption};
+ghost use Rattle.std.specs.IoError.{error_kind};
+ghost use Rattle.nc_session.specs.declared.status.Status.TheVariants as Status;
+ghost use Rattle.nc_session.specs.Loading.{texts};
+ghost use Rattle.nc_session.specs.Output.{file_of};
+ghost use Rattle.netcov.specs.Ending.{number_untaken, IsWithoutFile};
+
 use nc_outside::{FolderFiles, StdinSource, StdoutSink};
 use nc_session::{Status, run};
 use std::io::{Error, ErrorKind, Result};
@@ -24,7 +31,9 @@ fn words_of(rt: &HostRuntime) -> Result<Vec<String>> {
 }
 
 // Where the words can't be taken: no memory, or no text.
-fn untaken(error: &Error) -> u8 {
+fn untaken(error: &Error) -> u8
+    ensures { result ≡ number_untaken (error_kind error.now) }
+{
     match error.kind() {
         ErrorKind::OutOfMemory => Status::Memory.number(),
         _ => NO_TEXT,
@@ -32,7 +41,10 @@ fn untaken(error: &Error) -> u8 {
 }
 
 // Runs over the system.
-fn run_here(rt: &HostRuntime, words: &[String]) -> Status {
+fn run_here(rt: &HostRuntime, words: &[String]) -> Status
+    ensures usage { MatchOption (file_of (texts words.now)) (IsWithoutFile result) (λ _. result ≢ Status.Usage) }
+    ensures stable { result ≢ Status.Unstable }
+{
     let Ok(system) = rt.clone() else {
         return Status::Memory;
     };
