@@ -24,6 +24,11 @@ pub record Table : Type 0 where
 abbrev pub has_at : Table → ℕ → ℕ → Bool
 has_at t place e = has (slice_index_or t.sets place []) e
 
+-- elements that were gathered, of those below `width`
+pub record Gathering : Type 0 where
+  pub elements : List ℕ
+  pub width : ℕ
+
 -- new has the sets of old at their places, perhaps with others after them
 pub record Grows (old new : Table) : Type 0 where
   pub width : new.width ≡ old.width

@@ -4,9 +4,11 @@ ghost use Rattle.nc_graph.specs.Nodes.{node_flow, IsGraph};
 ghost use Rattle.nc_graph.specs.Derivation.{strong};
 ghost use Rattle.nc_marks.specs.Marks.{AreMarks};
 ghost use Rattle.nc_marks.specs.Reach.{IsClosed, strong_in};
-ghost use Rattle.nc_marks.specs.Sets.{flag, Grows, IsAt, in_some, in_each};
+ghost use Rattle.nc_marks.specs.Sets.{flag, Grows, IsAt, in_some};
 
+use crate::combine::{intersection_of, union_of};
 use crate::flags::flag_set;
+use crate::gathered::Gathered;
 use crate::mark::Marks;
 use crate::reach::{elements_reached, reach};
 use crate::sets::Sets;
@@ -18,57 +20,30 @@ use std::hash::Hash;
 #[cfg(test)]
 mod tests;
 
-// The place of the union of the sets of nodes. The set at the place 0 is empty.
-fn union_of(sets: &mut Sets, places: &[usize], nodes: &[NodeId]) -> Result<usize, AllocError>
-    requires empty { IsAt sets.old 0 (λ _. false) }
-    requires within { All (λ p. p.0 < length places.now) nodes.now }
-    requires placed { All (λ p. slice_index_or places.now p.0 0 < length sets.old.sets) nodes.now }
-    ensures grows { OnOk result (Grows sets.old sets.new) }
-    ensures union { IfOk result (λ place. IsAt sets.new place (in_some sets.old places.now nodes.now)) }
-{
-    let mut place = 0;
-    'nodes: for node in nodes {
-        place = sets.union(place, places[node.0 as usize])?;
-    }
-    Ok(place)
-}
-
-// The place of the intersection of the sets of nodes, of which there is one.
-fn intersection_of(sets: &mut Sets, places: &[usize], nodes: &[NodeId]) -> Result<usize, AllocError>
-    requires some { 0 < length nodes.now }
-    requires within { All (λ p. p.0 < length places.now) nodes.now }
-    requires placed { All (λ p. slice_index_or places.now p.0 0 < length sets.old.sets) nodes.now }
-    ensures grows { OnOk result (Grows sets.old sets.new) }
-    ensures intersection { IfOk result (λ place. IsAt sets.new place (in_each sets.old places.now nodes.now)) }
-{
-    let mut place = places[nodes[0].0 as usize];
-    'nodes: for node in nodes {
-        place = sets.intersection(place, places[node.0 as usize])?;
-    }
-    Ok(place)
-}
-
 // The place of the strong elements of a node, by those of its parents.
 fn place_of<F: Copy + Eq + Hash>(
     graph: &Graph<F>,
     sets: &mut Sets,
+    gathered: &mut Gathered,
     places: &[usize],
     node: NodeId,
 ) -> Result<usize, AllocError>
     requires graph { IsGraph graph.now }
     requires valid { node.0 < length graph.now.facts }
     requires len { length places.now ≡ node.0 }
+    requires width { gathered.old.width ≡ sets.old.width }
     requires empty { IsAt sets.old 0 (λ _. false) }
     requires below { All (λ p. IsAt sets.old (slice_index_or places.now p 0) (λ e. strong (node_flow graph.now) e p))
         ((node_flow graph.now).parents node.0) }
+    ensures width { gathered.new.width ≡ gathered.old.width }
     ensures grows { OnOk result (Grows sets.old sets.new) }
     ensures strong { IfOk result (λ place. IsAt sets.new place (λ e. strong (node_flow graph.now) e node.0)) }
 {
     let parents = graph.parents(node);
     let place = match graph.kind(node) {
         NodeKind::Leaf(element) => sets.single(element)?,
-        NodeKind::Every => union_of(sets, places, parents)?,
-        NodeKind::Any => intersection_of(sets, places, parents)?,
+        NodeKind::Every => union_of(sets, gathered, places, parents)?,
+        NodeKind::Any => intersection_of(sets, gathered, places, parents)?,
     };
     Ok(place)
 }
@@ -78,8 +53,10 @@ fn places_of<F: Copy + Eq + Hash>(
     alloc: Global,
     graph: &Graph<F>,
     sets: &mut Sets,
+    gathered: &mut Gathered,
     reached: &[bool],
 ) -> Result<Vec<usize>, AllocError>
+    requires gathered { gathered.old.width ≡ sets.old.width }
     requires len { length reached.now ≡ length graph.now.facts }
     requires closed { IsClosed (node_flow graph.now) 0 reached.now }
     requires empty { IsAt sets.old 0 (λ _. false) }
@@ -91,7 +68,7 @@ fn places_of<F: Copy + Eq + Hash>(
     let mut places = Vec::with_capacity(alloc, graph.len() as usize)?;
     'nodes: for number in 0..graph.len() {
         let place = if reached[number as usize] {
-            place_of(graph, sets, &places, NodeId(number))?
+            place_of(graph, sets, gathered, &places, NodeId(number))?
         } else {
             0
         };
@@ -131,7 +108,8 @@ fn elements_strong<F: Copy + Eq + Hash>(
         → flag flags.items e ≡ strong_in (node_flow graph.now) e (map (λ p. p.0) tested.now)) }
 {
     let mut sets = Sets::new(alloc, elements)?;
-    let places = places_of(alloc, graph, &mut sets, reached)?;
+    let mut gathered = Gathered::new(alloc, elements)?;
+    let places = places_of(alloc, graph, &mut sets, &mut gathered, reached)?;
     let mut flags = vec![in alloc; false; elements as usize]?;
     flag_strong(&sets, &places, tested, &mut flags);
     Ok(flags)

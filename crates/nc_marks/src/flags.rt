@@ -1,10 +1,9 @@
 //! Flags of elements and of nodes, by their numbers.
-ghost use Rattle.std.specs.Prelude.{◌≡◌, ◌||◌, ◌&&◌, ◌<◌, ◌++◌, ℕ, All, length, true, false, not, IfOk, if◌then◌else◌};
-ghost use Rattle.std.specs.List.{list_all, filter};
+ghost use Rattle.std.specs.Prelude.{◌≡◌, ◌||◌, ◌&&◌, ◌<◌, ℕ, All, length, true, if◌then◌else◌};
+ghost use Rattle.std.specs.List.{filter};
 ghost use Rattle.nc_marks.specs.Sets.{has, has_node, flag};
 
 use nc_graph::node::NodeId;
-use std::alloc::{AllocError, Global};
 
 // Gives the flags of a set's elements a value. Elements that have no flag are passed over.
 pub(crate) fn flag_set(flags: &mut [bool], set: &[u32], value: bool)
@@ -40,8 +39,8 @@ fn is_flagged(flags: &[bool], element: u32) -> bool
 }
 
 // Whether each element of a set has a raised flag.
-fn all_flagged(flags: &[bool], set: &[u32]) -> bool
-    ensures { result ≡ list_all (flag flags.now) set.now }
+pub(crate) fn all_flagged(flags: &[bool], set: &[u32]) -> bool
+    ensures { result ≡ true → (e : ℕ) → has set.now e ≡ true → flag flags.now e ≡ true }
 {
     'elements: for element in set {
         if !is_flagged(flags, *element) {
@@ -51,86 +50,24 @@ fn all_flagged(flags: &[bool], set: &[u32]) -> bool
     true
 }
 
-// The elements of a set that have a raised flag.
-fn flagged(alloc: Global, flags: &[bool], set: &[u32]) -> Result<Vec<u32>, AllocError>
-    ensures { IfOk result (λ kept. kept.items ≡ filter (flag flags.now) set.now) }
+// Keeps the elements of a list that have a raised flag.
+fn keep_flagged(flags: &[bool], elements: &mut Vec<u32>)
+    ensures { elements.new.items ≡ filter (flag flags.now) elements.old.items }
 {
-    let mut kept = Vec::new(alloc);
-    'elements: for element in set {
-        if is_flagged(flags, *element) {
-            kept.push(*element)?;
-        }
-    }
-    Ok(kept)
+    elements.retain(|element| is_flagged(flags, *element));
 }
 
-// The elements of a first set, and those of a second one that have no raised flag.
-fn with_unflagged(
-    alloc: Global,
-    flags: &[bool],
-    first: &[u32],
-    second: &[u32],
-) -> Result<Vec<u32>, AllocError>
-    ensures { IfOk result (λ all. all.items ≡ first.now ++ filter (λ e. not (flag flags.now e)) second.now) }
-{
-    let mut all = Vec::from_slice(alloc, first)?;
-    'elements: for element in second {
-        if !is_flagged(flags, *element) {
-            all.push(*element)?;
-        }
-    }
-    Ok(all)
-}
-
-// Whether a set has all elements of another, of those that have a flag. The flags are lowered
-// between the calls of this function and of the next two.
-pub(crate) fn contains(flags: &mut [bool], whole: &[u32], part: &[u32]) -> bool
-    requires lowered { (e : ℕ) → e < length flags.old → flag flags.old e ≡ false }
+// Keeps the elements of a list that a set has too. The flags tell the list, before and afterwards.
+pub(crate) fn keep_common(flags: &mut [bool], elements: &mut Vec<u32>, set: &[u32])
+    requires told { (e : ℕ) → e < length flags.old → flag flags.old e ≡ has elements.old.items e }
     ensures len { length flags.new ≡ length flags.old }
-    ensures lowered { (e : ℕ) → e < length flags.old → flag flags.new e ≡ false }
-    ensures contains { result ≡ true → (e : ℕ) → e < length flags.old
-        → has part.now e ≡ true → has whole.now e ≡ true }
+    ensures told { (e : ℕ) → e < length flags.old → flag flags.new e ≡ has elements.new.items e }
+    ensures common { (e : ℕ) → e < length flags.old
+        → has elements.new.items e ≡ (has elements.old.items e && has set.now e) }
 {
-    flag_set(flags, whole, true);
-    let contains = all_flagged(flags, part);
-    flag_set(flags, whole, false);
-    contains
-}
-
-// The elements of either set, those of the first one first.
-pub(crate) fn union(
-    alloc: Global,
-    flags: &mut [bool],
-    first: &[u32],
-    second: &[u32],
-) -> Result<Vec<u32>, AllocError>
-    requires lowered { (e : ℕ) → e < length flags.old → flag flags.old e ≡ false }
-    ensures len { length flags.new ≡ length flags.old }
-    ensures lowered { (e : ℕ) → e < length flags.old → flag flags.new e ≡ false }
-    ensures union { IfOk result (λ set. (e : ℕ) → e < length flags.old
-        → has set.items e ≡ (has first.now e || has second.now e)) }
-{
-    flag_set(flags, first, true);
-    let set = with_unflagged(alloc, flags, first, second);
-    flag_set(flags, first, false);
-    set
-}
-
-// The elements of both sets.
-pub(crate) fn intersection(
-    alloc: Global,
-    flags: &mut [bool],
-    first: &[u32],
-    second: &[u32],
-) -> Result<Vec<u32>, AllocError>
-    requires lowered { (e : ℕ) → e < length flags.old → flag flags.old e ≡ false }
-    ensures len { length flags.new ≡ length flags.old }
-    ensures lowered { (e : ℕ) → e < length flags.old → flag flags.new e ≡ false }
-    ensures intersection { IfOk result (λ set. (e : ℕ) → e < length flags.old
-        → has set.items e ≡ (has first.now e && has second.now e)) }
-{
-    flag_set(flags, second, true);
-    let set = flagged(alloc, flags, first);
-    flag_set(flags, second, false);
-    set
+    flag_set(flags, elements, false);
+    flag_set(flags, set, true);
+    keep_flagged(flags, elements);
+    flag_set(flags, set, false);
+    flag_set(flags, elements, true);
 }

@@ -5,11 +5,14 @@
 //! This crate stands on `nc_graph`, whose graphs of facts and derivations it reads. Its contract
 //! promises the marks by their definition, over all derivations of the tested nodes of any graph.
 //! They are worked out in one pass down the numbers of the nodes, for what the tested ones reach, and
-//! one pass up, which makes each node's set of strong elements of those of its parents.
+//! one pass up, which makes each node's set of strong elements of those of its parents. This takes time
+//! for the sets of the parents together, and keeps one set for a node, or none where a parent's serves.
 #![tactic(auto)]
 
+mod combine;
 pub mod evaluation;
 mod flags;
+mod gathered;
 pub mod mark;
 mod reach;
 mod sets;

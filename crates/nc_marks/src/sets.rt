@@ -1,42 +1,35 @@
 //! A table of sets of elements, in which nodes share the sets that are equal.
-ghost use Rattle.std.specs.Prelude.{◌≡◌, ◌||◌, ◌&&◌, ◌<◌, ◌++◌, ℕ, [], ◌∷◌, length, true, nat_eq, slice_index_or, IfOk, OnOk};
-ghost use Rattle.nc_marks.specs.Sets.{has_at, Grows, IsAt};
+ghost use Rattle.std.specs.Prelude.{◌≡◌, ◌<◌, [], ◌∷◌, length, false, nat_eq, slice_index_or, IfOk, OnOk};
+ghost use Rattle.nc_marks.specs.Sets.{has, Grows, IsAt};
 
-use crate::flags::{contains, intersection, union};
 use std::alloc::{AllocError, Global};
 use std::marker::Model;
 
-// Sets by their places, and a flag for each element, which are lowered between the calls.
+// Sets by their places, of which the elements below `width` count. The set at the place 0 is empty.
 #[derive(Drop)]
 pub(crate) struct Sets {
     sets: Vec<Vec<u32>>,
-    flags: Vec<bool>,
+    width: u32,
     alloc: Global,
 }
 
 impl Model for Sets {
-    ghost use Rattle.std.specs.Prelude.{◌≡◌, ◌<◌, ℕ, map, length, false};
-    ghost use Rattle.nc_marks.specs.Sets.{Table, flag};
+    ghost use Rattle.std.specs.Prelude.{map};
+    ghost use Rattle.nc_marks.specs.Sets.{Table};
 
     ghost Value = { Table };
 
-    ghost view = { λ s. record {
-      sets = map (λ v. v.items) s.sets.items;
-      width = length s.flags.items;
-    } };
-
-    ghost invariant = { λ s. (e : ℕ) → e < length s.flags.items → flag s.flags.items e ≡ false };
+    ghost view = { λ s. record { sets = map (λ v. v.items) s.sets.items; width = s.width } };
 }
 
 impl Sets {
     // A table that has the empty set alone.
-    pub(crate) fn new(alloc: Global, elements: u32) -> Result<Sets, AllocError>
-        ensures { IfOk result (λ t. t ≡ record { sets = [] ∷ []; width = elements }) }
+    pub(crate) fn new(alloc: Global, width: u32) -> Result<Sets, AllocError>
+        ensures { IfOk result (λ t. t ≡ record { sets = [] ∷ []; width = width }) }
     {
-        let flags = vec![in alloc; false; elements as usize]?;
         let mut sets = Vec::new(alloc);
         sets.push(Vec::new(alloc))?;
-        Ok(Sets { sets, flags, alloc })
+        Ok(Sets { sets, width, alloc })
     }
 
     // The set at a place.
@@ -47,88 +40,27 @@ impl Sets {
         self.sets[place].as_slice()
     }
 
-    // Adds a set, and answers its place.
-    fn add(&mut self, set: Vec<u32>) -> Result<usize, AllocError>
-        ensures added { OnOk result
-            (self.new ≡ record { sets = self.old.sets ++ set.items ∷ []; width = self.old.width }) }
-        ensures last { IfOk result (λ place. place ≡ length self.old.sets) }
+    // Adds a copy of a set, and answers its place.
+    pub(crate) fn add(&mut self, set: &[u32]) -> Result<usize, AllocError>
+        ensures grows { OnOk result (Grows self.old self.new) }
+        ensures added { IfOk result (λ place. IsAt self.new place (has set.now)) }
     {
         let place = self.sets.len();
+        let set = Vec::from_slice(self.alloc, set)?;
         self.sets.push(set)?;
         Ok(place)
     }
 
-    // Adds the set of one element.
+    // The place of the set of one element, or of none where the element doesn't count.
     pub(crate) fn single(&mut self, element: u32) -> Result<usize, AllocError>
+        requires empty { IsAt self.old 0 (λ _. false) }
         ensures grows { OnOk result (Grows self.old self.new) }
         ensures single { IfOk result (λ place. IsAt self.new place (λ e. nat_eq e element)) }
     {
-        let mut set = Vec::with_capacity(self.alloc, 1)?;
-        set.push(element)?;
-        let place = self.add(set)?;
-        Ok(place)
-    }
-
-    // Whether a set has all elements of another.
-    fn has_all(&mut self, whole: usize, part: usize) -> bool
-        requires whole { whole < length self.old.sets }
-        requires part { part < length self.old.sets }
-        ensures same { self.new ≡ self.old }
-        ensures contains { result ≡ true → (e : ℕ) → e < self.old.width
-            → has_at self.old part e ≡ true → has_at self.old whole e ≡ true }
-    {
-        if whole == part || self.sets[part].is_empty() {
-            return true;
+        if element >= self.width {
+            return Ok(0);
         }
-        contains(&mut self.flags, &self.sets[whole], &self.sets[part])
-    }
-
-    // The place of the union of two sets, which is that of one of them where this has all elements.
-    pub(crate) fn union(&mut self, first: usize, second: usize) -> Result<usize, AllocError>
-        requires first { first < length self.old.sets }
-        requires second { second < length self.old.sets }
-        ensures grows { OnOk result (Grows self.old self.new) }
-        ensures union { IfOk result (λ place. IsAt self.new place
-            (λ e. has_at self.old first e || has_at self.old second e)) }
-    {
-        if self.has_all(first, second) {
-            return Ok(first);
-        }
-        if self.has_all(second, first) {
-            return Ok(second);
-        }
-        let set = union(
-            self.alloc,
-            &mut self.flags,
-            &self.sets[first],
-            &self.sets[second],
-        )?;
-        let place = self.add(set)?;
-        Ok(place)
-    }
-
-    // The place of the intersection of two sets, which is that of one of them where the other has
-    // all its elements.
-    pub(crate) fn intersection(&mut self, first: usize, second: usize) -> Result<usize, AllocError>
-        requires first { first < length self.old.sets }
-        requires second { second < length self.old.sets }
-        ensures grows { OnOk result (Grows self.old self.new) }
-        ensures intersection { IfOk result (λ place. IsAt self.new place
-            (λ e. has_at self.old first e && has_at self.old second e)) }
-    {
-        if self.has_all(second, first) {
-            return Ok(first);
-        }
-        if self.has_all(first, second) {
-            return Ok(second);
-        }
-        let set = intersection(
-            self.alloc,
-            &mut self.flags,
-            &self.sets[first],
-            &self.sets[second],
-        )?;
-        let place = self.add(set)?;
+        let place = self.add(&[element])?;
         Ok(place)
     }
 }

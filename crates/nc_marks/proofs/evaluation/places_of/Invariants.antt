@@ -8,6 +8,7 @@ abbrev pub invariant-nodes : goal.invariant-nodes
 invariant-nodes g l = record {
   long : length l.places.items ≡ l.number;
   width : l.sets.width ≡ l.initial.sets.width;
+  gathered : l.gathered.width ≡ l.sets.width;
   empty : IsAt l.sets 0 (λ _. false);
   placed : (i : ℕ) → i < l.number → flag l.reached i ≡ true → IsAt l.sets (slice_index_or l.places.items i 0) (λ e. strong (node_flow l.graph) e i);
 }
