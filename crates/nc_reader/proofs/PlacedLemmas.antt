@@ -1,114 +1,84 @@
--- In each configuration that is read, each interface is an element of its own.
-use Rattle.std.proofs.Common.{◌≡◌, ℕ, zero, suc, ◌+◌, ◌<◌, ◌≤◌, ◌^◌, List, [], ◌∷◌, ◌++◌, length, Option, Some, None, Result, Ok, Err, refl, sym, ap, ◌∙◌, subst, arith}
-use Rattle.std.specs.Prelude.{slice_get, IfOk}
-use Rattle.std.specs.List.{list_any, filter_map, cons_option, slice_split, onto_first}
-use Rattle.std.specs.Option.{option_map_or}
-use Rattle.std.specs.Str.{bytes_eq}
-use Rattle.std.proofs.lemmas.Bool.{cond_both}
-use Rattle.std.proofs.lemmas.List.{length-map, length_push}
-use Rattle.nc_types.specs.Config.{ConfigView, config_view, IsPlaced}
+-- Where a file has no static route, its elements are its interfaces, in their order.
+use Rattle.std.proofs.Common.{◌≡◌, ℕ, ◌<◌, ◌≤◌, ◌^◌, List, [], length, map, Option, Some, None, Result, Ok, Err, refl, sym, ap, ◌∙◌, subst, arith}
+use Rattle.std.specs.Prelude.{slice_get, ◌≢◌}
+use Rattle.std.specs.Option.{option_map, option_map_or}
+use Rattle.std.proofs.lemmas.List.{append-nil, length-map}
+use Rattle.std.proofs.lemmas.Option.{slice_get-map}
+use Rattle.nc_types.specs.Config.{ElementView, ConfigView, IsPlaced}
+use Rattle.nc_types.specs.WellFormed.{first_line}
+use Rattle.nc_types.specs.Faults.{lowest}
+use Rattle.nc_types.specs.declared.fault.Fault.{Fault}
+use Rattle.nc_types.specs.declared.fault.Cause.TheVariants.{NoName}
+use Rattle.nc_types.specs.declared.config.Kind.TheVariants.{Interface as InterfaceKind}
 use Rattle.nc_types.specs.declared.config.Interface.{Interface}
-use Rattle.nc_types.specs.declared.config.RouterConfig.{RouterConfig}
-use Rattle.nc_reader.specs.declared.fault.Cause.TheVariants.{NoName, Unsupported as UnsupportedCause}
-use Rattle.nc_reader.specs.declared.fault.ConfigFault.{ConfigFault}
-use Rattle.nc_reader.specs.Lines.{is_feed, without_empty_last, without_return, lines_of}
-use Rattle.nc_reader.specs.Configuration.{Stated, Mention, Fault, stated, name_of, mention_at, mentions, with_name, names_from, interface_of, element_of, interfaces_from, unread_at, first_of, config_of, judged, configuration}
-use Rattle.nc_reader.specs.Outcome.{IsConfiguration}
+use Rattle.nc_read_link.specs.Interfaces.{InterfacePart}
+use Rattle.nc_reader.specs.Roles.{roles_from}
+use Rattle.nc_reader.specs.Configuration.{name_of, faults_of, pieces_of, in_order, place_of, first_in, with_place, route_with_place, config_of, configuration}
+use Rattle.nc_reader.proofs.Members.{Has, has_map, Pairs, pairs_map, pairs_weaker, mapped_at, none_mapped}
+use Rattle.nc_reader.proofs.Elements.{length_in_order, in_order_most, place_at, first_same}
+use Rattle.nc_reader.proofs.InterfaceParts.{parts_of, parts_lead, part_within}
+use Rattle.nc_reader.proofs.RouteParts.{route_parts}
 
--- ---- how many
+-- ---- what is no fault
 
-length-filter_map : {A B : Type 0} (f : A → Option B) (xs : List A) → length (filter_map f xs) ≤ length xs
-length-filter_map f [] = omega arith
-length-filter_map {A} {B} f (x ∷ xs) =
-    elim (f x) as (λ (o : Option B). length (cons_option o (filter_map f xs)) ≤ suc (length xs)) [
-      | None ↦ omega (arith, length-filter_map f xs)
-      | Some y ↦ omega (arith, length-filter_map f xs)
-    ]
+named_ok : (f : ℕ × List ℕ → ConfigView) (c : ConfigView) (missing : Fault) (o : Option (ℕ × List ℕ)) → option_map_or (λ name. Ok (f name)) o (Err missing) ≡ Ok c → (name : ℕ × List ℕ) × (f name ≡ c) × (o ≡ Some name)
+named_ok f c missing None e = absurd cc
+named_ok f c missing (Some name) e = (name, cc, refl)
 
-length-with_name : (names : List (List ℕ)) (name : List ℕ) → length (with_name names name) ≤ length names + 1
-length-with_name names name = cond_both (list_any (bytes_eq name) names) names (names ++ name ∷ []) (λ ns. length ns ≤ length names + 1) (λ _. omega arith) (λ _. omega (arith, length_push names name))
-
-length-names_from : (names : List (List ℕ)) (ms : List Mention) → length (names_from names ms) ≤ length names + length ms
-length-names_from names [] = omega arith
-length-names_from names (m ∷ ms) = omega (arith, length-names_from (with_name names m.name) ms, length-with_name names m.name)
-
-length-stated : (earlier lines : List (List ℕ)) → length (stated earlier lines) ≡ length lines
-unfolding stated
-length-stated earlier [] = refl
-length-stated earlier (line ∷ lines) = ap suc (length-stated (line ∷ earlier) lines)
-
-onto_first_more : (b : ℕ) (parts : List (List ℕ)) → length (without_empty_last (onto_first b parts)) ≤ length (without_empty_last parts) + 1
-onto_first_more b [] = omega arith
-onto_first_more b (q ∷ []) = omega arith
-onto_first_more b (q ∷ r ∷ parts) = omega arith
-
-empty_first : (parts : List (List ℕ)) → length (without_empty_last ([] ∷ parts)) ≤ length (without_empty_last parts) + 1
-empty_first [] = omega arith
-empty_first (q ∷ parts) = omega arith
-
-length-parts : (bytes : List ℕ) → length (without_empty_last (slice_split is_feed bytes)) ≤ length bytes
-length-parts [] = omega arith
-length-parts (b ∷ bytes) =
-    cond_both (is_feed b) ([] ∷ slice_split is_feed bytes) (onto_first b (slice_split is_feed bytes)) (λ parts. length (without_empty_last parts) ≤ suc (length bytes))
-    (λ _. omega (arith, empty_first (slice_split is_feed bytes), length-parts bytes))
-    (λ _. omega (arith, onto_first_more b (slice_split is_feed bytes), length-parts bytes))
-
-pub length-lines_of : (bytes : List ℕ) → length (lines_of bytes) ≤ length bytes
-unfolding lines_of
-length-lines_of bytes = omega (arith, length-map (without_empty_last (slice_split is_feed bytes)) without_return, length-parts bytes)
-
--- ---- where
-
-length-interfaces_from : (ms : List Mention) (place : ℕ) (names : List (List ℕ)) → length (interfaces_from ms place names) ≡ length names
-length-interfaces_from ms place [] = refl
-length-interfaces_from ms place (name ∷ names) = ap suc (length-interfaces_from ms (place + 1) names)
-
-place_of : (ms : List Mention) (from : ℕ) (names : List (List ℕ)) (place : ℕ) (i : Interface) → slice_get (interfaces_from ms from names) place ≡ Some i → i.element ≡ from + place
-place_of ms from [] place i e = absurd cc
-place_of ms from (name ∷ names) zero i e =
-    let same : interface_of ms from name ≡ i = cc in
-    sym (ap (λ (i : Interface). i.element) same) ∙ omega arith
-place_of ms from (name ∷ names) (suc place) i e = place_of ms (from + 1) names place i e ∙ omega arith
-
--- ---- together
-
-placed_config : (ss : List Stated) (count : ℕ) (name : ℕ × List ℕ) → length ss < 2 ^ 32 → IsPlaced (config_of ss count name)
-placed_config ss count name few =
-    let ms = mentions ss in
-    let names = names_from [] ms in
-    let same = length-interfaces_from ms 0 names in
-    record {
-      count = length-map names (element_of ms) ∙ sym same;
-      places = λ place i e. place_of ms 0 names place i e ∙ omega arith;
-      few = omega (arith, same, length-names_from [] ms, length-filter_map (λ s. mention_at s.line s.block s.says) ss);
-    }
-
-abbrev no_name : Fault
-no_name = record { line = 0; cause = NoName }
-
-abbrev unread : ℕ → Fault
-unread line = record { line = line; cause = UnsupportedCause }
-
-named_ok : (ss : List Stated) (count : ℕ) (c : ConfigView) (o : Option (ℕ × List ℕ)) → option_map_or (λ name. Ok (config_of ss count name)) o (Err no_name) ≡ Ok c → (name : ℕ × List ℕ) × (config_of ss count name ≡ c) × (o ≡ Some name)
-named_ok ss count c None e = absurd cc
-named_ok ss count c (Some name) e = (name, cc, refl)
-
-clean_ok : (o : Option ℕ) (rest : Result ConfigView Fault) (c : ConfigView) → option_map_or (λ line. Err (unread line)) o rest ≡ Ok c → rest ≡ Ok c
+clean_ok : (o : Option Fault) (rest : Result ConfigView Fault) (c : ConfigView) → option_map_or Err o rest ≡ Ok c → rest ≡ Ok c
 clean_ok None rest c e = e
-clean_ok (Some line) rest c e = absurd cc
+clean_ok (Some fault) rest c e = absurd cc
 
 -- what is no fault is the configuration of the name in force
-pub judged_ok : (ss : List Stated) (count : ℕ) (c : ConfigView) → judged ss count ≡ Ok c → (name : ℕ × List ℕ) × (config_of ss count name ≡ c) × (name_of ss ≡ Some name)
-judged_ok ss count c e = named_ok ss count c (name_of ss) (clean_ok (first_of (filter_map (λ s. unread_at s.line s.says) ss)) _ c e)
-
-pub placed_view : (bytes : List ℕ) (c : ConfigView) → length bytes < 2 ^ 32 → configuration bytes ≡ Ok c → IsPlaced c
+pub configured : (lines : List (List ℕ)) (c : ConfigView) → configuration lines ≡ Ok c
+    → (name : ℕ × List ℕ) × (config_of (length lines) name (parts_of lines) (route_parts lines) ≡ c) × (name_of (roles_from [] lines) ≡ Some name)
 unfolding configuration
-placed_view bytes c few e =
-    let ss = stated [] (lines_of bytes) in
-    let count = length (lines_of bytes) in
-    let found = judged_ok ss count c e in
-    subst IsPlaced found.1 (placed_config ss count found.0 (omega (arith, length-stated [] (lines_of bytes), length-lines_of bytes)))
+configured lines c e =
+    named_ok (λ name. config_of (length lines) name (parts_of lines) (route_parts lines)) c (record { line = 0; cause = NoName }) (name_of (roles_from [] lines))
+    (clean_ok (lowest (faults_of lines (roles_from [] lines))) _ c e)
 
-pub placed : (bytes : List ℕ) (r : Result RouterConfig ConfigFault) → length bytes < 2 ^ 32 → IsConfiguration r (configuration bytes) → IfOk r (λ c. IsPlaced (config_view c))
-placed bytes (Ok c) few read = placed_view bytes (config_view c) few read
-placed bytes (Err fault) few read = tt
+-- ---- places
+
+abbrev pub piece : InterfacePart → ElementView
+piece p = record { kind = InterfaceKind; lines = p.lines }
+
+placed_config : (count : ℕ) (name : ℕ × List ℕ) (ps : List InterfacePart) → Pairs (λ p q. first_in p.lines < first_in q.lines) ps
+    → ((p : InterfacePart) → Has ps p → (0 < first_in p.lines) × (first_in p.lines ≤ count)) → count < 2 ^ 32 → IsPlaced (config_of count name ps [])
+placed_config count name ps leads within few =
+    let pieces : List ElementView = pieces_of ps [] in
+    let alone : map piece ps ≡ pieces = sym (append-nil (map piece ps)) in
+    let up : Pairs (λ (e f : ElementView). first_line e < first_line f) (map piece ps) =
+    pairs_map piece (λ (p q : InterfacePart). first_in p.lines < first_in q.lines) (λ (e f : ElementView). first_line e < first_line f) ps
+    (λ p q hp hq less. let a = first_same (piece p) in let b = first_same (piece q) in omega (arith, less, a, b)) leads in
+    let ascend : Pairs (λ (e f : ElementView). first_line e < first_line f) pieces = subst (Pairs (λ (e f : ElementView). first_line e < first_line f)) alone up in
+    let differ : Pairs (λ (e f : ElementView). first_line e ≢ first_line f) pieces =
+    pairs_weaker (λ (e f : ElementView). first_line e < first_line f) (λ (e f : ElementView). first_line e ≢ first_line f) pieces (λ e f he hf less same. omega (arith, less, same)) ascend in
+    let inside : (e : ElementView) → Has pieces e → (0 < first_line e) × (first_line e ≤ count) =
+    (λ e h.
+    let at = has_map piece ps e (subst (λ (es : List ElementView). Has es e) (sym alone) h) in
+    let is : first_in at.0.lines ≡ first_line e = sym (first_same (piece at.0)) ∙ ap first_line at.2 in
+    let in_file = within at.0 at.1 in
+    (omega (arith, in_file.0, is), omega (arith, in_file.1, is))) in
+    let all : length (in_order count pieces) ≡ length pieces = length_in_order count pieces differ inside in
+    let many : length pieces ≡ length ps = sym (ap length alone) ∙ length-map ps piece in
+    let own : InterfacePart → Interface = λ p. with_place (place_of pieces (first_in p.lines)) p.interface in
+    let kept : length (map own ps) ≡ length ps = length-map ps own in
+    record {
+      count = all ∙ many ∙ sym kept;
+      places = λ place i at.
+          let p = mapped_at own ps place i at in
+          let there : slice_get pieces place ≡ Some (piece p.0) =
+          ap (λ (es : List ElementView). slice_get es place) (sym alone) ∙ slice_get-map piece ps place ∙ ap (option_map piece) p.1 in
+          sym (ap (λ (i : Interface). i.element) p.2) ∙ ap (place_of pieces) (sym (first_same (piece p.0))) ∙ place_at pieces place (piece p.0) ascend there;
+      few = omega (arith, few, in_order_most count pieces, all, many, kept);
+    }
+
+pub placed : (lines : List (List ℕ)) (c : ConfigView) → length lines < 2 ^ 32 → configuration lines ≡ Ok c → c.statics ≡ [] → IsPlaced c
+placed lines c few e none =
+    let found = configured lines c e in
+    let count = length lines in
+    let pieces : List ElementView = pieces_of (parts_of lines) (route_parts lines) in
+    let empty : route_parts lines ≡ [] =
+    none_mapped (λ p. route_with_place (place_of pieces (first_in p.lines)) p.route) (route_parts lines) (ap (λ (c : ConfigView). c.statics) found.1 ∙ none) in
+    let same : config_of count found.0 (parts_of lines) [] ≡ c = ap (config_of count found.0 (parts_of lines)) (sym empty) ∙ found.1 in
+    subst IsPlaced same (placed_config count found.0 (parts_of lines) (parts_lead lines) (part_within lines) few)

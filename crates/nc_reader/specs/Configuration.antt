@@ -1,152 +1,174 @@
--- The configuration that a file's lines make: each field from the statements that speak of it, the last of which decides.
-use Rattle.std.specs.Prelude.{ℕ, ◌+◌, Bool, false, List, [], ◌∷◌, ◌++◌, length, map, filter, Option, Some, None, Result, Ok, Err, unwrap_or, if◌then◌else◌}
-use Rattle.std.specs.List.{filter_map, list_any}
-use Rattle.std.specs.Option.{option_map, option_map_or}
+-- The configuration that a file's lines make.
+use Rattle.std.specs.Prelude.{ℕ, Bool, ◌&&◌, ◌==◌, nat_lt, List, [], ◌∷◌, ◌++◌, length, map, Option, Some, None, Result, Ok, Err, count_by}
+use Rattle.std.specs.List.{filter_map, find, last_or, range_with_len}
+use Rattle.std.specs.Option.{option_map, option_map_or, option_eq}
 use Rattle.std.specs.Str.{bytes_eq}
+use Rattle.nc_types.specs.Cidr.{Cidr}
 use Rattle.nc_types.specs.Config.{ElementView, ConfigView}
-use Rattle.nc_types.specs.declared.config.Kind.TheVariants.{Interface as InterfaceKind}
-use Rattle.nc_types.specs.declared.config.IfaceAddr.{IfaceAddr}
+use Rattle.nc_types.specs.WellFormed.{first_line}
+use Rattle.nc_types.specs.Faults.{lowest}
+use Rattle.nc_types.specs.declared.fault.Fault.{Fault}
+use Rattle.nc_types.specs.declared.config.Kind.TheVariants.{Interface as InterfaceKind, Static as StaticKind}
 use Rattle.nc_types.specs.declared.config.Interface.{Interface}
-use Rattle.nc_reader.specs.declared.fault.Cause.{Cause}
-use Rattle.nc_reader.specs.declared.fault.Cause.TheVariants.{NoName, Unsupported as UnsupportedCause}
-use Rattle.nc_reader.specs.Lines.{lines_of}
-use Rattle.nc_reader.specs.Statements.{Setting, Address, NoAddress, Shut, Says, Unsupported, Names, Opens, Sets, block_of, line_says}
-
--- a line with its number, from 1, the interface in whose block it would stand, and what it says
-pub record Stated : Type 0 where
-  pub line : ℕ
-  pub block : Option (List ℕ)
-  pub says : Says
-
--- a statement of an interface: its line, the interface's name, and what it sets, if it isn't the header
-pub record Mention : Type 0 where
-  pub line : ℕ
-  pub name : List ℕ
-  pub sets : Option Setting
-
--- what is wrong with a file: the line, or 0, and the cause
-pub record Fault : Type 0 where
-  pub line : ℕ
-  pub cause : Cause
-
--- what each line says; the lines before the first are given, the nearest first
-unfoldable pub stated : List (List ℕ) → List (List ℕ) → List Stated
-stated earlier [] = []
-stated earlier (line ∷ lines) =
-    record { line = length earlier + 1; block = block_of earlier; says = line_says earlier line } ∷ stated (line ∷ earlier) lines
-
--- the last of a list
-abbrev pub last_of : {A : Type 0} → List A → Option A
-last_of [] = None
-last_of (x ∷ []) = Some x
-last_of (x ∷ y ∷ ys) = last_of (y ∷ ys)
+use Rattle.nc_types.specs.declared.config.Via.{Via}
+use Rattle.nc_types.specs.declared.config.Via.TheVariants.{Null, Hop, Through}
+use Rattle.nc_types.specs.declared.config.StaticRoute.{StaticRoute}
+use Rattle.nc_types.specs.declared.fault.Cause.TheVariants.{NoName}
+use Rattle.nc_lines.specs.Lines.{line_at}
+use Rattle.nc_read_link.specs.Interfaces.{InterfacePart, interface_in, numbered}
+use Rattle.nc_read_link.specs.Statics.{static_at}
+use Rattle.nc_reader.specs.Groups.{Keyed, Group, groups}
+use Rattle.nc_reader.specs.Roles.{Role, Wrong, Names, Within, Routes, Placed, roles_from}
 
 -- ---- the router's name
 
--- a line that names the router, and the name
-abbrev pub named_at : ℕ → Says → Option (ℕ × List ℕ)
-named_at line (Names name) = Some (line, name)
-named_at line says = None
+abbrev pub name_at : ℕ → Role → Option (ℕ × List ℕ)
+name_at line (Names name) = Some (line, name)
+name_at line role = None
 
--- the name in force, with its line
-abbrev pub name_of : List Stated → Option (ℕ × List ℕ)
-name_of ss = last_of (filter_map (λ s. named_at s.line s.says) ss)
+-- the name in force, with its line: that of the last line that gives one
+abbrev pub name_of : List Placed → Option (ℕ × List ℕ)
+name_of rs = last_or None (filter_map (λ r. name_at r.line r.role) rs)
 
 -- ---- interfaces
 
--- what a line says of an interface: its header names one, and a setting is of the block's
-abbrev pub mention_at : ℕ → Option (List ℕ) → Says → Option Mention
-mention_at line block (Opens name) = Some (record { line = line; name = name; sets = None })
-mention_at line (Some name) (Sets setting) = Some (record { line = line; name = name; sets = Some setting })
-mention_at line block says = None
+abbrev pub within_at : ℕ → Role → Option (Keyed (List ℕ) ℕ)
+within_at line (Within name) = Some (record { key = name; value = line })
+within_at line role = None
 
-abbrev pub mentions : List Stated → List Mention
-mentions ss = filter_map (λ s. mention_at s.line s.block s.says) ss
+-- the lines of the blocks of each interface, by its name
+abbrev pub blocks_of : List Placed → List (Group (List ℕ) ℕ)
+blocks_of rs = groups bytes_eq (filter_map (λ r. within_at r.line r.role) rs)
 
--- a name that isn't among those before it goes to their end
-abbrev pub with_name : List (List ℕ) → List ℕ → List (List ℕ)
-with_name names name = if list_any (bytes_eq name) names then names else names ++ name ∷ []
+-- what the blocks of each interface make
+abbrev pub interfaces_of : List (List ℕ) → List Placed → List (Result InterfacePart Fault)
+interfaces_of lines rs = map (λ g. interface_in (numbered lines g.values)) (blocks_of rs)
 
--- the names in order of first mention
-abbrev pub names_from : List (List ℕ) → List Mention → List (List ℕ)
-names_from names [] = names
-names_from names (m ∷ ms) = names_from (with_name names m.name) ms
+-- ---- static routes
 
--- the statements of one interface
-abbrev pub of_name : List ℕ → List Mention → List Mention
-of_name name ms = filter (λ m. bytes_eq name m.name) ms
+-- a static route with the line of its statement
+pub record Routed : Type 0 where
+  pub line : ℕ
+  pub route : StaticRoute
 
--- what a statement says of the address: its line and the address, or that there is none
-abbrev pub address_at : ℕ → Option Setting → Option (Option (ℕ × IfaceAddr))
-address_at line (Some (Address a)) = Some (Some (line, a))
-address_at line (Some NoAddress) = Some None
-address_at line sets = None
+-- a static route with the lines of all its statements
+pub record RoutePart : Type 0 where
+  pub route : StaticRoute
+  pub lines : List ℕ
 
--- whether a statement shuts the interface or opens it
-abbrev pub shut_at : Option Setting → Option Bool
-shut_at (Some (Shut b)) = Some b
-shut_at sets = None
+abbrev pub route_at : ℕ → Role → Option ℕ
+route_at line Routes = Some line
+route_at line role = None
 
--- the address in force, with its line
-abbrev pub address_in : List Mention → Option (ℕ × IfaceAddr)
-address_in ms = unwrap_or (last_of (filter_map (λ m. address_at m.line m.sets) ms)) None
+-- the lines of static routes
+abbrev pub route_lines : List Placed → List ℕ
+route_lines rs = filter_map (λ r. route_at r.line r.role) rs
 
--- whether the interface is shut in the end
-abbrev pub shut_in : List Mention → Bool
-shut_in ms = unwrap_or (last_of (filter_map (λ m. shut_at m.sets) ms)) false
+abbrev pub routed : ℕ → Result StaticRoute Fault → Result Routed Fault
+routed line (Ok route) = Ok (record { line = line; route = route })
+routed line (Err fault) = Err fault
 
--- the interface of this name, which is the element at this place
-abbrev pub interface_of : List Mention → ℕ → List ℕ → Interface
-interface_of ms place name =
-    let own = of_name name ms in
-    record {
-      name = name;
-      address = option_map (λ p. p.1) (address_in own);
-      address_line = option_map_or (λ p. p.0) (address_in own) 0;
-      shut = shut_in own;
-      element = place;
-    }
+-- what each of these lines makes
+abbrev pub routes_of : List (List ℕ) → List Placed → List (Result Routed Fault)
+routes_of lines rs = map (λ line. routed line (static_at line (line_at line lines))) (route_lines rs)
 
--- the element of an interface has the lines of its statements
-abbrev pub element_of : List Mention → List ℕ → ElementView
-element_of ms name = record { kind = InterfaceKind; lines = map (λ m. m.line) (of_name name ms) }
+-- by what a static route is told from others: its prefix, its interface and its next hop
+pub record RouteKeyView : Type 0 where
+  pub prefix : Cidr
+  pub interface : Option (List ℕ)
+  pub hop : Option ℕ
 
--- the interfaces of these names, which are the elements from this place on
-abbrev pub interfaces_from : List Mention → ℕ → List (List ℕ) → List Interface
-interfaces_from ms place [] = []
-interfaces_from ms place (name ∷ names) = interface_of ms place name ∷ interfaces_from ms (place + 1) names
+abbrev pub interface_by : Via → Option (List ℕ)
+interface_by (Through reference hop) = Some reference.name
+interface_by via = None
+
+abbrev pub hop_by : Via → Option ℕ
+hop_by Null = None
+hop_by (Hop hop) = Some hop.0
+hop_by (Through reference hop) = Some hop.0
+
+abbrev pub key_of : StaticRoute → RouteKeyView
+key_of r = record { prefix = r.prefix; interface = interface_by r.via; hop = hop_by r.via }
+
+abbrev pub same_key : RouteKeyView → RouteKeyView → Bool
+same_key a b =
+    ((a.prefix.base == b.prefix.base) && (a.prefix.len == b.prefix.len))
+    && (option_eq bytes_eq a.interface b.interface && option_eq (λ x y. x == y) a.hop b.hop)
+
+-- the last of some statements of one route decides, and the route has the lines of all
+abbrev pub route_part : List Routed → Option RoutePart
+route_part rs = option_map (λ last. record { route = last.route; lines = map (λ r. r.line) rs }) (last_or None rs)
+
+-- the routes in order of first mention
+abbrev pub statics_of : List Routed → List RoutePart
+statics_of rs = filter_map (λ g. route_part g.values) (groups same_key (map (λ r. record { key = key_of r.route; value = r }) rs))
 
 -- ---- the whole file
 
--- a line that isn't read
-abbrev pub unread_at : ℕ → Says → Option ℕ
-unread_at line Unsupported = Some line
-unread_at line says = None
+abbrev pub wrong_at : ℕ → Role → Option Fault
+wrong_at line (Wrong cause) = Some (record { line = line; cause = cause })
+wrong_at line role = None
 
--- the first line of a list
-abbrev pub first_of : List ℕ → Option ℕ
-first_of [] = None
-first_of (line ∷ lines) = Some line
+abbrev pub ok_of : {A : Type 0} → Result A Fault → Option A
+ok_of (Ok x) = Some x
+ok_of (Err fault) = None
 
--- the configuration of a router of this name
-abbrev pub config_of : List Stated → ℕ → ℕ × List ℕ → ConfigView
-config_of ss count name =
-    let ms = mentions ss in
-    let names = names_from [] ms in
+abbrev pub err_of : {A : Type 0} → Result A Fault → Option Fault
+err_of (Ok x) = None
+err_of (Err fault) = Some fault
+
+-- all that is wrong: with lines by themselves, with interfaces, and with static routes
+abbrev pub faults_of : List (List ℕ) → List Placed → List Fault
+faults_of lines rs =
+    filter_map (λ r. wrong_at r.line r.role) rs ++ (filter_map err_of (interfaces_of lines rs) ++ filter_map err_of (routes_of lines rs))
+
+-- the elements in no order: those of the interfaces and those of the routes
+abbrev pub pieces_of : List InterfacePart → List RoutePart → List ElementView
+pieces_of interfaces statics =
+    map (λ p. record { kind = InterfaceKind; lines = p.lines }) interfaces ++ map (λ p. record { kind = StaticKind; lines = p.lines }) statics
+
+-- the elements line by line: at each line the one that begins there
+abbrev pub in_order : ℕ → List ElementView → List ElementView
+in_order count pieces = filter_map (λ line. find (λ e. first_line e == line) pieces) (range_with_len 1 count)
+
+-- the place of the element that begins at a line: how many begin above it
+abbrev pub place_of : List ElementView → ℕ → ℕ
+place_of pieces line = count_by (λ e. nat_lt (first_line e) line) pieces
+
+-- the first of some lines
+abbrev pub first_in : List ℕ → ℕ
+first_in [] = 0
+first_in (line ∷ lines) = line
+
+abbrev pub with_place : ℕ → Interface → Interface
+with_place place i = record { name = i.name; address = i.address; address_line = i.address_line; shut = i.shut; element = place }
+
+abbrev pub route_with_place : ℕ → StaticRoute → StaticRoute
+route_with_place place r = record { prefix = r.prefix; via = r.via; distance = r.distance; element = place }
+
+-- the configuration of a router of this name, of its interfaces and routes
+abbrev pub config_of : ℕ → ℕ × List ℕ → List InterfacePart → List RoutePart → ConfigView
+config_of count name interfaces statics =
+    let pieces = pieces_of interfaces statics in
     record {
       name = name.1;
       name_line = name.0;
       line_count = count;
-      elements = map (element_of ms) names;
-      interfaces = interfaces_from ms 0 names;
+      elements = in_order count pieces;
+      interfaces = map (λ p. with_place (place_of pieces (first_in p.lines)) p.interface) interfaces;
+      statics = map (λ p. route_with_place (place_of pieces (first_in p.lines)) p.route) statics;
+      process = None;
+      clauses = [];
+      lists = [];
     }
 
--- the configuration, or its fault: the lowest line that isn't read, or the missing name
-abbrev pub judged : List Stated → ℕ → Result ConfigView Fault
-judged ss count =
-    option_map_or (λ line. Err (record { line = line; cause = UnsupportedCause })) (first_of (filter_map (λ s. unread_at s.line s.says) ss))
-    (option_map_or (λ name. Ok (config_of ss count name)) (name_of ss) (Err (record { line = 0; cause = NoName })))
+-- the configuration, or its fault: that of the lowest faulty line, or the missing name
+abbrev pub judged : List (List ℕ) → List Placed → Result ConfigView Fault
+judged lines rs =
+    option_map_or Err (lowest (faults_of lines rs))
+    (option_map_or (λ name. Ok (config_of (length lines) name (filter_map ok_of (interfaces_of lines rs)) (statics_of (filter_map ok_of (routes_of lines rs)))))
+    (name_of rs) (Err (record { line = 0; cause = NoName })))
 
--- what a file's bytes configure
-unfoldable pub configuration : List ℕ → Result ConfigView Fault
-configuration bytes = judged (stated [] (lines_of bytes)) (length (lines_of bytes))
+-- what a file's lines configure
+unfoldable pub configuration : List (List ℕ) → Result ConfigView Fault
+configuration lines = judged lines (roles_from [] lines)

@@ -1,9 +1,9 @@
-pub mod Lines
-pub mod Numbers
-pub mod Statements
+pub mod Groups
+pub mod Roles
 pub mod Configuration
 pub mod Outcome
+pub mod Steps
+pub mod Gathering
 pub mod Readings
-pub mod Drafting
-pub mod Drafts
-pub mod WellFormed
+pub mod Parts
+pub mod Whole

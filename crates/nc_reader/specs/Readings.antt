@@ -1,20 +1,28 @@
--- What a line says, as the code hands it on.
-use Rattle.nc_reader.specs.declared.statement.Setting.{Setting as SettingRead}
-use Rattle.nc_reader.specs.declared.statement.Setting.TheVariants as settings
-use Rattle.nc_reader.specs.declared.statement.Reading.{Reading}
-use Rattle.nc_reader.specs.declared.statement.Reading.TheVariants as readings
-use Rattle.nc_reader.specs.Statements.{Setting, Address, NoAddress, Shut, Says, Nothing, Unsupported, Names, Opens, Sets}
+-- What a line is, and the lines of blocks, as the code hands them on.
+use Rattle.std.specs.Prelude.{ℕ, List, map}
+use Rattle.nc_lines.specs.declared.block.Block.{Block}
+use Rattle.nc_reader.specs.declared.header.Header.{Header}
+use Rattle.nc_reader.specs.declared.header.Header.TheVariants as headers
+use Rattle.nc_reader.specs.declared.role.Role.{Role as RoleRead}
+use Rattle.nc_reader.specs.declared.role.Role.TheVariants as roles
+use Rattle.nc_reader.specs.Roles.{Role, Passed, Wrong, Names, Within, Routes}
+use Rattle.nc_reader.specs.Steps.{Kind, Banner, Idle, Member, Heads}
 
--- a setting that was read
-abbrev pub setting_of : SettingRead → Setting
-setting_of (settings.Address a) = Address a
-setting_of settings.NoAddress = NoAddress
-setting_of (settings.Shut b) = Shut b
+-- an unindented statement as it was read
+abbrev pub role_of_header : Header → Role
+role_of_header headers.Passed = Passed
+role_of_header (headers.Wrong cause) = Wrong cause
+role_of_header (headers.Names name) = Names name.now
+role_of_header (headers.Opens name) = Within name.now
+role_of_header headers.Routes = Routes
 
--- what a line says by its reading
-abbrev pub says_of : Reading → Says
-says_of readings.Nothing = Nothing
-says_of readings.Unsupported = Unsupported
-says_of (readings.Names name) = Names name.now
-says_of (readings.Opens name) = Opens name.now
-says_of (readings.Sets setting) = Sets (setting_of setting)
+-- a line as it was read
+abbrev pub kind_of_role : RoleRead → Kind
+kind_of_role (roles.Banner in_banner cause) = Banner in_banner cause
+kind_of_role roles.Idle = Idle
+kind_of_role roles.Member = Member
+kind_of_role (roles.Heads header) = Heads (role_of_header header)
+
+-- the lines of each of these blocks
+abbrev pub lines_in : List Block → List (List ℕ)
+lines_in blocks = map (λ block. block.lines.items) blocks

@@ -1,30 +1,74 @@
-ghost use Rattle.std.specs.Prelude.{◌<◌, ◌^◌, length, IfOk};
+//! The configuration of a file, from its parts.
+
+ghost use Rattle.std.specs.Prelude.{◌≡◌, [], IfOk};
 ghost use Rattle.nc_types.specs.Config.{IsPlaced, config_view};
+ghost use Rattle.nc_types.specs.WellFormed.{IsWellFormed};
 ghost use Rattle.nc_reader.specs.Configuration.{configuration};
 ghost use Rattle.nc_reader.specs.Outcome.{IsConfiguration};
+ghost use Rattle.nc_reader.specs.Whole.{AreParts};
 
-use crate::draft::Draft;
-use crate::fault::ConfigFault;
-use crate::lines::cut_line;
-use nc_types::RouterConfig;
+use crate::laws::{configurations_are_well_formed, interfaces_alone_are_placed};
+use crate::order::arrange;
+use crate::parts::{Parts, read_parts};
+use nc_lines::Lines;
+use nc_types::{Cause, ConfigFault, RouterConfig};
 use std::alloc::Global;
 
-/// The configuration of a router, from the bytes of its file.
+// Puts the parts of a file in order, where nothing is wrong with them.
+fn finish(alloc: Global, lines: &Lines, parts: Parts) -> Result<RouterConfig, ConfigFault>
+    requires { AreParts lines.now parts }
+    ensures read { IsConfiguration result (configuration lines.now) }
+    ensures well_formed { IfOk result (λ c. IsWellFormed (config_view c)) }
+    ensures placed { IfOk result (λ c. c.statics.items ≡ [] → IsPlaced (config_view c)) }
+{
+    configurations_are_well_formed();
+    interfaces_alone_are_placed();
+    let Parts {
+        name,
+        interfaces,
+        routes,
+        fault,
+    } = parts;
+    if let Some(fault) = fault {
+        return Err(ConfigFault::Bad {
+            line: fault.line,
+            cause: fault.cause,
+        });
+    }
+    let Some((name_line, name)) = name else {
+        return Err(ConfigFault::Bad {
+            line: 0,
+            cause: Cause::NoName,
+        });
+    };
+    let count = lines.count();
+    let arranged = arrange(alloc, count, interfaces, routes)?;
+    Ok(RouterConfig {
+        name,
+        name_line,
+        line_count: count,
+        elements: arranged.elements,
+        interfaces: arranged.interfaces,
+        statics: arranged.statics,
+        process: None,
+        clauses: Vec::new(alloc),
+        lists: Vec::new(alloc),
+    })
+}
+
+/// The configuration of a router, from the lines of its file. It is well formed; where it has no static route,
+/// its elements are its interfaces, in their order.
 ///
 /// # Errors
 ///
-/// The lowest line that isn't read, or line 0 where no line names the router; memory that runs out on the
-/// way to it.
-pub fn read_config(alloc: Global, bytes: &[u8]) -> Result<RouterConfig, ConfigFault>
-    requires { length bytes.now < 2 ^ 32 }
-    ensures read { IsConfiguration result (configuration bytes.now) }
-    ensures placed { IfOk result (λ c. IsPlaced (config_view c)) }
+/// The lowest faulty line with its cause, or line 0 where no line is faulty and none names the router; memory
+/// that runs out on the way to it.
+pub fn read_config(alloc: Global, lines: &Lines) -> Result<RouterConfig, ConfigFault>
+    ensures read { IsConfiguration result (configuration lines.now) }
+    ensures well_formed { IfOk result (λ c. IsWellFormed (config_view c)) }
+    ensures placed { IfOk result (λ c. c.statics.items ≡ [] → IsPlaced (config_view c)) }
 {
-    let mut draft = Draft::new(alloc);
-    let mut rest = bytes;
-    'lines: while let Some((line, behind)) = cut_line(rest) {
-        draft.take(alloc, line)?;
-        rest = behind;
-    }
-    draft.finish()
+    let parts = read_parts(alloc, lines)?;
+    let config = finish(alloc, lines, parts)?;
+    Ok(config)
 }

@@ -1,13 +1,16 @@
 //! What follows from the definitions alone.
 
-ghost use Rattle.std.specs.Prelude.{◌≡◌, ℕ, List, Ok};
-ghost use Rattle.nc_types.specs.Config.{ConfigView};
+ghost use Rattle.std.specs.Prelude.{◌≡◌, ◌<◌, ◌^◌, ℕ, List, [], Ok, length};
+ghost use Rattle.nc_types.specs.Config.{ConfigView, IsPlaced};
+ghost use Rattle.nc_types.specs.WellFormed.{IsWellFormed};
 ghost use Rattle.nc_reader.specs.Configuration.{configuration};
-ghost use Rattle.nc_reader.specs.WellFormed.{IsWellFormed};
 
-/// The law that every configuration which a file's bytes make is well formed: what its name is made of, that
-/// each element has lines of the file in ascending order, that no line stands in two elements, and that no
-/// two interfaces have one name.
+/// The law that every configuration which a file's lines make is well formed.
 pub fn configurations_are_well_formed()
-    ensures { (bytes : List ℕ) (c : ConfigView) → configuration bytes ≡ Ok c → IsWellFormed c }
+    ensures { (lines : List (List ℕ)) (c : ConfigView) → configuration lines ≡ Ok c → IsWellFormed c }
+{}
+
+/// The law that where a file has no static route, its elements are its interfaces, in their order.
+pub fn interfaces_alone_are_placed()
+    ensures { (lines : List (List ℕ)) (c : ConfigView) → length lines < 2 ^ 32 → configuration lines ≡ Ok c → c.statics ≡ [] → IsPlaced c }
 {}

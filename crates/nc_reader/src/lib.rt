@@ -1,22 +1,26 @@
-//! From the bytes of a configuration file to the configuration of its router.
+//! From the lines of a configuration file to the configuration of its router.
 //!
-//! A file is cut into lines, each line is read by its words and the block in which it stands, and the
-//! statements that speak of one thing make that thing. The crate stands on `nc_types`, whose
-//! `RouterConfig` it makes. Its contract promises that [`read_config`] gives the configuration of the
-//! whole list of lines, or its one fault: that of the lowest faulty line. That every such configuration is
-//! well formed is a law in [`laws`].
+//! Each line is an unindented statement, a line of a block, or nothing that is read; the lines that speak of
+//! one thing are gathered and read together, and the things become elements in order of their first lines.
+//! The crate stands on `nc_lines` for lines and banners, on `nc_read_link` for the statements of interfaces and
+//! static routes, and on `indexmap` for keys in order of first mention. Its contract promises that
+//! [`read_config`] gives the configuration of the whole list of lines, or its one fault: that of the lowest
+//! faulty line. That every such configuration is well formed is a law in [`laws`].
 #![tactic(auto)]
 
 mod config;
-mod draft;
-mod fault;
+mod faults;
+mod gather;
+mod groups;
+mod header;
+mod interfaces;
 pub mod laws;
-pub mod lines;
-pub mod numbers;
-mod statement;
+mod order;
+mod parts;
+mod role;
+mod routes;
 
 pub use config::read_config;
-pub use fault::{Cause, ConfigFault};
 
 #[cfg(test)]
 mod tests;

@@ -6,7 +6,7 @@ use Rattle.std.specs.Io.KnownBytes.{Appends, Consumes}
 use Rattle.std.proofs.KnownBytes.{Appends-trans, Consumes-whole}
 use Rattle.nc_types.specs.Config.{ConfigView}
 use Rattle.nc_outside.specs.Counts.{Rose}
-use Rattle.nc_reader.specs.Lines.{lines_of}
+use Rattle.nc_lines.specs.Lines.{lines_of}
 use Rattle.nc_session.specs.declared.TheConstants.{SESSION_LIMIT}
 use Rattle.nc_session.specs.declared.engine.Engine.{Engine}
 use Rattle.nc_session.specs.declared.status.Status.{Status}
@@ -63,13 +63,16 @@ longer_serves c session more replies long are =
 -- a session past the limit was read up to one byte past it
 limit_serves : (c : ConfigView) (rest left old new : Option (List ℕ)) (session : List ℕ) → Consumes rest left session → SESSION_LIMIT < length session
     → Answered c (whole_lines_of (take SESSION_LIMIT session)) long_session_text old new
-    → IfSome rest (λ (bytes : List ℕ). Writes old new (λ out. Serves c bytes (nat_le (length bytes) SESSION_LIMIT) Limit out))
+    → IfSome rest (λ (bytes : List ℕ). (SESSION_LIMIT < length bytes) × Writes old new (λ out. Serves c bytes (nat_le (length bytes) SESSION_LIMIT) Limit out))
 limit_serves c None left old new session taken long a = tt
 limit_serves c (Some bytes) None old new session taken long a = absurd taken
 limit_serves c (Some bytes) (Some more) old new session taken long a =
-    subst (λ (l : List ℕ). Writes old new (λ out. Serves c l (nat_le (length l) SESSION_LIMIT) Limit out)) (sym taken)
-    (writes old new (a.replies ++ long_session_text) (λ out. Serves c (session ++ more) (nat_le (length (session ++ more)) SESSION_LIMIT) Limit out) a.written
-    (longer_serves c session more a.replies long a.are))
+    let longer : SESSION_LIMIT < length (session ++ more) = subst (λ (n : ℕ). SESSION_LIMIT < n) (sym (length-append session more)) (omega (arith, long)) in
+    subst (λ (l : List ℕ). (SESSION_LIMIT < length l) × Writes old new (λ out. Serves c l (nat_le (length l) SESSION_LIMIT) Limit out)) (sym taken) (
+      longer,
+      writes old new (a.replies ++ long_session_text) (λ out. Serves c (session ++ more) (nat_le (length (session ++ more)) SESSION_LIMIT) Limit out) a.written
+          (longer_serves c session more a.replies long a.are),
+    )
 
 -- the answers to what was read are those to what the source gives
 pub serves_to : (c : ConfigView) (rest left old new : Option (List ℕ)) (asked_before asked_now before now : ℕ) (session : List ℕ) (result : Status)

@@ -1,19 +1,24 @@
 -- The definitions allow one output and one status for the same words, files and session.
-use Rattle.std.proofs.Common.{◌≡◌, ℕ, ◌+◌, ◌≤◌, Bool, true, false, cond, nat_le, List, [], ◌∷◌, ◌++◌, length, map, take, Option, None, Some, Result, Ok, Err, refl, sym, ap, ◌∙◌, subst, arith}
+use Rattle.std.proofs.Common.{◌≡◌, ℕ, ◌+◌, ◌<◌, ◌≤◌, ◌^◌, Bool, true, false, cond, nat_le, List, [], ◌∷◌, ◌++◌, length, map, take, Option, None, Some, Result, Ok, Err, refl, sym, ap, ◌∙◌, subst, arith}
 use Rattle.std.specs.Ordering.{ordering_then, nat_cmp}
 use Rattle.std.specs.declared.cmp.Ordering.{Ordering}
 use Rattle.std.specs.declared.cmp.Ordering.TheVariants.{Less, Equal, Greater}
 use Rattle.std.specs.FinMap.{nat_cmp-IsAntisymmetric}
 use Rattle.std.proofs.lemmas.Bool.{leb-true}
 use Rattle.std.proofs.lemmas.List.Sorted.{sum_by-IsPermutation}
+use Rattle.std.specs.Prelude.{slice_get}
+use Rattle.std.specs.Option.{option_map, option_map_or}
 use Rattle.nc_types.specs.Config.{ConfigView, IsPlaced}
+use Rattle.nc_types.specs.WellFormed.{first_line}
+use Rattle.nc_types.specs.declared.config.StaticRoute.{StaticRoute}
+use Rattle.nc_types.specs.declared.fault.Cause.TheVariants.{Unsupported}
 use Rattle.nc_outside.specs.Named.{Named, content_of}
 use Rattle.nc_graph.specs.Flow.{Flow}
 use Rattle.nc_graph.proofs.ClosureLaws.{IsClosure-length}
-use Rattle.nc_reader.specs.Configuration.{Fault, configuration}
-use Rattle.nc_reader.specs.Lines.{lines_of}
-use Rattle.nc_reader.proofs.PlacedLemmas.{placed_view}
-use Rattle.nc_session.specs.declared.TheConstants.{FILE_LIMIT, SESSION_LIMIT}
+use Rattle.nc_types.specs.declared.fault.Fault.{Fault}
+use Rattle.nc_reader.specs.Configuration.{configuration}
+use Rattle.nc_lines.specs.Lines.{lines_of}
+use Rattle.nc_session.specs.declared.TheConstants.{FILE_LIMIT, LINE_LIMIT, SESSION_LIMIT}
 use Rattle.nc_session.specs.declared.table.BaseRow.{BaseRow}
 use Rattle.nc_session.specs.declared.fact.Fact.{Fact}
 use Rattle.nc_session.specs.declared.mark.Mark.{Mark}
@@ -22,7 +27,7 @@ use Rattle.nc_session.specs.declared.status.Status.{Status}
 use Rattle.nc_session.specs.Facts.{row_cmp, prefix_cmp, IsBaseTable, connected_from, flow_of}
 use Rattle.nc_session.specs.Marks.{owner_from, IsMark, AreMarksFrom}
 use Rattle.nc_session.specs.Session.{Command, Pass, Unread, Rib, State, no_tests, tested_in, letter, accepted_of, report_of, IsReply, Tests, Named as IsNamed, Answers, Run}
-use Rattle.nc_session.specs.Output.{Loaded, WrongWords, Missing, LongFile, Faulty, Ready, Concludes, Serves, Output, load, load_named, load_content, load_result, file_of, AreReplies, whole_lines_of, long_session_text}
+use Rattle.nc_session.specs.Output.{Loaded, WrongWords, Missing, LongFile, ManyLines, Faulty, Ready, Concludes, Serves, Output, load, load_named, load_content, load_lines, load_result, load_config, first_of, file_of, AreReplies, whole_lines_of, long_session_text}
 use Rattle.nc_session.proofs.FlowLaws.{lawful}
 use Rattle.nc_session.proofs.Rows.{row_total}
 use Rattle.nc_session.proofs.SortedOnce.{sorted_once}
@@ -131,33 +136,52 @@ serves_once c session false m n r s placed p q =
     let replies = replies_once c (whole_lines_of (take SESSION_LIMIT session)) p.1 q.1 placed p.2 q.2 in
     (p.0 ∙ sym q.0, p.3 ∙ ap (λ (l : List ℕ). l ++ long_session_text) replies ∙ sym q.3)
 
--- what is loaded of a file within its limit is well placed
-ready_result : (content name : List ℕ) (c : ConfigView) (r : Result ConfigView Fault) → length content ≤ FILE_LIMIT → configuration content ≡ r → load_result name r ≡ Ready c → IsPlaced c
-ready_result content name c (Err fault) within is e = absurd cc
-ready_result content name c (Ok d) within is e = let same : d ≡ c = cc in subst IsPlaced same (placed_view content d (omega (arith, within)) is)
+-- a router that can be served has no static route
+ready_routes : (name : List ℕ) (c d : ConfigView) (routes : List StaticRoute) → d.statics ≡ routes → load_config name d ≡ Ready c → (d ≡ c) × (d.statics ≡ [])
+ready_routes name c d [] is e =
+    let ready : load_config name d ≡ Ready d = ap (λ (rs : List StaticRoute). option_map_or (λ line. Faulty name (record { line = line; cause = Unsupported })) (option_map (λ r. option_map_or first_line (slice_get d.elements r.element) 0) (first_of rs)) (Ready d)) is in
+    (let same : Ready d ≡ Ready c = sym ready ∙ e in cc, is)
+ready_routes name c d (r ∷ rs) is e =
+    let faulty = ap (λ (rs : List StaticRoute). option_map_or (λ line. Faulty name (record { line = line; cause = Unsupported })) (option_map (λ r. option_map_or first_line (slice_get d.elements r.element) 0) (first_of rs)) (Ready d)) is in
+    absurd (let clash = sym faulty ∙ e in cc)
 
-ready_length : (content name : List ℕ) (c : ConfigView) (b : Bool) → nat_le (length content) FILE_LIMIT ≡ b → cond b (load_result name (configuration content)) LongFile ≡ Ready c → IsPlaced c
-ready_length content name c true within e = ready_result content name c (configuration content) (leb-true (length content) FILE_LIMIT within) refl e
-ready_length content name c false within e = absurd cc
+-- where a file without static routes is well placed
+module _ (placed : (lines : List (List ℕ)) (c : ConfigView) → length lines < 2 ^ 32 → configuration lines ≡ Ok c → c.statics ≡ [] → IsPlaced c) where
+  -- what is loaded of a file within its limits is well placed
+  ready_result : (lines : List (List ℕ)) (name : List ℕ) (c : ConfigView) (r : Result ConfigView Fault) → length lines ≤ LINE_LIMIT → configuration lines ≡ r → load_result name r ≡ Ready c → IsPlaced c
+  ready_result lines name c (Err fault) within is e = absurd cc
+  ready_result lines name c (Ok d) within is e =
+      let own = ready_routes name c d d.statics refl e in
+      subst IsPlaced own.0 (placed lines d (omega (arith, within)) is own.1)
 
-ready_content : (name : List ℕ) (c : ConfigView) (content : Option (List ℕ)) → load_content name content ≡ Ready c → IsPlaced c
-ready_content name c None e = absurd cc
-ready_content name c (Some content) e = ready_length content name c (nat_le (length content) FILE_LIMIT) refl e
+  ready_count : (lines : List (List ℕ)) (name : List ℕ) (c : ConfigView) (b : Bool) → nat_le (length lines) LINE_LIMIT ≡ b → cond b (load_result name (configuration lines)) ManyLines ≡ Ready c → IsPlaced c
+  ready_count lines name c true within e = ready_result lines name c (configuration lines) (leb-true (length lines) LINE_LIMIT within) refl e
+  ready_count lines name c false within e = absurd cc
 
-ready_named : (c : ConfigView) (named : Option (List ℕ)) (files : List Named) → load_named named files ≡ Ready c → IsPlaced c
-ready_named c None files e = absurd cc
-ready_named c (Some name) files e = ready_content name c (content_of files name) e
+  ready_length : (content name : List ℕ) (c : ConfigView) (b : Bool) → cond b (load_lines name (lines_of content)) LongFile ≡ Ready c → IsPlaced c
+  ready_length content name c true e = ready_count (lines_of content) name c (nat_le (length (lines_of content)) LINE_LIMIT) refl e
+  ready_length content name c false e = absurd cc
 
-ready_placed : (words : List (List ℕ)) (files : List Named) (c : ConfigView) → load words files ≡ Ready c → IsPlaced c
-unfolding load
-ready_placed words files c e = ready_named c (file_of words) files e
+  ready_content : (name : List ℕ) (c : ConfigView) (content : Option (List ℕ)) → load_content name content ≡ Ready c → IsPlaced c
+  ready_content name c None e = absurd cc
+  ready_content name c (Some content) e = ready_length content name c (nat_le (length content) FILE_LIMIT) e
+
+  ready_named : (c : ConfigView) (named : Option (List ℕ)) (files : List Named) → load_named named files ≡ Ready c → IsPlaced c
+  ready_named c None files e = absurd cc
+  ready_named c (Some name) files e = ready_content name c (content_of files name) e
+
+  ready_placed : (words : List (List ℕ)) (files : List Named) (c : ConfigView) → load words files ≡ Ready c → IsPlaced c
+  unfolding load
+  ready_placed words files c e = ready_named c (file_of words) files e
 
 concludes_once : (loaded : Loaded) (session : List ℕ) (m n : Status) (r s : List ℕ) → ((c : ConfigView) → loaded ≡ Ready c → IsPlaced c) → Concludes loaded session m r → Concludes loaded session n s → (m ≡ n) × (r ≡ s)
 concludes_once WrongWords session m n r s placed p q = (p.0 ∙ sym q.0, p.1 ∙ sym q.1)
 concludes_once Missing session m n r s placed p q = (p.0 ∙ sym q.0, p.1 ∙ sym q.1)
 concludes_once LongFile session m n r s placed p q = (p.0 ∙ sym q.0, p.1 ∙ sym q.1)
+concludes_once ManyLines session m n r s placed p q = (p.0 ∙ sym q.0, p.1 ∙ sym q.1)
 concludes_once (Faulty name fault) session m n r s placed p q = (p.0 ∙ sym q.0, p.1 ∙ sym q.1)
 concludes_once (Ready c) session m n r s placed p q = serves_once c session (nat_le (length session) SESSION_LIMIT) m n r s (placed c refl) p q
 
-pub one_output : (words : List (List ℕ)) (files : List Named) (session : List ℕ) (m n : Status) (r s : List ℕ) → Output words files session m r → Output words files session n s → (m ≡ n) × (r ≡ s)
-one_output words files session m n r s p q = concludes_once (load words files) session m n r s (ready_placed words files) p q
+pub one_output : ((lines : List (List ℕ)) (c : ConfigView) → length lines < 2 ^ 32 → configuration lines ≡ Ok c → c.statics ≡ [] → IsPlaced c)
+    → (words : List (List ℕ)) (files : List Named) (session : List ℕ) (m n : Status) (r s : List ℕ) → Output words files session m r → Output words files session n s → (m ≡ n) × (r ≡ s)
+one_output placed words files session m n r s p q = concludes_once (load words files) session m n r s (ready_placed placed words files) p q

@@ -3,7 +3,7 @@ use Rattle.std.proofs.Common.{◌≡◌, ℕ, ◌+◌, ◌-◌, ◌<◌, ◌≤�
 use Rattle.std.specs.List.{slice_split, onto_first}
 use Rattle.std.proofs.lemmas.List.Splits.{slice_split_none}
 use Rattle.std.proofs.lemmas.List.{take_more, drop_more}
-use Rattle.nc_reader.specs.Lines.{lines_of, without_return, without_empty_last, is_feed}
+use Rattle.nc_lines.specs.Lines.{lines_of, without_return, without_empty_last, is_feed}
 use Rattle.nc_session.specs.Output.{all_but_last, whole_lines_of}
 
 module _ (p : ℕ → Bool) where

@@ -4,7 +4,7 @@ use Rattle.std.specs.Io.KnownBytes.{Appends, Keeps, IsAtEnd}
 use Rattle.nc_types.specs.Config.{ConfigView}
 use Rattle.nc_outside.specs.Named.{Named}
 use Rattle.nc_outside.specs.Counts.{Rose}
-use Rattle.nc_reader.specs.Lines.{lines_of}
+use Rattle.nc_lines.specs.Lines.{lines_of}
 use Rattle.nc_session.specs.declared.TheConstants.{SESSION_LIMIT}
 use Rattle.nc_session.specs.declared.reading.Stop.{Stop}
 use Rattle.nc_session.specs.declared.reading.Stop.TheVariants as stop
@@ -12,7 +12,7 @@ use Rattle.nc_session.specs.declared.load.LoadFault.{LoadFault}
 use Rattle.nc_session.specs.declared.load.LoadFault.TheVariants as load
 use Rattle.nc_session.specs.declared.status.Status.{Status}
 use Rattle.nc_session.specs.declared.status.Status.TheVariants.{Done, Config, Usage, InputFault, OutputFault, FileFault, Memory, Limit}
-use Rattle.nc_session.specs.Output.{AreReplies, Writes, Serves, Settles, Output, load, file_of, usage_text, IsAbsent, whole_lines_of, long_file_text, long_session_text, fault_text}
+use Rattle.nc_session.specs.Output.{AreReplies, Writes, Serves, Settles, Output, load, file_of, usage_text, IsAbsent, IsOverLimit, whole_lines_of, long_file_text, many_lines_text, long_session_text, fault_text}
 
 -- a text was written and the status told, or the sink failed
 abbrev pub Says : Status → List ℕ → Option (List ℕ) → Option (List ℕ) → ℕ → ℕ → Status → Type 0
@@ -28,6 +28,7 @@ abbrev pub Refuses : LoadFault → List ℕ → Option (List ℕ) → Option (Li
 Refuses load.Outside name old new before now result = Silent FileFault old new before now result
 Refuses load.Memory name old new before now result = Silent Memory old new before now result
 Refuses load.Long name old new before now result = Says Limit long_file_text old new before now result
+Refuses load.Many name old new before now result = Says Limit many_lines_text old new before now result
 Refuses (load.Bad line cause) name old new before now result =
     Says Config (fault_text name (record { line = line; cause = cause })) old new before now result ⊎ Silent Memory old new before now result
 
@@ -54,7 +55,8 @@ abbrev pub ServesTo : ConfigView → Option (List ℕ) → Option (List ℕ) →
 ServesTo c rest left old new asked_before asked_now before now Done =
     (asked_now ≡ asked_before) × (now ≡ before) × IsAtEnd left × IfSome rest (λ session. Writes old new (λ bytes. Serves c session (nat_le (length session) SESSION_LIMIT) Done bytes))
 ServesTo c rest left old new asked_before asked_now before now Limit =
-    (asked_now ≡ asked_before) × (now ≡ before) × IfSome rest (λ session. Writes old new (λ bytes. Serves c session (nat_le (length session) SESSION_LIMIT) Limit bytes))
+    (asked_now ≡ asked_before) × (now ≡ before)
+    × IfSome rest (λ session. (SESSION_LIMIT < length session) × Writes old new (λ bytes. Serves c session (nat_le (length session) SESSION_LIMIT) Limit bytes))
 ServesTo c rest left old new asked_before asked_now before now InputFault = Rose asked_before asked_now × (now ≡ before) × Keeps old new
 ServesTo c rest left old new asked_before asked_now before now OutputFault = (asked_now ≡ asked_before) × Rose before now
 ServesTo c rest left old new asked_before asked_now before now Memory = (asked_now ≡ asked_before) × (now ≡ before)
@@ -84,11 +86,15 @@ abbrev pub IsTold : List (List ℕ) → Seen → Seen → Status → Type 0
 IsTold words before now status = IfSome before.files (λ files. Settles (load words files) status
     × IfSome before.rest (λ session. Writes before.written now.written (λ bytes. Output words files session status bytes)))
 
+-- the status is Limit for its cause, where the objects tell their bytes
+abbrev pub IsLimited : List (List ℕ) → Seen → Type 0
+IsLimited words before = IfSome before.files (λ files. IfSome before.rest (λ session. IsOverLimit (load words files) session))
+
 -- how a run ends, by its status
 abbrev pub EndsAs : List (List ℕ) → Seen → Seen → Status → Type 0
 EndsAs words before now Done = NoFault before now × IsTold words before now Done × IsNaming words × IsAtEnd now.rest
 EndsAs words before now Config = NoFault before now × IsTold words before now Config × IsNaming words
-EndsAs words before now Limit = NoFault before now × IsTold words before now Limit × IsNaming words
+EndsAs words before now Limit = NoFault before now × IsTold words before now Limit × IsNaming words × IsLimited words before
 EndsAs words before now Usage = NoFault before now × IsTold words before now Usage × (file_of words ≡ None) × Appends before.written now.written usage_text
 EndsAs words before now InputFault = (now.file_faults ≡ before.file_faults) × Rose before.input_faults now.input_faults × (now.output_faults ≡ before.output_faults)
     × IfSome before.files (λ files. Settles (load words files) InputFault) × IsNaming words × Keeps before.written now.written

@@ -6,15 +6,15 @@ use Rattle.nc_types.specs.declared.config.RouterConfig.{RouterConfig}
 use Rattle.nc_types.specs.Config.{config_view}
 use Rattle.nc_outside.specs.Named.{Named, content_of}
 use Rattle.nc_outside.specs.Counts.{Rose, IsMissing}
-use Rattle.nc_reader.specs.declared.fault.ConfigFault.{ConfigFault}
-use Rattle.nc_reader.specs.declared.fault.ConfigFault.TheVariants as config
+use Rattle.nc_types.specs.declared.fault.ConfigFault.{ConfigFault}
+use Rattle.nc_types.specs.declared.fault.ConfigFault.TheVariants as config
 use Rattle.nc_session.specs.declared.reading.Stop.{Stop}
 use Rattle.nc_session.specs.declared.reading.Stop.TheVariants as stop
 use Rattle.nc_session.specs.declared.load.LoadFault.{LoadFault}
-use Rattle.nc_session.specs.declared.load.LoadFault.TheVariants.{Outside, Long, Bad, Memory}
+use Rattle.nc_session.specs.declared.load.LoadFault.TheVariants.{Outside, Long, Many, Bad, Memory}
 use Rattle.nc_session.specs.declared.TheConstants.{FILE_LIMIT}
 use Rattle.nc_session.specs.Reading.{TakesAtMost}
-use Rattle.nc_session.specs.Output.{Loaded, LongFile, Faulty, Ready}
+use Rattle.nc_session.specs.Output.{Loaded, LongFile, ManyLines, Faulty, Ready}
 
 -- the words as their bytes
 abbrev pub texts : List (String Global) → List (List ℕ)
@@ -32,6 +32,7 @@ load_fault config.Memory = Memory
 abbrev pub IsLoadFault : LoadFault → List ℕ → Loaded → Type 0
 IsLoadFault Outside name loaded = Unit {0}
 IsLoadFault Long name loaded = loaded ≡ LongFile
+IsLoadFault Many name loaded = loaded ≡ ManyLines
 IsLoadFault (Bad line cause) name loaded = loaded ≡ Faulty name (record { line = line; cause = cause })
 IsLoadFault Memory name loaded = Unit {0}
 

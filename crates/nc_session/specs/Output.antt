@@ -1,14 +1,17 @@
 -- What a whole run writes, and with which status it ends.
-use Rattle.std.specs.Prelude.{◌≡◌, ◌⊎◌, ℕ, Bool, true, false, ◌==◌, nat_le, List, [], ◌∷◌, ◌++◌, length, map, take, Option, Some, None, Result, Ok, Err, if◌then◌else◌, codes}
+use Rattle.std.specs.Prelude.{◌≡◌, ◌⊎◌, ℕ, ◌<◌, ◌≤◌, Bool, true, false, ◌==◌, nat_le, List, [], ◌∷◌, ◌++◌, length, map, take, slice_get, Option, Some, None, Result, Ok, Err, if◌then◌else◌, codes}
 use Rattle.std.specs.List.{slice_split}
+use Rattle.std.specs.Option.{option_map, option_map_or}
 use Rattle.std.specs.Fmt.{decimal}
 use Rattle.nc_types.specs.Config.{ConfigView}
+use Rattle.nc_types.specs.WellFormed.{first_line}
 use Rattle.nc_outside.specs.Named.{Named, content_of}
-use Rattle.nc_reader.specs.Lines.{lines_of, without_return, is_feed}
-use Rattle.nc_reader.specs.Configuration.{Fault, configuration}
-use Rattle.nc_reader.specs.declared.fault.Cause.{Cause}
-use Rattle.nc_reader.specs.declared.fault.Cause.TheVariants as causes
-use Rattle.nc_session.specs.declared.TheConstants.{FILE_LIMIT, SESSION_LIMIT}
+use Rattle.nc_lines.specs.Lines.{lines_of, without_return, is_feed}
+use Rattle.nc_types.specs.declared.fault.Fault.{Fault}
+use Rattle.nc_reader.specs.Configuration.{configuration}
+use Rattle.nc_types.specs.declared.fault.Cause.{Cause}
+use Rattle.nc_types.specs.declared.fault.Cause.TheVariants as causes
+use Rattle.nc_session.specs.declared.TheConstants.{FILE_LIMIT, LINE_LIMIT, SESSION_LIMIT}
 use Rattle.nc_session.specs.declared.table.BaseRow.{BaseRow}
 use Rattle.nc_session.specs.declared.status.Status.{Status}
 use Rattle.nc_session.specs.declared.status.Status.TheVariants.{Done, Config, Usage, Unstable, InputFault, OutputFault, FileFault, Memory, Limit}
@@ -33,22 +36,41 @@ pub data Loaded : Type 0 where
   WrongWords : Loaded
   Missing : Loaded
   LongFile : Loaded
+  -- more lines than are read
+  ManyLines : Loaded
   Faulty : List ℕ → Fault → Loaded
   Ready : ConfigView → Loaded
 
+-- the first of a list
+abbrev pub first_of : {A : Type 0} → List A → Option A
+first_of [] = None
+first_of (x ∷ xs) = Some x
+
+-- the first line of the first static route, if there is one
+abbrev pub route_line : ConfigView → Option ℕ
+route_line c = option_map (λ r. option_map_or first_line (slice_get c.elements r.element) 0) (first_of c.statics)
+
+-- static routes are read, but nothing is routed by them yet
+abbrev pub load_config : List ℕ → ConfigView → Loaded
+load_config name c = option_map_or (λ line. Faulty name (record { line = line; cause = causes.Unsupported })) (route_line c) (Ready c)
+
 abbrev pub load_result : List ℕ → Result ConfigView Fault → Loaded
-load_result name (Ok c) = Ready c
+load_result name (Ok c) = load_config name c
 load_result name (Err fault) = Faulty name fault
+
+-- what comes of the lines of a file
+abbrev pub load_lines : List ℕ → List (List ℕ) → Loaded
+load_lines name lines = if nat_le (length lines) LINE_LIMIT then load_result name (configuration lines) else ManyLines
 
 abbrev pub load_content : List ℕ → Option (List ℕ) → Loaded
 load_content name None = Missing
-load_content name (Some content) = if nat_le (length content) FILE_LIMIT then load_result name (configuration content) else LongFile
+load_content name (Some content) = if nat_le (length content) FILE_LIMIT then load_lines name (lines_of content) else LongFile
 
 abbrev pub load_named : Option (List ℕ) → List Named → Loaded
 load_named None files = WrongWords
 load_named (Some name) files = load_content name (content_of files name)
 
--- the words are judged first, then that the file is there, its length, its configuration
+-- the words are judged first, then that the file is there, its length, its number of lines, its configuration
 unfoldable pub load : List (List ℕ) → List Named → Loaded
 load words files = load_named (file_of words) files
 
@@ -72,13 +94,18 @@ usage_text = line_of (codes "refused usage")
 abbrev pub long_file_text : List ℕ
 long_file_text = line_of (codes "refused limit bytes")
 
+abbrev pub many_lines_text : List ℕ
+many_lines_text = line_of (codes "refused limit lines")
+
 abbrev pub long_session_text : List ℕ
 long_session_text = line_of (codes "refused limit session")
 
 -- the word of a cause
 abbrev pub cause_text : Cause → List ℕ
+cause_text causes.Syntax = codes "syntax"
 cause_text causes.Unsupported = codes "unsupported"
 cause_text causes.NoName = codes "no-name"
+cause_text causes.TwoProcesses = codes "two-processes"
 
 abbrev pub fault_text : List ℕ → Fault → List ℕ
 fault_text name fault = line_of (codes "refused config " ++ (name ++ (32 ∷ (decimal fault.line ++ (32 ∷ cause_text fault.cause)))))
@@ -111,6 +138,7 @@ abbrev pub Concludes : Loaded → List ℕ → Status → List ℕ → Type 0
 Concludes WrongWords session status bytes = (status ≡ Usage) × (bytes ≡ usage_text)
 Concludes Missing session status bytes = (status ≡ FileFault) × (bytes ≡ [])
 Concludes LongFile session status bytes = (status ≡ Limit) × (bytes ≡ long_file_text)
+Concludes ManyLines session status bytes = (status ≡ Limit) × (bytes ≡ many_lines_text)
 Concludes (Faulty name fault) session status bytes = (status ≡ Config) × (bytes ≡ fault_text name fault)
 Concludes (Ready c) session status bytes = Serves c session (nat_le (length session) SESSION_LIMIT) status bytes
 
@@ -150,8 +178,21 @@ abbrev pub Settles : Loaded → Status → Type 0
 Settles WrongWords status = status ≡ Usage
 Settles Missing status = status ≡ FileFault
 Settles LongFile status = status ≡ Limit
+Settles ManyLines status = status ≡ Limit
 Settles (Faulty name fault) status = status ≡ Config
 Settles (Ready c) status = (status ≡ Done) ⊎ ((status ≡ Limit) ⊎ (status ≡ InputFault))
+
+-- a limit is passed: of the file, or of the session
+abbrev pub IsOverLimit : Loaded → List ℕ → Type 0
+IsOverLimit LongFile session = Unit {0}
+IsOverLimit ManyLines session = Unit {0}
+IsOverLimit (Ready c) session = SESSION_LIMIT < length session
+IsOverLimit loaded session = ⊥
+
+-- nothing is refused before the session, and the session is within its limit
+abbrev pub IsServable : Loaded → List ℕ → Type 0
+IsServable (Ready c) session = length session ≤ SESSION_LIMIT
+IsServable loaded session = ⊥
 
 -- the files are told, and the words name one that isn't there
 abbrev pub IsAbsent : List (List ℕ) → Option (List Named) → Type 0

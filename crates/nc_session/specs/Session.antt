@@ -7,8 +7,8 @@ use Rattle.std.specs.Fmt.{decimal}
 use Rattle.nc_types.specs.Cidr.{Cidr}
 use Rattle.nc_types.specs.Config.{ConfigView}
 use Rattle.nc_graph.specs.Closure.{IsClosure}
-use Rattle.nc_reader.specs.Lines.{words_of}
-use Rattle.nc_reader.specs.Numbers.{prefix_of}
+use Rattle.nc_lines.specs.Lines.{words_of}
+use Rattle.nc_lines.specs.Numbers.{prefix_of}
 use Rattle.nc_session.specs.declared.table.BaseRow.{BaseRow}
 use Rattle.nc_session.specs.declared.fact.Fact.{Fact}
 use Rattle.nc_session.specs.declared.mark.Mark.{Mark}

@@ -1,12 +1,12 @@
 //! The session language: what a line asks.
 
 ghost use Rattle.std.specs.Prelude.{◌≡◌};
-ghost use Rattle.nc_reader.specs.Lines.{words_of};
+ghost use Rattle.nc_lines.specs.Lines.{words_of};
 ghost use Rattle.nc_session.specs.Session.{command_of, rib_of};
 ghost use Rattle.nc_session.specs.Commands.{command_view};
 
-use nc_reader::lines::cut_word;
-use nc_reader::numbers::read_prefix;
+use nc_lines::cut::cut_word;
+use nc_lines::numbers::read_prefix;
 use nc_types::Prefix;
 
 /// A test of the main rows of a prefix at a router, with the word that writes the prefix.

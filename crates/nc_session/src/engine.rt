@@ -5,7 +5,7 @@ ghost use Rattle.nc_types.specs.Config.{IsPlaced, config_view};
 ghost use Rattle.std.specs.List.{range_with_len};
 ghost use Rattle.std.specs.Str.{bytes_eq};
 ghost use Rattle.nc_session.specs.Session.{State, Rib, no_tests, command_of, accepted_of, line_of};
-ghost use Rattle.nc_reader.specs.Lines.{words_of};
+ghost use Rattle.nc_lines.specs.Lines.{words_of};
 
 use crate::command::{Command, RibTest, read_command};
 use crate::coverage::Coverage;

@@ -5,8 +5,12 @@ ghost use Rattle.nc_outside.specs.Named.{Named};
 ghost use Rattle.nc_session.specs.declared.status.Status.{Status};
 ghost use Rattle.nc_session.specs.Output.{Output};
 
+use nc_reader::laws::interfaces_alone_are_placed;
+
 /// The law of the output: for the same words, files and session the definitions allow one status and one text.
 pub fn output_is_one()
     ensures { (words : List (List ℕ)) (files : List Named) (session : List ℕ) (m n : Status) (bytes more : List ℕ)
         → Output words files session m bytes → Output words files session n more → (m ≡ n) × (bytes ≡ more) }
-{}
+{
+    interfaces_alone_are_placed();
+}

@@ -34,6 +34,9 @@ pub use table::BaseRow;
 /// How many bytes of a file are read.
 pub const FILE_LIMIT: usize = 4_194_304;
 
+/// How many lines of a file are read.
+pub const LINE_LIMIT: u32 = 65_535;
+
 /// How many bytes of a session are read.
 pub const SESSION_LIMIT: usize = 16_777_216;
 

@@ -1,17 +1,23 @@
 //! Loading: the words, and the configuration of the file that they name.
 
-ghost use Rattle.std.specs.Prelude.{◌≡◌, Some, None, MatchOption, IfSome, IfOk};
+ghost use Rattle.std.specs.Prelude.{◌≡◌, ◌≤◌, Some, None, MatchOption, IfSome, IfOk, IsErrOf, length};
 ghost use Rattle.nc_types.specs.Config.{IsPlaced, config_view};
-ghost use Rattle.nc_session.specs.Output.{file_of, load_content, is_option};
+ghost use Rattle.nc_types.specs.WellFormed.{first_line};
+ghost use Rattle.nc_lines.specs.Lines.{lines_of};
+ghost use Rattle.nc_session.specs.Output.{file_of, load_content, load_lines, route_line, is_option};
+ghost use Rattle.nc_session.specs.declared.load.LoadFault.TheVariants as LoadFault;
+ghost use Rattle.nc_session.specs.declared.TheConstants.{FILE_LIMIT};
+ghost use Rattle.nc_types.specs.Config.{element_view};
 ghost use Rattle.nc_outside.specs.Named.{content_of};
 ghost use Rattle.nc_session.specs.Loading.{IsLoad, HasLoadCause, TakesOfFile, texts, load_stop, load_fault};
 
-use crate::FILE_LIMIT;
 use crate::reading::{Stop, read_file};
+use crate::{FILE_LIMIT, LINE_LIMIT};
+use nc_lines::split::split_lines;
 use nc_outside::Files;
-use nc_reader::{Cause, ConfigFault, read_config};
-use nc_types::RouterConfig;
-use std::alloc::Global;
+use nc_reader::read_config;
+use nc_types::{Cause, ConfigFault, Element, RouterConfig};
+use std::alloc::{AllocError, Global};
 
 /// Why the file gives no router.
 #[derive(Clone, Copy, Debug, PartialEq, Eq)]
@@ -20,6 +26,8 @@ pub(crate) enum LoadFault {
     Outside,
     /// It has more bytes than are read.
     Long,
+    /// It has more lines than are read.
+    Many,
     /// Its configuration has a fault.
     Bad { line: u32, cause: Cause },
     /// Memory ran out.
@@ -34,6 +42,14 @@ impl From<Stop> for LoadFault {
             Stop::Outside => LoadFault::Outside,
             Stop::Memory => LoadFault::Memory,
         }
+    }
+}
+
+impl From<AllocError> for LoadFault {
+    ghost from_gives = { λ _ e. e ≡ LoadFault.Memory };
+
+    fn from(_error: AllocError) -> LoadFault {
+        LoadFault::Memory
     }
 }
 
@@ -67,6 +83,43 @@ pub(crate) fn file_of(words: &[String]) -> Option<&str>
     if is_option(word) { None } else { Some(word) }
 }
 
+// The first line of an element.
+fn first_line(element: &Element) -> u32
+    ensures { result ≡ first_line (element_view element.now) }
+{
+    element.lines.first().copied().unwrap_or(0)
+}
+
+// The first line of the first static route.
+fn route_line(router: &RouterConfig) -> Option<u32>
+    ensures { result ≡ route_line (config_view router.now) }
+{
+    let route = router.statics.first()?;
+    let element = router.elements.get(route.element as usize);
+    Some(element.map_or(0, first_line))
+}
+
+// Splits a file and judges its lines.
+fn load_bytes(alloc: Global, name: &str, bytes: Vec<u8>) -> Result<RouterConfig, LoadFault>
+    requires { length bytes.items ≤ FILE_LIMIT }
+    ensures loaded { IsLoad result name.now (load_lines name.now (lines_of bytes.items)) }
+    ensures placed { IfOk result (λ c. IsPlaced (config_view c)) }
+    ensures inside { IsErrOf result LoadFault.Outside → ⊥ }
+{
+    let lines = split_lines(alloc, bytes)?;
+    if lines.count() > LINE_LIMIT {
+        return Err(LoadFault::Many);
+    }
+    let router = read_config(alloc, &lines)?;
+    match route_line(&router) {
+        Some(line) => Err(LoadFault::Bad {
+            line,
+            cause: Cause::Unsupported,
+        }),
+        None => Ok(router),
+    }
+}
+
 /// Enters the file, reads it and judges it.
 pub(crate) fn load<F: Files>(
     alloc: Global,
@@ -86,5 +139,5 @@ pub(crate) fn load<F: Files>(
     if bytes.len() > FILE_LIMIT {
         return Err(LoadFault::Long);
     }
-    Ok(read_config(alloc, &bytes)?)
+    load_bytes(alloc, name, bytes)
 }

@@ -4,8 +4,8 @@ ghost use Rattle.std.specs.Prelude.{◌≡◌, ◌⊎◌, ◌≢◌, ◌+◌, So
 ghost use Rattle.std.specs.Io.KnownBytes.{Appends, Keeps, IsAtEnd};
 ghost use Rattle.nc_types.specs.Config.{IsPlaced, config_view};
 ghost use Rattle.nc_outside.specs.Counts.{Rose};
-ghost use Rattle.nc_session.specs.Output.{Output, usage_text, fault_text, cause_text, whole_lines_of, file_of, Writes, IsAnswer, IsUsageOrUntold, IsAbsent, IsOfFiles, Settles, load};
-ghost use Rattle.nc_reader.specs.Lines.{lines_of};
+ghost use Rattle.nc_session.specs.Output.{Output, usage_text, fault_text, cause_text, whole_lines_of, file_of, Writes, IsAnswer, IsUsageOrUntold, IsAbsent, IsOfFiles, IsOverLimit, IsServable, Settles, load};
+ghost use Rattle.nc_lines.specs.Lines.{lines_of};
 ghost use Rattle.nc_session.specs.Loading.{texts, TakesOfNamed};
 ghost use Rattle.nc_session.specs.Reading.{TakesAtMost};
 ghost use Rattle.nc_session.specs.Ending.{Says, Refuses, stopped_as, AnswersSession, ServesTo, EndsAs, EntersNamed};
@@ -20,8 +20,7 @@ use crate::status::Status;
 use crate::writing::write_all;
 use crate::{FILE_LIMIT, SESSION_LIMIT};
 use nc_outside::{Files, Sink, Source};
-use nc_reader::Cause;
-use nc_types::RouterConfig;
+use nc_types::{Cause, RouterConfig};
 use std::alloc::{AllocError, Global};
 
 // The word of a cause.
@@ -29,8 +28,10 @@ fn cause_text(cause: Cause) -> &'static [u8]
     ensures { result.now ≡ cause_text cause }
 {
     match cause {
+        Cause::Syntax => b"syntax",
         Cause::Unsupported => b"unsupported",
         Cause::NoName => b"no-name",
+        Cause::TwoProcesses => b"two-processes",
     }
 }
 
@@ -66,6 +67,7 @@ fn refuse<K: Sink>(alloc: Global, name: &str, fault: LoadFault, output: &mut K) 
         LoadFault::Outside => Status::FileFault,
         LoadFault::Memory => Status::Memory,
         LoadFault::Long => say(output, b"refused limit bytes\n", Status::Limit),
+        LoadFault::Many => say(output, b"refused limit lines\n", Status::Limit),
         LoadFault::Bad { line, cause } => match fault_line(alloc, name, line, cause) {
             Ok(text) => say(output, &text, Status::Config),
             Err(_) => Status::Memory,
@@ -180,8 +182,8 @@ fn run_words<F: Files, S: Source, K: Sink>(
 
 /// Runs NetCov: reads the file that the words name, answers the session, and writes every reply.
 ///
-/// The words are judged first; then that the file is there and can be read, its length, and its
-/// configuration; then the session is read, and answered line by line. A session longer than
+/// The words are judged first; then that the file is there and can be read, its length, its number of lines
+/// and its configuration; then the session is read, and answered line by line. A session longer than
 /// [`SESSION_LIMIT`] is answered as far as its lines end within the limit, and then refused.
 ///
 /// Where the objects tell their bytes, `answer` pins every byte that is written. Want of memory alone is free:
@@ -196,6 +198,10 @@ pub fn run<F: Files, S: Source, K: Sink>(
     ensures answer { IsAnswer result → IfSome (F.files files.old) (λ fs. IfSome (S.rest input.old)
         (λ session. Writes (K.written output.old) (K.written output.new) (λ bytes. Output (texts words.now) fs session result bytes))) }
     ensures settles { IsOfFiles result → IfSome (F.files files.old) (λ fs. Settles (load (texts words.now) fs) result) }
+    ensures limit { result ≡ Status.Limit → IfSome (F.files files.old) (λ fs. IfSome (S.rest input.old) (λ session. IsOverLimit (load (texts words.now) fs) session)) }
+    ensures complete { IfSome (F.files files.old) (λ fs. IfSome (S.rest input.old) (λ session. IsServable (load (texts words.now) fs) session
+        → ¬ Rose (F.faults files.old) (F.faults files.new) → ¬ Rose (S.faults input.old) (S.faults input.new) → ¬ Rose (K.faults output.old) (K.faults output.new)
+        → (result ≡ Status.Done) ⊎ (result ≡ Status.Memory))) }
     ensures done { result ≡ Status.Done → IsAtEnd (S.rest input.new) }
     ensures usage { MatchOption (file_of (texts words.now)) (IsUsageOrUntold result) (λ _. result ≢ Status.Usage) }
     ensures usage_text { result ≡ Status.Usage → Appends (K.written output.old) (K.written output.new) usage_text }

@@ -1,7 +1,7 @@
 //! Serving a session: every line is answered, and its reply written before the next is looked at.
 
 ghost use Rattle.std.specs.Prelude.{OnOk};
-ghost use Rattle.nc_reader.specs.Lines.{lines_of};
+ghost use Rattle.nc_lines.specs.Lines.{lines_of};
 ghost use Rattle.nc_session.specs.Session.{State};
 ghost use Rattle.nc_session.specs.Engine.{IsEngine, IsSameRouter, Keeps};
 ghost use Rattle.nc_session.specs.Reading.{HasStopCause};
@@ -10,8 +10,8 @@ ghost use Rattle.nc_session.specs.Serving.{Replied, TurnsTo};
 use crate::engine::Engine;
 use crate::reading::Stop;
 use crate::writing::write_all;
+use nc_lines::cut::cut_line;
 use nc_outside::Sink;
-use nc_reader::lines::cut_line;
 use std::alloc::Global;
 
 // Answers one line.

@@ -104,9 +104,21 @@ fn refusals_before_the_session(rt: HostRuntime) -> Result<(), Fail> {
     let cases = [
         (
             "r1.cfg",
-            "hostname r1\nbad\n",
+            "hostname r1\nrouter ospf 1\n",
             Status::Config,
             "refused config r1.cfg 2 unsupported\n",
+        ),
+        (
+            "r1.cfg",
+            "hostname a b\n",
+            Status::Config,
+            "refused config r1.cfg 1 syntax\n",
+        ),
+        (
+            "r1.cfg",
+            "hostname r1\ninterface e0\nip route 10.0.0.0 255.0.0.0 Null0\n",
+            Status::Config,
+            "refused config r1.cfg 3 unsupported\n",
         ),
         (
             "r1.cfg",

@@ -20,6 +20,20 @@ pub struct ElementId(pub u32);
 pub enum Kind {
     /// An interface, by its name.
     Interface,
+    /// A static route, by its prefix, its interface and its next hop.
+    Static,
+    /// The BGP process.
+    Process,
+    /// A neighbor of the process, by its address.
+    Neighbor,
+    /// A network that the process originates, by its prefix.
+    Network,
+    /// An aggregate of the process, by its prefix.
+    Aggregate,
+    /// A clause of a route map, by the map's name and the clause's number.
+    Clause,
+    /// A prefix list, by its name.
+    List,
 }
 
 /// A thing that a configuration configures, with the lines of its statements.
@@ -28,6 +42,14 @@ pub struct Element {
     pub kind: Kind,
     /// The lines, ascending, from 1.
     pub lines: Vec<u32>,
+}
+
+/// A name that a statement refers to, and the line of the statement.
+#[derive(Debug, Drop)]
+pub struct Reference {
+    pub name: Text,
+    /// The line, from 1.
+    pub line: u32,
 }
 
 /// The address of an interface, and the prefix that its mask makes of it.
@@ -49,6 +71,143 @@ pub struct Interface {
     pub element: u32,
 }
 
+/// Where a static route leads.
+#[derive(Debug, Drop)]
+pub enum Via {
+    /// Nowhere: what it covers is discarded.
+    Null,
+    /// To a next hop.
+    Hop(Addr),
+    /// To a next hop through the interface of this name.
+    Through(Reference, Addr),
+}
+
+/// A static route as its statements leave it: the last one decides its distance and the line of its
+/// reference.
+#[derive(Debug, Drop)]
+pub struct StaticRoute {
+    pub prefix: Prefix,
+    pub via: Via,
+    /// The administrative distance, 1 to 255; a route of distance 255 is never used.
+    pub distance: u8,
+    /// The place of its element in the router's elements.
+    pub element: u32,
+}
+
+/// A neighbor of a BGP process as its statements leave it.
+#[derive(Debug, Drop)]
+pub struct Neighbor {
+    pub addr: Addr,
+    /// The number of its autonomous system, from 1.
+    pub remote_as: u32,
+    /// The interface whose address the session starts from, where one is named.
+    pub source: Option<Reference>,
+    /// Whether it need not be on a network of this router.
+    pub multihop: bool,
+    /// Whether what is sent to it names this router as the next hop.
+    pub self_hop: bool,
+    /// The route map for what it sends.
+    pub map_in: Option<Reference>,
+    /// The route map for what is sent to it.
+    pub map_out: Option<Reference>,
+    pub shut: bool,
+    /// The place of its element in the router's elements.
+    pub element: u32,
+}
+
+/// A network that a BGP process originates.
+#[derive(Clone, Copy, Debug, PartialEq, Eq)]
+pub struct NetworkStatement {
+    pub prefix: Prefix,
+    /// The place of its element in the router's elements.
+    pub element: u32,
+}
+
+/// An aggregate of a BGP process.
+#[derive(Clone, Copy, Debug, PartialEq, Eq)]
+pub struct AggregateStatement {
+    pub prefix: Prefix,
+    /// Whether the longer prefixes inside it are held back.
+    pub summary_only: bool,
+    /// The place of its element in the router's elements.
+    pub element: u32,
+}
+
+/// The BGP process of a router.
+#[derive(Debug, Drop)]
+pub struct Process {
+    /// The number of its autonomous system, from 1.
+    pub asn: u32,
+    /// The router id that a statement gives.
+    pub router_id: Option<Addr>,
+    /// How many routes of a prefix are used at once, 1 to 16.
+    pub max_paths: u8,
+    /// Whether routes of paths that differ, but are equally long, are used together.
+    pub relax: bool,
+    /// The neighbors, in order of first mention.
+    pub neighbors: Vec<Neighbor>,
+    /// The networks, in order of first mention.
+    pub networks: Vec<NetworkStatement>,
+    /// The aggregates, in order of first mention.
+    pub aggregates: Vec<AggregateStatement>,
+    /// The place of its element in the router's elements.
+    pub element: u32,
+}
+
+/// Where a route came from, as BGP tells it.
+#[derive(Clone, Copy, Debug, PartialEq, Eq, PartialOrd, Ord, Hash)]
+pub enum OriginCode {
+    Igp,
+    Incomplete,
+}
+
+/// A clause of a route map.
+#[derive(Debug, Drop)]
+pub struct Clause {
+    /// The name of its map.
+    pub map: Text,
+    /// The clauses of a map are looked at in order of this number.
+    pub number: u16,
+    pub permit: bool,
+    /// The prefix lists of which one has to permit; none where the clause matches each route.
+    pub lists: Vec<Reference>,
+    /// The local preference that it sets.
+    pub preference: Option<u32>,
+    /// The metric that it sets.
+    pub metric: Option<u32>,
+    /// The numbers that it puts before the path, in order; at most 10, each from 1.
+    pub prepend: Vec<u32>,
+    /// The origin that it sets.
+    pub origin: Option<OriginCode>,
+    /// The place of its element in the router's elements.
+    pub element: u32,
+}
+
+/// An entry of a prefix list.
+#[derive(Clone, Copy, Debug, PartialEq, Eq)]
+pub struct ListEntry {
+    /// The entries of a list are looked at in order of this number.
+    pub seq: u32,
+    pub permit: bool,
+    pub prefix: Prefix,
+    /// The least length of a prefix that it is of.
+    pub low: u8,
+    /// The greatest length of a prefix that it is of, at most 32.
+    pub high: u8,
+    /// The line of its statement, from 1.
+    pub line: u32,
+}
+
+/// A prefix list.
+#[derive(Debug, Drop)]
+pub struct PrefixList {
+    pub name: Text,
+    /// The entries, in order of their numbers.
+    pub entries: Vec<ListEntry>,
+    /// The place of its element in the router's elements.
+    pub element: u32,
+}
+
 /// The configuration of one router, as its file has it.
 #[derive(Debug, Drop)]
 pub struct RouterConfig {
@@ -61,4 +220,12 @@ pub struct RouterConfig {
     pub elements: Vec<Element>,
     /// The interfaces, in order of first mention.
     pub interfaces: Vec<Interface>,
+    /// The static routes, in order of first mention.
+    pub statics: Vec<StaticRoute>,
+    /// The BGP process, if there is one.
+    pub process: Option<Process>,
+    /// The clauses of route maps, in order of first mention.
+    pub clauses: Vec<Clause>,
+    /// The prefix lists, in order of first mention.
+    pub lists: Vec<PrefixList>,
 }

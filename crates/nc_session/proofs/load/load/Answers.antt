@@ -14,10 +14,6 @@ pub returns-then-len-gt-FILE_LIMIT-clause-takes : goal.returns-then-len-gt-FILE_
 returns-then-len-gt-FILE_LIMIT-clause-takes g c =
     takes_entered _ c.args.name.now _ _ _ (on_done c.enter.result _ (sym c.is_err.ensures.value ∙ c.if-is_err.false) c.enter.ensures.entered) c.read_file.ensures.takes
 
-pub returns-in_err-read_config-clause-takes : goal.returns-in_err-read_config-clause-takes
-returns-in_err-read_config-clause-takes g c =
-    takes_entered _ c.args.name.now _ _ _ (on_done c.enter.result _ (sym c.is_err.ensures.value ∙ c.if-is_err.false) c.enter.ensures.entered) c.read_file.ensures.takes
-
 pub returns-clause-takes : goal.returns-clause-takes
 returns-clause-takes g c =
     takes_entered _ c.args.name.now _ _ _ (on_done c.enter.result _ (sym c.is_err.ensures.value ∙ c.if-is_err.false) c.enter.ensures.entered) c.read_file.ensures.takes

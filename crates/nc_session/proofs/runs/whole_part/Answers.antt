@@ -1,6 +1,6 @@
 use Rattle.std.proofs.Common.{◌∙◌, ap, arith}
 use Rattle.std.proofs.lemmas.Bool.{eq-eqb}
-use Rattle.nc_reader.specs.Lines.{lines_of}
+use Rattle.nc_lines.specs.Lines.{lines_of}
 use Rattle.nc_session.proofs.WholeLines.{whole_none, whole_some}
 use Rattle.nc_session.proofs.runs.whole_part.Goals as goal
 use Rattle.nc_session.proofs.runs.whole_part.Goals.{then-back-test+else-text-end-ne10, else-back-test}

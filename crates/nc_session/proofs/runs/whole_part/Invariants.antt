@@ -1,5 +1,5 @@
 use Rattle.std.proofs.Common.{◌≡◌, ◌≤◌, drop, length, false, All}
-use Rattle.nc_reader.specs.Lines.{is_feed}
+use Rattle.nc_lines.specs.Lines.{is_feed}
 use Rattle.nc_session.proofs.runs.whole_part.Given as goal
 
 -- no line feed stands behind the end

@@ -1,5 +1,5 @@
 use Rattle.std.proofs.Common.{◌∙◌, List, ℕ, refl, subst}
-use Rattle.nc_reader.specs.Lines.{lines_of}
+use Rattle.nc_lines.specs.Lines.{lines_of}
 use Rattle.nc_session.proofs.Running.{Answered, answered_none, answered_more, answered_all, same_router}
 use Rattle.nc_session.proofs.serving.answer_lines.Goals as goal
 

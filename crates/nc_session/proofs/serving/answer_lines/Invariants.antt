@@ -1,5 +1,5 @@
 use Rattle.std.proofs.Common.{◌≡◌, length}
-use Rattle.nc_reader.specs.Lines.{lines_of}
+use Rattle.nc_lines.specs.Lines.{lines_of}
 use Rattle.nc_session.specs.Session.{State}
 use Rattle.nc_session.specs.Engine.{IsEngine, IsSameRouter, Keeps}
 use Rattle.nc_session.proofs.Running.{Answered}

@@ -1,0 +1,33 @@
+-- What a statement says, by its words.
+use Rattle.std.specs.Prelude.{ℕ, List, [], ◌∷◌, Option, Some, None, if◌then◌else◌}
+use Rattle.std.specs.Str.{bytes_eq}
+use Rattle.nc_types.specs.declared.fault.Cause.{Cause}
+
+-- what a statement says: nothing that is read, what is wrong with it, or something of its own kind
+pub data Reading (S : Type 0) : Type 0 where
+  Outside : Reading S
+  Faulty : Cause → Reading S
+  Says : S → Reading S
+
+-- the words behind a first word
+abbrev pub after_word : List ℕ → List (List ℕ) → Option (List (List ℕ))
+after_word first [] = None
+after_word first (word ∷ words) = if bytes_eq word first then Some words else None
+
+-- the words behind these first words
+abbrev pub after : List (List ℕ) → List (List ℕ) → Option (List (List ℕ))
+after [] words = Some words
+after (first ∷ firsts) [] = None
+after (first ∷ firsts) (word ∷ words) = if bytes_eq word first then after firsts words else None
+
+-- what is wrong, if something is
+abbrev pub fault_of : {S : Type 0} → Reading S → Option Cause
+fault_of Outside = None
+fault_of (Faulty cause) = Some cause
+fault_of (Says s) = None
+
+-- what is said, if something is
+abbrev pub said_of : {S : Type 0} → Reading S → Option S
+said_of Outside = None
+said_of (Faulty cause) = None
+said_of (Says s) = Some s

@@ -1,0 +1,95 @@
+//! The lines of a text, and the words of a line.
+
+ghost use Rattle.std.specs.Prelude.{◌≡◌, ℕ, ◌<◌, ◌==◌, not, Bool, length, [], ◌∷◌, position, MatchOption, IfSome, IfNone};
+ghost use Rattle.std.specs.List.{slice_split};
+ghost use Rattle.nc_lines.specs.Lines.{is_gap, lines_of, words_of, is_indented, without_return};
+
+// Where a byte stands first.
+pub(crate) fn place_of(bytes: &[u8], byte: u8) -> Option<usize>
+    ensures { result ≡ position (λ b. b == byte) bytes.now }
+{
+    bytes.iter().position(|b| *b == byte)
+}
+
+// Cuts at the first such byte, and gives what stands before it and behind it; `None` where there is
+// none.
+pub(crate) fn cut_at(bytes: &[u8], byte: u8) -> Option<(&[u8], &[u8])>
+    ensures parts { MatchOption result (slice_split (λ b. b == byte) bytes.now ≡ bytes.now ∷ [])
+        (λ cut. slice_split (λ b. b == byte) bytes.now ≡ cut.0.now ∷ slice_split (λ b. b == byte) cut.1.now) }
+    ensures shorter { IfSome result (λ cut. length cut.1.now < length bytes.now) }
+{
+    let at = place_of(bytes, byte)?;
+    let (before, _) = bytes.split_at(at);
+    let (_, behind) = bytes.split_at(at + 1);
+    Some((before, behind))
+}
+
+// A line without the carriage return at its end.
+pub(crate) fn trim_return(line: &[u8]) -> &[u8]
+    ensures { result.now ≡ without_return line.now }
+{
+    if line.is_empty() {
+        return line;
+    }
+    let last = line.len() - 1;
+    if line[last] != b'\r' {
+        return line;
+    }
+    line.split_at(last).0
+}
+
+/// Takes the first line off a text, without its line feed and the one carriage return before it; `None`
+/// where the text has no line.
+pub fn cut_line(text: &[u8]) -> Option<(&[u8], &[u8])>
+    ensures line { MatchOption result (lines_of text.now ≡ []) (λ cut. lines_of text.now ≡ cut.0.now ∷ lines_of cut.1.now) }
+    ensures shorter { IfSome result (λ cut. length cut.1.now < length text.now) }
+    ensures none { IfNone result (text.now ≡ []) }
+{
+    if text.is_empty() {
+        return None;
+    }
+    if let Some((line, rest)) = cut_at(text, b'\n') {
+        return Some((trim_return(line), rest));
+    }
+    let (line, rest) = text.split_at(text.len());
+    Some((trim_return(line), rest))
+}
+
+// Whether a byte is a space or a tab.
+fn is_gap(byte: u8) -> bool
+    ensures { result ≡ is_gap byte }
+{
+    byte == b' ' || byte == b'\t'
+}
+
+// Where the first gap is.
+pub(crate) fn gap_place(line: &[u8]) -> Option<usize>
+    ensures { result ≡ position is_gap line.now }
+{
+    line.iter().position(|b| is_gap(*b))
+}
+
+// Where the first word begins.
+pub(crate) fn word_place(line: &[u8]) -> Option<usize>
+    ensures { result ≡ position (λ b. not (is_gap b)) line.now }
+{
+    line.iter().position(|b| !is_gap(*b))
+}
+
+/// Whether a line begins with a gap.
+pub fn is_indented(line: &[u8]) -> bool
+    ensures { result ≡ is_indented line.now }
+{
+    line.first().is_some_and(|b| is_gap(*b))
+}
+
+/// Takes the first word off a line; `None` where the line is blank.
+pub fn cut_word(line: &[u8]) -> Option<(&[u8], &[u8])>
+    ensures word { MatchOption result (words_of line.now ≡ []) (λ cut. words_of line.now ≡ cut.0.now ∷ words_of cut.1.now) }
+    ensures shorter { IfSome result (λ cut. length cut.1.now < length line.now) }
+{
+    let start = word_place(line)?;
+    let (_, from) = line.split_at(start);
+    let end = gap_place(from).unwrap_or(from.len());
+    Some(from.split_at(end))
+}

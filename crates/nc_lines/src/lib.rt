@@ -1,0 +1,24 @@
+//! The lines of a text and the words of a line, for configuration files and for sessions alike.
+//!
+//! A file is split into its lines once, without a copy of any; a line is read word by word, and a word as a
+//! number, an address or a prefix. Beside std the crate stands on `nc_types`. Its contract promises that the
+//! lines, the words and the numbers are those of the definitions in `specs/`, which also say which lines
+//! belong to a banner and in which block an indented line stands.
+#![tactic(auto)]
+
+pub mod banner;
+mod block;
+pub mod cut;
+mod lines;
+pub mod numbers;
+pub mod split;
+pub mod statement;
+mod word;
+pub mod words;
+
+pub use block::Block;
+pub use lines::Lines;
+pub use word::Word;
+
+#[cfg(test)]
+mod tests;

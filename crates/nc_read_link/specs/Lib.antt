@@ -1,0 +1,5 @@
+pub mod Interfaces
+pub mod Statics
+pub mod Outcomes
+pub mod Readings
+pub mod Drafts

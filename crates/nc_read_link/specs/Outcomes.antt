@@ -1,0 +1,25 @@
+-- What reading a part of a configuration returns.
+use Rattle.std.specs.Prelude.{◌≡◌, ℕ, Result, Ok, Err}
+use Rattle.std.specs.declared.alloc.Global.{Global}
+use Rattle.std.specs.declared.vec.Vec.{Vec}
+use Rattle.nc_types.specs.declared.fault.Fault.{Fault}
+use Rattle.nc_types.specs.declared.config.Interface.{Interface}
+use Rattle.nc_types.specs.declared.config.StaticRoute.{StaticRoute}
+use Rattle.nc_types.specs.declared.fault.ConfigFault.{ConfigFault}
+use Rattle.nc_types.specs.declared.fault.ConfigFault.TheVariants.{Bad, Memory}
+use Rattle.nc_read_link.specs.Interfaces.{InterfacePart}
+
+-- a fault that was returned is this one, unless memory ran out
+abbrev pub IsFault : {A : Type 0} → ConfigFault → Result A Fault → Type 0
+IsFault (Bad line cause) read = read ≡ Err (record { line = line; cause = cause })
+IsFault Memory read = Unit {0}
+
+-- what was returned is this interface with its lines, or this fault, unless memory ran out
+abbrev pub IsInterface : Result (Interface × Vec ℕ Global) ConfigFault → Result InterfacePart Fault → Type 0
+IsInterface (Ok part) read = read ≡ Ok (record { interface = part.0; lines = part.1.items })
+IsInterface (Err fault) read = IsFault fault read
+
+-- what was returned is this static route, or this fault, unless memory ran out
+abbrev pub IsStatic : Result StaticRoute ConfigFault → Result StaticRoute Fault → Type 0
+IsStatic (Ok route) read = read ≡ Ok route
+IsStatic (Err fault) read = IsFault fault read

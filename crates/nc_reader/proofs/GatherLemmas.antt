@@ -1,0 +1,210 @@
+-- The pass over the lines of a file.
+use Rattle.std.proofs.Common.{◌≡◌, ℕ, zero, suc, ◌+◌, ◌-◌, ◌<◌, ◌≤◌, Bool, true, false, List, [], ◌∷◌, ◌++◌, length, map, get_or, drop, Option, Some, None, refl, sym, ap, ◌∙◌, subst, arith}
+use Rattle.std.specs.Prelude.{All, IfSome}
+use Rattle.std.specs.List.{list_any, position_or_len}
+use Rattle.std.specs.Str.{bytes_eq}
+use Rattle.std.proofs.Math.Seq.{drop-cons}
+use Rattle.std.proofs.lemmas.Cmp.{nat_list_eq_equiv}
+use Rattle.std.proofs.lemmas.List.{append-nil, append_assoc, drop_all, length-map}
+use Rattle.std.proofs.lemmas.List.Elements.{All-nil, All-cons, All-head, All-tail, All-push}
+use Rattle.nc_lines.specs.Lines.{line_at}
+use Rattle.nc_lines.specs.Blocks.{is_open, header_of}
+use Rattle.nc_lines.specs.declared.block.Block.{Block}
+use Rattle.nc_reader.specs.Roles.{Role, Passed, Wrong, Names, Within, Routes, Placed, block_of, role_of, roles_from}
+use Rattle.nc_reader.specs.Groups.{groups}
+use Rattle.nc_reader.specs.Gathering.{IsLine, Gathers, sketch}
+use Rattle.nc_reader.specs.Readings.{lines_in}
+use Rattle.nc_reader.specs.Steps.{Kind, Banner, Idle, Member, Heads, kind_of, Sketch, IsSteady, blank, with_value, put_at, joined, stepped}
+use Rattle.nc_reader.specs.declared.gather.Draft.{Draft}
+use Rattle.nc_reader.specs.declared.gather.Gathered.{Gathered}
+use Rattle.nc_reader.proofs.GroupLemmas.{place_known, place_with_key, known-with_key}
+use Rattle.nc_reader.proofs.KindLemmas.{role_by, open_by, block_by, role_is, open_is, block_is}
+use Rattle.nc_reader.proofs.SeenLemmas.{Sees, within_of, IsBlock, sees_more}
+
+-- what the lines up to a number make
+pub record IsSoFar (lines : List (List ℕ)) (count : ℕ) (s : Sketch) : Type 0 where
+  -- the lines so far, the nearest first, and what each is
+  pub earlier : List (List ℕ)
+  pub seen : List Placed
+  pub behind : length earlier ≡ count
+  pub whole : roles_from [] lines ≡ seen ++ roles_from earlier (drop count lines)
+  pub gathered : Sees seen s
+  pub in_banner : s.in_banner ≡ is_open earlier
+  pub block : IsBlock s.names (block_of earlier) s.block
+  pub steady : IsSteady s
+  pub block_lines : All (All (IsLine lines)) s.blocks
+  pub lines_of_routes : All (IsLine lines) s.routes
+
+-- ---- before the first line
+
+pub begins_blank : (lines : List (List ℕ)) → IsSoFar lines 0 blank
+unfolding roles_from is_open header_of
+begins_blank lines =
+    record {
+      earlier = [];
+      seen = [];
+      behind = refl;
+      whole = refl;
+      gathered = record { name = refl; names = refl; blocks = refl; routes = refl; fault = refl };
+      in_banner = refl;
+      block = refl;
+      steady = record { blocks = refl; block = tt };
+      block_lines = All-nil (All (IsLine lines));
+      lines_of_routes = All-nil (IsLine lines);
+    }
+
+-- ---- one more line
+
+roles_step : (earlier : List (List ℕ)) (line : List ℕ) (later : List (List ℕ)) → roles_from earlier (line ∷ later) ≡ record { line = length earlier + 1; role = role_of earlier line later } ∷ roles_from (line ∷ earlier) later
+unfolding roles_from
+roles_step earlier line later = refl
+
+roles_end : (earlier : List (List ℕ)) → roles_from earlier [] ≡ []
+unfolding roles_from
+roles_end earlier = refl
+
+next_line : (lines : List (List ℕ)) (count : ℕ) → count < length lines → drop count lines ≡ line_at (count + 1) lines ∷ drop (count + 1) lines
+next_line lines count some =
+    let here : count + 1 - 1 ≡ count = omega arith in
+    let next : suc count ≡ count + 1 = omega arith in
+    drop-cons lines count [] some ∙ ap (λ (k : ℕ). get_or lines k [] ∷ drop (suc count) lines) (sym here) ∙ ap (λ (k : ℕ). line_at (count + 1) lines ∷ drop k lines) next
+
+join_open : (line : ℕ) (place : Option ℕ) (s : Sketch) → (joined line place s).in_banner ≡ s.in_banner
+join_open line None s = refl
+join_open line (Some place) s = refl
+
+open_step : (line : ℕ) (kind : Kind) (s : Sketch) → (stepped line kind s).in_banner ≡ open_by kind s.in_banner
+open_step line (Banner in_banner cause) s = refl
+open_step line Idle s = refl
+open_step line Member s = join_open line s.block s
+open_step line (Heads Passed) s = refl
+open_step line (Heads (Wrong cause)) s = refl
+open_step line (Heads (Names name)) s = refl
+open_step line (Heads (Within name)) s = refl
+open_step line (Heads Routes) s = refl
+
+block_join : (line : ℕ) (place : Option ℕ) (s : Sketch) (block : Option (List ℕ)) → IsBlock s.names block s.block → IsBlock (joined line place s).names block (joined line place s).block
+block_join line None s block is = is
+block_join line (Some place) s block is = is
+
+block_step : (line : ℕ) (kind : Kind) (s : Sketch) (block : Option (List ℕ)) → IsBlock s.names block s.block → IsBlock (stepped line kind s).names (block_by kind block) (stepped line kind s).block
+block_step line (Banner in_banner cause) s block is = is
+block_step line Idle s block is = is
+block_step line Member s block is = block_join line s.block s block is
+block_step line (Heads Passed) s block is = refl
+block_step line (Heads (Wrong cause)) s block is = refl
+block_step line (Heads (Names name)) s block is = refl
+block_step line (Heads (Within name)) s block is = (ap (λ (k : ℕ). Some k) (sym (place_with_key nat_list_eq_equiv s.names name)), known-with_key nat_list_eq_equiv s.names name)
+block_step line (Heads Routes) s block is = refl
+
+-- ---- the lines exist
+
+with_value-lines : (P : ℕ → Type 0) (line place : ℕ) (blocks : List (List ℕ)) → P line → All (All P) blocks → All (All P) (with_value line place blocks)
+with_value-lines P line place [] p all = all
+with_value-lines P line zero (b ∷ bs) p all = All-cons (All P) (b ++ line ∷ []) bs (All-push P b line (All-head (All P) b bs all) p) (All-tail (All P) b bs all)
+with_value-lines P line (suc place) (b ∷ bs) p all = All-cons (All P) b (with_value line place bs) (All-head (All P) b bs all) (with_value-lines P line place bs p (All-tail (All P) b bs all))
+
+put_at-lines : (P : ℕ → Type 0) (known : Bool) (line place : ℕ) (blocks : List (List ℕ)) → P line → All (All P) blocks → All (All P) (put_at known line place blocks)
+put_at-lines P true line place blocks p all = with_value-lines P line place blocks p all
+put_at-lines P false line place blocks p all = All-push (All P) blocks (line ∷ []) all (All-cons P line [] p (All-nil P))
+
+join-lines : (P : ℕ → Type 0) (line : ℕ) (place : Option ℕ) (s : Sketch) → P line → All (All P) s.blocks → All (All P) (joined line place s).blocks
+join-lines P line None s p all = all
+join-lines P line (Some place) s p all = with_value-lines P line place s.blocks p all
+
+blocks-lines : (P : ℕ → Type 0) (line : ℕ) (kind : Kind) (s : Sketch) → P line → All (All P) s.blocks → All (All P) (stepped line kind s).blocks
+blocks-lines P line (Banner in_banner cause) s p all = all
+blocks-lines P line Idle s p all = all
+blocks-lines P line Member s p all = join-lines P line s.block s p all
+blocks-lines P line (Heads Passed) s p all = all
+blocks-lines P line (Heads (Wrong cause)) s p all = all
+blocks-lines P line (Heads (Names name)) s p all = all
+blocks-lines P line (Heads (Within name)) s p all = put_at-lines P (list_any (bytes_eq name) s.names) line (position_or_len (bytes_eq name) s.names) s.blocks p all
+blocks-lines P line (Heads Routes) s p all = all
+
+join-routes : (P : ℕ → Type 0) (line : ℕ) (place : Option ℕ) (s : Sketch) → All P s.routes → All P (joined line place s).routes
+join-routes P line None s all = all
+join-routes P line (Some place) s all = all
+
+routes-lines : (P : ℕ → Type 0) (line : ℕ) (kind : Kind) (s : Sketch) → P line → All P s.routes → All P (stepped line kind s).routes
+routes-lines P line (Banner in_banner cause) s p all = all
+routes-lines P line Idle s p all = all
+routes-lines P line Member s p all = join-routes P line s.block s all
+routes-lines P line (Heads Passed) s p all = all
+routes-lines P line (Heads (Wrong cause)) s p all = all
+routes-lines P line (Heads (Names name)) s p all = all
+routes-lines P line (Heads (Within name)) s p all = all
+routes-lines P line (Heads Routes) s p all = All-push P s.routes line all p
+
+-- ---- together
+
+within_blocks : (s : Sketch) (place : Option ℕ) (block : Option (List ℕ)) → IsBlock s.names block place → length s.blocks ≡ length s.names → IfSome place (λ p. p < length s.blocks)
+within_blocks s place None is keyed = subst (λ (o : Option ℕ). IfSome o (λ p. p < length s.blocks)) (sym is) tt
+within_blocks s place (Some name) is keyed =
+    let below = place_known bytes_eq s.names name is.1 in
+    subst (λ (o : Option ℕ). IfSome o (λ p. p < length s.blocks)) (sym is.0) (omega arith)
+
+steady_is : (seen : List Placed) (s : Sketch) (block : Option (List ℕ)) → Sees seen s → IsBlock s.names block s.block → IsSteady s
+steady_is seen s block h is =
+    let keyed : length s.blocks ≡ length s.names = ap length h.blocks ∙ length-map (groups bytes_eq (within_of seen)) (λ g. g.values) ∙ length-map _ _ ∙ sym (ap length h.names) in
+    record { blocks = keyed; block = within_blocks s s.block block is keyed }
+
+more_by : (lines : List (List ℕ)) (count : ℕ) (s : Sketch) (kind : Kind) → count < length lines → (h : IsSoFar lines count s)
+    → role_of h.earlier (line_at (count + 1) lines) (drop (count + 1) lines) ≡ role_by kind (block_of h.earlier)
+    → is_open (line_at (count + 1) lines ∷ h.earlier) ≡ open_by kind (is_open h.earlier)
+    → block_of (line_at (count + 1) lines ∷ h.earlier) ≡ block_by kind (block_of h.earlier)
+    → IsSoFar lines (count + 1) (stepped (count + 1) kind s)
+more_by lines count s kind some h role opens block =
+    let line = line_at (count + 1) lines in
+    let later = drop (count + 1) lines in
+    let r : Placed = record { line = count + 1; role = role_by kind (block_of h.earlier) } in
+    let is_next : IsLine lines (count + 1) = (omega arith, omega arith) in
+    let gathered : Sees (h.seen ++ r ∷ []) (stepped (count + 1) kind s) = sees_more h.seen s (count + 1) kind (block_of h.earlier) h.block h.gathered in
+    let in_block : IsBlock (stepped (count + 1) kind s).names (block_of (line ∷ h.earlier)) (stepped (count + 1) kind s).block =
+    subst (λ (b : Option (List ℕ)). IsBlock (stepped (count + 1) kind s).names b (stepped (count + 1) kind s).block) (sym block) (block_step (count + 1) kind s (block_of h.earlier) h.block) in
+    record {
+      earlier = line ∷ h.earlier;
+      seen = h.seen ++ r ∷ [];
+      behind = ap suc h.behind ∙ omega arith;
+      whole =
+          h.whole ∙ ap (λ (ls : List (List ℕ)). h.seen ++ roles_from h.earlier ls) (next_line lines count some) ∙ ap (λ (rs : List Placed). h.seen ++ rs) (roles_step h.earlier line later)
+          ∙ ap (λ (k : ℕ). h.seen ++ record { line = k + 1; role = role_of h.earlier line later } ∷ roles_from (line ∷ h.earlier) later) h.behind
+          ∙ ap (λ (x : Role). h.seen ++ record { line = count + 1; role = x } ∷ roles_from (line ∷ h.earlier) later) role
+          ∙ sym (append_assoc h.seen (r ∷ []) (roles_from (line ∷ h.earlier) later));
+      gathered = gathered;
+      in_banner = open_step (count + 1) kind s ∙ ap (open_by kind) h.in_banner ∙ sym opens;
+      block = in_block;
+      steady = steady_is (h.seen ++ r ∷ []) (stepped (count + 1) kind s) (block_of (line ∷ h.earlier)) gathered in_block;
+      block_lines = blocks-lines (IsLine lines) (count + 1) kind s is_next h.block_lines;
+      lines_of_routes = routes-lines (IsLine lines) (count + 1) kind s is_next h.lines_of_routes;
+    }
+
+pub one_more : (lines : List (List ℕ)) (count : ℕ) (s : Sketch) → count < length lines → IsSoFar lines count s → IsSoFar lines (count + 1) (stepped (count + 1) (kind_of s.in_banner (line_at (count + 1) lines) (drop (count + 1) lines)) s)
+one_more lines count s some h =
+    let line = line_at (count + 1) lines in
+    let later = drop (count + 1) lines in
+    let kind : kind_of (is_open h.earlier) line later ≡ kind_of s.in_banner line later = ap (λ (b : Bool). kind_of b line later) (sym h.in_banner) in
+    more_by lines count s (kind_of s.in_banner line later) some h
+    (role_is h.earlier line later ∙ ap (λ (k : Kind). role_by k (block_of h.earlier)) kind)
+    (open_is h.earlier line later ∙ ap (λ (k : Kind). open_by k (is_open h.earlier)) kind)
+    (block_is h.earlier line later ∙ ap (λ (k : Kind). block_by k (block_of h.earlier)) kind)
+
+-- ---- behind the last line
+
+All-unmap : {X Y : Type 0} (P : Y → Type 0) (f : X → Y) (xs : List X) → All P (map f xs) → All (λ x. P (f x)) xs
+All-unmap P f [] all = All-nil (λ x. P (f x))
+All-unmap P f (x ∷ xs) all = All-cons (λ x. P (f x)) x xs (All-head P (f x) (map f xs) all) (All-unmap P f xs (All-tail P (f x) (map f xs) all))
+
+pub all_gathered : (lines : List (List ℕ)) (count : ℕ) (d : Draft) (g : Gathered) → length lines ≤ count → IsSoFar lines count (sketch d) → g.name ≡ d.name → g.interfaces ≡ d.blocks → g.routes ≡ d.routes → g.fault ≡ d.fault → Gathers lines g
+all_gathered lines count d g none h name interfaces routes fault =
+    let seen : h.seen ≡ roles_from [] lines =
+    sym (append-nil h.seen) ∙ sym (ap (λ (rs : List Placed). h.seen ++ rs) (roles_end h.earlier)) ∙ sym (ap (λ (ls : List (List ℕ)). h.seen ++ roles_from h.earlier ls) (drop_all count lines none)) ∙ sym h.whole in
+    let sees = subst (λ (rs : List Placed). Sees rs (sketch d)) seen h.gathered in
+    record {
+      name = name ∙ sees.name;
+      interfaces = ap (λ bs. lines_in bs.items) interfaces ∙ sees.blocks;
+      routes = ap (λ rs. rs.items) routes ∙ sees.routes;
+      fault = fault ∙ sees.fault;
+      block_lines = subst (λ bs. All (λ (b : Block). All (IsLine lines) b.lines.items) bs.items) (sym interfaces) (All-unmap (All (IsLine lines)) (λ (b : Block). b.lines.items) d.blocks.items h.block_lines);
+      lines_of_routes = subst (λ rs. All (IsLine lines) rs.items) (sym routes) h.lines_of_routes;
+    }

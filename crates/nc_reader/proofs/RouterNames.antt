@@ -1,0 +1,84 @@
+-- The router's name is that of a line of the file.
+use Rattle.std.proofs.Common.{◌≡◌, ℕ, ◌<◌, ◌≤◌, true, not, ◌&&◌, List, [], ◌∷◌, length, Option, Some, None, ap, subst, arith, inl, inr, codes}
+use Rattle.std.specs.List.{filter_map, list_any}
+use Rattle.std.specs.Option.{option_map_or}
+use Rattle.std.proofs.lemmas.Bool.{cond_both}
+use Rattle.nc_types.specs.WellFormed.{is_name}
+use Rattle.nc_types.specs.declared.fault.Cause.TheVariants.{Syntax, Unsupported}
+use Rattle.nc_lines.specs.Lines.{words_of, is_indented}
+use Rattle.nc_lines.specs.Blocks.{is_idle, begins_banner, has_mark, leaves_open, is_open}
+use Rattle.nc_lines.specs.Statements.{after}
+use Rattle.nc_reader.specs.Roles.{Role, Passed, Wrong, Names, Within, Routes, Placed, hostname_role, interface_role, is_unsupported, read_role, block_of, member_role, role_of, roles_from}
+use Rattle.nc_reader.specs.Configuration.{name_at, name_of}
+use Rattle.nc_reader.proofs.Members.{Has, has_kept, ascends_within}
+use Rattle.nc_reader.proofs.LineOrder.{roles_ascend}
+use Rattle.nc_reader.proofs.Addresses.{last_has}
+
+abbrev IsNamed : Role → Type 0
+IsNamed Passed = Unit {0}
+IsNamed (Wrong cause) = Unit {0}
+IsNamed (Names name) = is_name name ≡ true
+IsNamed (Within name) = Unit {0}
+IsNamed Routes = Unit {0}
+
+hostname_named : (words : List (List ℕ)) → IsNamed (hostname_role words)
+hostname_named [] = tt
+hostname_named (a ∷ []) = cond_both (is_name a) (Names a) (Wrong Syntax) IsNamed (λ e. e) (λ _. tt)
+hostname_named (a ∷ b ∷ words) = tt
+
+interface_named : (words : List (List ℕ)) → IsNamed (interface_role words)
+interface_named [] = tt
+interface_named (a ∷ words) = tt
+
+either_named : (role : List (List ℕ) → Role) (o : Option (List (List ℕ))) (other : Role) → ((words : List (List ℕ)) → IsNamed (role words)) → IsNamed other → IsNamed (option_map_or role o other)
+either_named role None other here there = there
+either_named role (Some words) other here there = here words
+
+read_named : (words : List (List ℕ)) → IsNamed (read_role words)
+unfolding read_role
+read_named words =
+    either_named hostname_role (after (codes "hostname" ∷ []) words) _ hostname_named
+    (either_named interface_role (after (codes "interface" ∷ []) words) _ interface_named
+    (either_named (λ rest. Routes) (after (codes "ip" ∷ codes "route" ∷ []) words) Passed (λ _. tt) tt))
+
+member_named : (o : Option (List ℕ)) → IsNamed (member_role o)
+member_named None = tt
+member_named (Some name) = tt
+
+role_named : (earlier : List (List ℕ)) (line : List ℕ) (later : List (List ℕ)) → IsNamed (role_of earlier line later)
+unfolding role_of
+role_named earlier line later =
+    cond_both (is_open earlier) _ _ IsNamed (λ _. tt)
+    (λ _. cond_both (begins_banner line) _ _ IsNamed
+    (λ _. cond_both (not (has_mark line)) _ _ IsNamed (λ _. tt)
+    (λ _. cond_both (leaves_open line && not (list_any has_mark later)) (Wrong Syntax) Passed IsNamed (λ _. tt) (λ _. tt)))
+    (λ _. cond_both (is_idle (words_of line)) _ _ IsNamed (λ _. tt)
+    (λ _. cond_both (is_indented line) _ _ IsNamed (λ _. member_named (block_of earlier))
+    (λ _. cond_both (is_unsupported (words_of line)) (Wrong Unsupported) (read_role (words_of line)) IsNamed (λ _. tt) (λ _. read_named (words_of line))))))
+
+roles_named : (earlier lines : List (List ℕ)) (r : Placed) → Has (roles_from earlier lines) r → IsNamed r.role
+unfolding roles_from
+roles_named earlier [] r h = absurd h
+roles_named earlier (line ∷ later) r (inl e) = subst IsNamed (ap (λ (r : Placed). r.role) e) (role_named earlier line later)
+roles_named earlier (line ∷ later) r (inr h) = roles_named (line ∷ earlier) later r h
+
+name_is : (line : ℕ) (role : Role) (name : ℕ × List ℕ) → IsNamed role → name_at line role ≡ Some name → (is_name name.1 ≡ true) × (line ≡ name.0)
+name_is line Passed name is e = absurd cc
+name_is line (Wrong cause) name is e = absurd cc
+name_is line (Names a) name is e =
+    let same : (line, a) ≡ name = cc in
+    (subst (λ (n : ℕ × List ℕ). is_name n.1 ≡ true) same is, ap (λ (n : ℕ × List ℕ). n.0) same)
+name_is line (Within a) name is e = absurd cc
+name_is line Routes name is e = absurd cc
+
+pub router_named : (lines : List (List ℕ)) (name : ℕ × List ℕ) → name_of (roles_from [] lines) ≡ Some name → (is_name name.1 ≡ true) × (0 < name.0) × (name.0 ≤ length lines)
+router_named lines name e =
+    let rs = roles_from [] lines in
+    elim (last_has None (filter_map (λ (r : Placed). name_at r.line r.role) rs) name e) [
+      | inl never ↦ absurd cc
+      | inr h ↦
+          let at = has_kept (λ (r : Placed). name_at r.line r.role) rs name h in
+          let is = name_is at.0.line at.0.role name (roles_named [] lines at.0 at.1) at.2 in
+          let within = ascends_within (λ (r : Placed). r.line) 0 (length lines) rs (roles_ascend [] lines (length lines) (omega arith)) at.0 at.1 in
+          (is.0, omega (arith, within.0, is.1), omega (arith, within.1, is.1))
+    ]

@@ -1,0 +1,106 @@
+-- What is gathered of the lines so far, and what one more line makes of it.
+use Rattle.std.specs.Prelude.{◌≡◌, ◌<◌, ℕ, zero, suc, Bool, true, false, not, ◌&&◌, List, [], ◌∷◌, ◌++◌, length, Option, Some, None, IfSome, if◌then◌else◌}
+use Rattle.std.specs.List.{list_any, position_or_len}
+use Rattle.std.specs.Option.{option_map_or}
+use Rattle.std.specs.Str.{bytes_eq}
+use Rattle.nc_types.specs.Faults.{lower}
+use Rattle.nc_types.specs.declared.fault.Fault.{Fault}
+use Rattle.nc_types.specs.declared.fault.Cause.{Cause}
+use Rattle.nc_types.specs.declared.fault.Cause.TheVariants.{Syntax, Unsupported}
+use Rattle.nc_lines.specs.Lines.{words_of, is_indented}
+use Rattle.nc_lines.specs.Blocks.{is_idle, begins_banner, has_mark, leaves_open}
+use Rattle.nc_reader.specs.Groups.{with_key}
+use Rattle.nc_reader.specs.Roles.{Role, Passed, Wrong, Names, Within, Routes, header_role}
+
+-- ---- one line
+
+-- what a line is, but for the block in which it stands
+pub data Kind : Type 0 where
+  -- a line of a banner, which is open behind it or isn't, and what is wrong with it
+  Banner : Bool → Option Cause → Kind
+  -- a blank line or a comment
+  Idle : Kind
+  -- an indented line
+  Member : Kind
+  -- an unindented statement
+  Heads : Role → Kind
+
+-- what is wrong with the first line of a banner
+abbrev pub banner_fault : List ℕ → List (List ℕ) → Option Cause
+banner_fault line later =
+    if not (has_mark line) then Some Unsupported else (if leaves_open line && not (list_any has_mark later) then Some Syntax else None)
+
+-- what a line is, given whether a banner is open and the lines behind it
+unfoldable pub kind_of : Bool → List ℕ → List (List ℕ) → Kind
+kind_of in_banner line later =
+    if in_banner then Banner (not (has_mark line)) None
+    else (if begins_banner line then Banner (leaves_open line) (banner_fault line later)
+    else (if is_idle (words_of line) then Idle
+    else (if is_indented line then Member else Heads (header_role (words_of line)))))
+
+-- ---- what is gathered
+
+pub record Sketch : Type 0 where
+  pub name : Option (ℕ × List ℕ)
+  -- the names of interfaces, and the lines of the blocks of each
+  pub names : List (List ℕ)
+  pub blocks : List (List ℕ)
+  pub routes : List ℕ
+  pub fault : Option Fault
+  -- whether a banner is open, and the place of the interface in whose block an indented line would stand
+  pub in_banner : Bool
+  pub block : Option ℕ
+
+abbrev pub blank : Sketch
+blank = record { name = None; names = []; blocks = []; routes = []; fault = None; in_banner = false; block = None }
+
+-- each name has a block, and so has the interface of an indented line
+pub record IsSteady (s : Sketch) : Type 0 where
+  pub blocks : length s.blocks ≡ length s.names
+  pub block : IfSome s.block (λ place. place < length s.blocks)
+
+-- a list that is changed at one place
+abbrev pub changed_at : {X : Type 0} → (X → X) → ℕ → List X → List X
+changed_at f place [] = []
+changed_at f zero (x ∷ xs) = f x ∷ xs
+changed_at f (suc place) (x ∷ xs) = x ∷ changed_at f place xs
+
+-- one more value in the group at a place
+abbrev pub with_value : {V : Type 0} → V → ℕ → List (List V) → List (List V)
+with_value value place groups = changed_at (λ values. values ++ value ∷ []) place groups
+
+-- one more value of a key that has a group at a place, or has none yet
+abbrev pub put_at : {V : Type 0} → Bool → V → ℕ → List (List V) → List (List V)
+put_at true value place groups = with_value value place groups
+put_at false value place groups = groups ++ (value ∷ []) ∷ []
+
+-- one more fault, of which the lower one is told
+abbrev pub with_fault : ℕ → Option Cause → Option Fault → Option Fault
+with_fault line None known = known
+with_fault line (Some cause) known = Some (option_map_or (λ f. lower f (record { line = line; cause = cause })) known (record { line = line; cause = cause }))
+
+-- an unindented statement
+abbrev pub headed : ℕ → Role → Sketch → Sketch
+headed line Passed s = record s { block = None }
+headed line (Wrong cause) s = record s { fault = with_fault line (Some cause) s.fault; block = None }
+headed line (Names name) s = record s { name = Some (line, name); block = None }
+headed line (Within name) s =
+    let place = position_or_len (bytes_eq name) s.names in
+    record s {
+      names = with_key bytes_eq s.names name;
+      blocks = put_at (list_any (bytes_eq name) s.names) line place s.blocks;
+      block = Some place;
+    }
+headed line Routes s = record s { routes = s.routes ++ line ∷ []; block = None }
+
+-- an indented line, in the block at this place or in none
+abbrev pub joined : ℕ → Option ℕ → Sketch → Sketch
+joined line None s = s
+joined line (Some place) s = record s { blocks = with_value line place s.blocks }
+
+-- one more line
+abbrev pub stepped : ℕ → Kind → Sketch → Sketch
+stepped line (Banner in_banner cause) s = record s { fault = with_fault line cause s.fault; in_banner = in_banner }
+stepped line Idle s = s
+stepped line Member s = joined line s.block s
+stepped line (Heads role) s = headed line role s

@@ -1,0 +1,154 @@
+//! One pass over the lines of a file, which gathers those that speak of one thing.
+
+ghost use Rattle.std.specs.Prelude.{◌≡◌, ◌<◌, ◌≤◌, drop, length, OnOk, IfOk};
+ghost use Rattle.nc_reader.specs.Gathering.{Gathers, sketch};
+ghost use Rattle.nc_reader.specs.Readings.{role_of_header};
+ghost use Rattle.nc_reader.specs.Steps.{Banner, Member, IsSteady, blank, with_fault, headed, stepped, kind_of};
+ghost use Rattle.nc_lines.specs.Lines.{line_at};
+
+use crate::groups::{add, put};
+use crate::header::Header;
+use crate::role::{Role, read_role};
+use indexmap::IndexSet;
+use nc_lines::{Block, Lines};
+use nc_types::{Cause, Fault, Text};
+use std::alloc::{AllocError, Global};
+
+/// What the lines of a file say, before the things that they speak of are made.
+#[derive(Drop)]
+pub(crate) struct Gathered {
+    /// The line of the name in force, and the name.
+    pub(crate) name: Option<(u32, Text)>,
+    /// The lines of the blocks of each interface, in order of first mention.
+    pub(crate) interfaces: Vec<Block>,
+    /// The lines of static routes.
+    pub(crate) routes: Vec<u32>,
+    /// The lowest line that is wrong by itself.
+    pub(crate) fault: Option<Fault>,
+}
+
+// The lower of a known fault and that of a line, where there are any.
+fn with_fault(known: Option<Fault>, line: u32, cause: Option<Cause>) -> Option<Fault>
+    ensures { result ≡ with_fault line cause known }
+{
+    let Some(cause) = cause else {
+        return known;
+    };
+    if let Some(fault) = known {
+        if fault.line <= line {
+            return Some(fault);
+        }
+    }
+    Some(Fault { line, cause })
+}
+
+// What the lines so far say.
+#[derive(Drop)]
+struct Draft {
+    name: Option<(u32, Text)>,
+    // The names of interfaces, and the block of each.
+    names: IndexSet<Text>,
+    blocks: Vec<Block>,
+    routes: Vec<u32>,
+    fault: Option<Fault>,
+    in_banner: bool,
+    // The place of the interface in whose block an indented line would stand.
+    block: Option<usize>,
+}
+
+impl Draft {
+    // What no line says.
+    fn new(alloc: Global) -> Draft
+        ensures { sketch result ≡ blank }
+    {
+        Draft {
+            name: None,
+            names: IndexSet::new(alloc),
+            blocks: Vec::new(alloc),
+            routes: Vec::new(alloc),
+            fault: None,
+            in_banner: false,
+            block: None,
+        }
+    }
+
+    // A line of a banner.
+    fn pass(&mut self, line: u32, in_banner: bool, cause: Option<Cause>)
+        ensures { sketch self.new ≡ stepped line (Banner in_banner cause) (sketch self.old) }
+    {
+        self.fault = with_fault(self.fault, line, cause);
+        self.in_banner = in_banner;
+    }
+
+    // An indented line.
+    fn join(&mut self, line: u32) -> Result<(), AllocError>
+        requires { IsSteady (sketch self.old) }
+        ensures { OnOk result (sketch self.new ≡ stepped line Member (sketch self.old)) }
+    {
+        if let Some(place) = self.block {
+            add(&mut self.blocks, place, line)?;
+        }
+        Ok(())
+    }
+
+    // An unindented statement.
+    fn head(&mut self, alloc: Global, line: u32, header: Header<'_>) -> Result<(), AllocError>
+        requires { IsSteady (sketch self.old) }
+        ensures { OnOk result (sketch self.new ≡ headed line (role_of_header header.entry) (sketch self.old)) }
+    {
+        match header {
+            Header::Passed => self.block = None,
+            Header::Wrong(cause) => {
+                self.fault = with_fault(self.fault, line, Some(cause));
+                self.block = None;
+            }
+            Header::Names(name) => {
+                self.name = Some((line, Text::new(alloc, name)?));
+                self.block = None;
+            }
+            Header::Opens(name) => {
+                let place = put(alloc, &mut self.names, &mut self.blocks, name, line)?;
+                self.block = Some(place);
+            }
+            Header::Routes => {
+                self.routes.push(line)?;
+                self.block = None;
+            }
+        }
+        Ok(())
+    }
+
+    // The line of a number.
+    fn take(&mut self, alloc: Global, lines: &Lines, number: u32) -> Result<(), AllocError>
+        requires steady { IsSteady (sketch self.old) }
+        requires first { 0 < number }
+        requires last { number ≤ length lines.now }
+        ensures { OnOk result (sketch self.new ≡ stepped number (kind_of (sketch self.old).in_banner (line_at number lines.now) (drop number lines.now)) (sketch self.old)) }
+    {
+        match read_role(lines, number, self.in_banner) {
+            Role::Banner(in_banner, cause) => {
+                self.pass(number, in_banner, cause);
+                Ok(())
+            }
+            Role::Idle => Ok(()),
+            Role::Member => self.join(number),
+            Role::Heads(header) => self.head(alloc, number, header),
+        }
+    }
+}
+
+/// Gathers the lines of a file.
+pub(crate) fn gather(alloc: Global, lines: &Lines) -> Result<Gathered, AllocError>
+    ensures { IfOk result (Gathers lines.now) }
+{
+    let mut draft = Draft::new(alloc);
+    for above in 0..lines.count() {
+        draft.take(alloc, lines, above + 1)?;
+    }
+    Ok(Gathered {
+        name: draft.name,
+        interfaces: draft.blocks,
+        routes: draft.routes,
+        fault: draft.fault,
+    })
+}

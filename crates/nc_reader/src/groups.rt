@@ -1,0 +1,63 @@
+//! The lines of the blocks of each interface, by its name.
+
+ghost use Rattle.std.specs.Prelude.{◌≡◌, ◌<◌, ◌∷◌, ◌++◌, [], length, vec_len, OnOk, IfOk};
+ghost use Rattle.std.specs.List.{list_any, position_or_len};
+ghost use Rattle.std.specs.Str.{bytes_eq};
+ghost use Rattle.nc_reader.specs.Groups.{with_key};
+ghost use Rattle.nc_reader.specs.Readings.{lines_in};
+ghost use Rattle.nc_reader.specs.Steps.{with_value, put_at};
+
+use indexmap::IndexSet;
+use nc_lines::Block;
+use nc_types::Text;
+use std::alloc::{AllocError, Global};
+
+// A block of one line.
+fn make_block(alloc: Global, line: u32) -> Result<Block, AllocError>
+    ensures { IfOk result (λ block. block.lines.items ≡ line ∷ []) }
+{
+    let mut lines = Vec::new(alloc);
+    lines.push(line)?;
+    Ok(Block { lines })
+}
+
+/// Adds a line to the block at a place.
+pub(crate) fn add(blocks: &mut Vec<Block>, place: usize, line: u32) -> Result<(), AllocError>
+    requires { place < vec_len blocks.old }
+    ensures { OnOk result (lines_in blocks.new.items ≡ with_value line place (lines_in blocks.old.items)) }
+{
+    let block = &mut blocks[place];
+    block.lines.push(line)?;
+    Ok(())
+}
+
+// Adds a block of one line.
+fn begin(alloc: Global, blocks: &mut Vec<Block>, line: u32) -> Result<(), AllocError>
+    ensures { OnOk result (lines_in blocks.new.items ≡ lines_in blocks.old.items ++ (line ∷ []) ∷ []) }
+{
+    blocks.push(make_block(alloc, line)?)?;
+    Ok(())
+}
+
+/// Adds a line to the block of a name, which is made where the name has none, and tells the name's place.
+pub(crate) fn put(
+    alloc: Global,
+    names: &mut IndexSet<Text>,
+    blocks: &mut Vec<Block>,
+    name: &[u8],
+    line: u32,
+) -> Result<usize, AllocError>
+    requires { vec_len blocks.old ≡ length names.old.keys }
+    ensures names { OnOk result (names.new.keys ≡ with_key bytes_eq names.old.keys name.now) }
+    ensures blocks { OnOk result (lines_in blocks.new.items
+        ≡ put_at (list_any (bytes_eq name.now) names.old.keys) line (position_or_len (bytes_eq name.now) names.old.keys) (lines_in blocks.old.items)) }
+    ensures place { IfOk result (λ place. place ≡ position_or_len (bytes_eq name.now) names.old.keys) }
+{
+    let (place, is_new) = names.insert_full(Text::new(alloc, name)?)?;
+    if is_new {
+        begin(alloc, blocks, line)?;
+    } else {
+        add(blocks, place, line)?;
+    }
+    Ok(place)
+}

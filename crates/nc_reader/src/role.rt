@@ -1,0 +1,87 @@
+//! What each line of a file is, but for the block in which it stands.
+
+ghost use Rattle.std.specs.Prelude.{◌≡◌, ◌<◌, ◌≤◌, not, ◌&&◌, length, drop};
+ghost use Rattle.std.specs.List.{list_any};
+ghost use Rattle.nc_lines.specs.Lines.{line_at};
+ghost use Rattle.nc_lines.specs.Blocks.{has_mark, leaves_open};
+ghost use Rattle.nc_reader.specs.Readings.{kind_of_role};
+ghost use Rattle.nc_reader.specs.Steps.{banner_fault, kind_of};
+
+use crate::header::{Header, read_header};
+use nc_lines::Lines;
+use nc_lines::banner::{begins_banner, has_mark, is_idle, leaves_open};
+use nc_lines::cut::is_indented;
+use nc_types::Cause;
+
+/// What a line is.
+#[derive(Clone, Copy)]
+pub(crate) enum Role<'a> {
+    /// A line of a banner: whether it is open behind the line, and what is wrong.
+    Banner(bool, Option<Cause>),
+    /// A blank line or a comment.
+    Idle,
+    /// An indented line.
+    Member,
+    /// An unindented statement.
+    Heads(Header<'a>),
+}
+
+// Whether a line behind this one has a mark.
+fn closes_later(lines: &Lines, number: u32) -> bool
+    requires { number ≤ length lines.now }
+    ensures { result ≡ list_any has_mark (drop number lines.now) }
+{
+    for behind in number..lines.count() {
+        if has_mark(lines.line(behind + 1)) {
+            return true;
+        }
+    }
+    false
+}
+
+// Whether the banner that begins in a line is never closed.
+fn stays_open(lines: &Lines, number: u32) -> bool
+    requires first { 0 < number }
+    requires last { number ≤ length lines.now }
+    ensures { result ≡ (leaves_open (line_at number lines.now) && not (list_any has_mark (drop number lines.now))) }
+{
+    leaves_open(lines.line(number)) && !closes_later(lines, number)
+}
+
+// What is wrong with the first line of a banner.
+fn banner_fault(lines: &Lines, number: u32) -> Option<Cause>
+    requires first { 0 < number }
+    requires last { number ≤ length lines.now }
+    ensures { result ≡ banner_fault (line_at number lines.now) (drop number lines.now) }
+{
+    if !has_mark(lines.line(number)) {
+        return Some(Cause::Unsupported);
+    }
+    if stays_open(lines, number) {
+        return Some(Cause::Syntax);
+    }
+    None
+}
+
+/// What the line of a number is, where a banner is open or isn't.
+#[tactic(auto, unfolding(crate::specs::Steps::kind_of))]
+pub(crate) fn read_role(lines: &Lines, number: u32, in_banner: bool) -> Role<'_>
+    requires first { 0 < number }
+    requires last { number ≤ length lines.now }
+    ensures { kind_of_role result ≡ kind_of in_banner (line_at number lines.now) (drop number lines.now) }
+{
+    let line = lines.line(number);
+    if in_banner {
+        return Role::Banner(!has_mark(line), None);
+    }
+    if begins_banner(line) {
+        return Role::Banner(leaves_open(line), banner_fault(lines, number));
+    }
+    if is_idle(line) {
+        return Role::Idle;
+    }
+    if is_indented(line) {
+        return Role::Member;
+    }
+    Role::Heads(read_header(line))
+}
