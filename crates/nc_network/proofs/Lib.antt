@@ -1,0 +1,9 @@
+pub mod ClashOrder
+pub mod Clashes
+pub mod Walks
+pub mod Known
+pub mod Undefined
+pub mod Counted
+pub mod HeadLemmas
+pub mod OverlapLemmas
+pub mod OverlapTotals

@@ -1,0 +1,6 @@
+use Rattle.std.proofs.Common.{map, drop}
+use Rattle.nc_network.proofs.Counted.{IsLeft}
+use Rattle.nc_network.proofs.limits.add_networks.Given as goal
+
+abbrev pub invariant-items : goal.invariant-items
+invariant-items l = IsLeft l.initial.seen.keys l.seen.keys (drop l.item-index (map (λ s. s.prefix) l.networks)) (map (λ s. s.prefix) l.networks)

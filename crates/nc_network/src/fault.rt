@@ -1,0 +1,73 @@
+// Why several configurations make no network.
+
+ghost use Rattle.nc_network.specs.declared.fault.JoinFault.TheVariants.{Memory as OutOfMemory};
+ghost use Rattle.std.specs.Prelude.{◌≡◌};
+
+use nc_types::RouterId;
+use std::alloc::{AllocError, AllocFailed};
+use thiserror::Error;
+
+/// What there may be no more than 1,024 of, over all files.
+#[derive(Clone, Copy, Debug, PartialEq, Eq)]
+pub enum LimitWord {
+    /// Distinct prefixes: of interfaces that have an address, of static routes, of networks and of aggregates.
+    Prefixes,
+    /// Neighbors of BGP processes.
+    Neighbours,
+}
+
+/// Why several configurations make no network. Routers are told by the places of their files, from 0.
+#[derive(Clone, Copy, Debug, PartialEq, Eq, Error)]
+pub enum JoinFault {
+    /// Two routers have one name.
+    #[error("two routers of one name")]
+    SameName {
+        first: RouterId,
+        second: RouterId,
+    },
+    /// Two interfaces of one router that are up, whose prefixes overlap, by the lines of their addresses.
+    #[error("the prefixes of lines {first} and {second} overlap")]
+    Overlap {
+        router: RouterId,
+        first: u32,
+        second: u32,
+    },
+    /// Interfaces of two routers that are up and have one address, by the lines of their addresses.
+    #[error("lines {first_line} and {second_line} of two routers have one address")]
+    SameAddress {
+        first: RouterId,
+        first_line: u32,
+        second: RouterId,
+        second_line: u32,
+    },
+    /// A statement that refers to an interface, a route map or a prefix list which its router doesn't define.
+    #[error("line {line} refers to what isn't defined")]
+    Undefined {
+        router: RouterId,
+        line: u32,
+    },
+    /// More than 1,024 of something.
+    #[error("too many prefixes or neighbors")]
+    Limit {
+        which: LimitWord,
+    },
+    /// No memory was found.
+    #[error("out of memory")]
+    Memory,
+}
+
+impl From<AllocError> for JoinFault {
+    ghost from_gives = { λ _ e. e ≡ OutOfMemory };
+
+    fn from(_error: AllocError) -> JoinFault {
+        JoinFault::Memory
+    }
+}
+
+impl<T: Drop> From<AllocFailed<T>> for JoinFault {
+    ghost from_gives = { λ _ e. e ≡ OutOfMemory };
+
+    fn from(_failed: AllocFailed<T>) -> JoinFault {
+        JoinFault::Memory
+    }
+}

@@ -1,0 +1,244 @@
+//! References to what a router doesn't define.
+
+ghost use Rattle.std.specs.Prelude.{◌≡◌, ◌≤◌, ℕ, length, map, IfOk};
+ghost use Rattle.std.specs.List.{flat_map};
+ghost use Rattle.std.specs.Option.{option_to_list};
+ghost use Rattle.nc_types.specs.Config.{clause_view, config_view};
+ghost use Rattle.nc_types.specs.Joining.{Numbered, earliest, interface_by, undefined, undefined_by, undefined_in};
+ghost use Rattle.nc_network.specs.Steps.{merge, first_of_all, undefined_interfaces, undefined_maps, undefined_lists};
+
+use crate::clash::{LinePair, earlier_of};
+use crate::defined::{interface_names, list_names, map_names};
+use indexmap::IndexSet;
+use nc_types::{Clause, Neighbor, Reference, RouterConfig, StaticRoute, Text, Via};
+use std::alloc::{AllocError, Global};
+
+// Looks a reference up.
+fn check(
+    router: u32,
+    names: &IndexSet<Text>,
+    reference: &Reference,
+    found: Option<LinePair>,
+) -> Option<LinePair>
+    ensures { result ≡ merge found (earliest (undefined_by router names.now.keys reference.now)) }
+{
+    if names.contains(&reference.name) {
+        found
+    } else {
+        earlier_of(
+            found,
+            LinePair {
+                first: router,
+                first_line: reference.line,
+                second: 0,
+                second_line: 0,
+            },
+        )
+    }
+}
+
+// Looks a reference up where there is one.
+fn check_some(
+    router: u32,
+    names: &IndexSet<Text>,
+    reference: &Option<Reference>,
+    found: Option<LinePair>,
+) -> Option<LinePair>
+    ensures { result ≡ merge found (first_of_all (undefined_by router names.now.keys) (option_to_list reference.now)) }
+{
+    match reference {
+        None => found,
+        Some(reference) => check(router, names, reference, found),
+    }
+}
+
+// Looks up all references.
+fn check_each(
+    router: u32,
+    names: &IndexSet<Text>,
+    references: &[Reference],
+    found: Option<LinePair>,
+) -> Option<LinePair>
+    ensures { result ≡ merge found (first_of_all (undefined_by router names.now.keys) references.now) }
+{
+    let mut found = found;
+    'references: for reference in references {
+        found = check(router, names, reference, found);
+    }
+    found
+}
+
+// Looks up the interface that a static route leads through.
+fn check_via(
+    router: u32,
+    names: &IndexSet<Text>,
+    route: &StaticRoute,
+    found: Option<LinePair>,
+) -> Option<LinePair>
+    ensures { result ≡ merge found (first_of_all (undefined_by router names.now.keys) (option_to_list (interface_by route.now.via))) }
+{
+    match &route.via {
+        Via::Through(reference, _) => check(router, names, reference, found),
+        Via::Null | Via::Hop(_) => found,
+    }
+}
+
+// Looks up the interfaces of static routes.
+fn check_statics(
+    router: u32,
+    names: &IndexSet<Text>,
+    statics: &[StaticRoute],
+    found: Option<LinePair>,
+) -> Option<LinePair>
+    ensures { result ≡ merge found (first_of_all (λ s. flat_map (undefined_by router names.now.keys) (option_to_list (interface_by s.via))) statics.now) }
+{
+    let mut found = found;
+    'statics: for route in statics {
+        found = check_via(router, names, route, found);
+    }
+    found
+}
+
+// Looks up the interfaces that sessions start from.
+fn check_sources(
+    router: u32,
+    names: &IndexSet<Text>,
+    neighbors: &[Neighbor],
+    found: Option<LinePair>,
+) -> Option<LinePair>
+    ensures { result ≡ merge found (first_of_all (λ n. flat_map (undefined_by router names.now.keys) (option_to_list n.source)) neighbors.now) }
+{
+    let mut found = found;
+    'neighbors: for neighbor in neighbors {
+        found = check_some(router, names, &neighbor.source, found);
+    }
+    found
+}
+
+// Looks up the route maps for what neighbors send.
+fn check_in(
+    router: u32,
+    names: &IndexSet<Text>,
+    neighbors: &[Neighbor],
+    found: Option<LinePair>,
+) -> Option<LinePair>
+    ensures { result ≡ merge found (first_of_all (λ n. flat_map (undefined_by router names.now.keys) (option_to_list n.map_in)) neighbors.now) }
+{
+    let mut found = found;
+    'neighbors: for neighbor in neighbors {
+        found = check_some(router, names, &neighbor.map_in, found);
+    }
+    found
+}
+
+// Looks up the route maps for what is sent to neighbors.
+fn check_out(
+    router: u32,
+    names: &IndexSet<Text>,
+    neighbors: &[Neighbor],
+    found: Option<LinePair>,
+) -> Option<LinePair>
+    ensures { result ≡ merge found (first_of_all (λ n. flat_map (undefined_by router names.now.keys) (option_to_list n.map_out)) neighbors.now) }
+{
+    let mut found = found;
+    'neighbors: for neighbor in neighbors {
+        found = check_some(router, names, &neighbor.map_out, found);
+    }
+    found
+}
+
+// Looks up the prefix lists of clauses.
+fn check_clauses(
+    router: u32,
+    names: &IndexSet<Text>,
+    clauses: &[Clause],
+    found: Option<LinePair>,
+) -> Option<LinePair>
+    ensures { result ≡ merge found (first_of_all (λ k. flat_map (undefined_by router names.now.keys) k.lists) (map clause_view clauses.now)) }
+{
+    let mut found = found;
+    'clauses: for clause in clauses {
+        found = check_each(router, names, &clause.lists, found);
+    }
+    found
+}
+
+// The interfaces that a router refers to.
+fn check_interfaces(
+    alloc: Global,
+    router: u32,
+    config: &RouterConfig,
+    found: Option<LinePair>,
+) -> Result<Option<LinePair>, AllocError>
+    ensures { IfOk result (λ r. r ≡ merge found (earliest (undefined_interfaces (record { router = router; config = config_view config.now })))) }
+{
+    let names = interface_names(alloc, &config.interfaces)?;
+    let found = check_statics(router, &names, &config.statics, found);
+    match &config.process {
+        None => Ok(found),
+        Some(process) => Ok(check_sources(router, &names, &process.neighbors, found)),
+    }
+}
+
+// The route maps that a router refers to.
+fn check_maps(
+    alloc: Global,
+    router: u32,
+    config: &RouterConfig,
+    found: Option<LinePair>,
+) -> Result<Option<LinePair>, AllocError>
+    ensures { IfOk result (λ r. r ≡ merge found (earliest (undefined_maps (record { router = router; config = config_view config.now })))) }
+{
+    let names = map_names(alloc, &config.clauses)?;
+    match &config.process {
+        None => Ok(found),
+        Some(process) => {
+            let found = check_in(router, &names, &process.neighbors, found);
+            Ok(check_out(router, &names, &process.neighbors, found))
+        }
+    }
+}
+
+// The prefix lists that a router refers to.
+fn check_lists(
+    alloc: Global,
+    router: u32,
+    config: &RouterConfig,
+    found: Option<LinePair>,
+) -> Result<Option<LinePair>, AllocError>
+    ensures { IfOk result (λ r. r ≡ merge found (earliest (undefined_lists (record { router = router; config = config_view config.now })))) }
+{
+    let names = list_names(alloc, &config.lists)?;
+    let found = check_clauses(router, &names, &config.clauses, found);
+    Ok(found)
+}
+
+// All that a router refers to.
+fn check_router(
+    alloc: Global,
+    router: u32,
+    config: &RouterConfig,
+    found: Option<LinePair>,
+) -> Result<Option<LinePair>, AllocError>
+    ensures { IfOk result (λ r. r ≡ merge found (earliest (undefined_in (record { router = router; config = config_view config.now })))) }
+{
+    let found = check_interfaces(alloc, router, config, found)?;
+    let found = check_maps(alloc, router, config, found)?;
+    let found = check_lists(alloc, router, config, found)?;
+    Ok(found)
+}
+
+/// The earliest line that refers to what its router doesn't define.
+pub(crate) fn reference_clash(
+    alloc: Global,
+    routers: &[RouterConfig],
+) -> Result<Option<LinePair>, AllocError>
+    requires { length routers.now ≤ 256 }
+    ensures { IfOk result (λ r. r ≡ earliest (undefined (map config_view routers.now))) }
+{
+    let mut found = None;
+    'routers: for (router, config) in routers.iter().enumerate() {
+        found = check_router(alloc, router as u32, config, found)?;
+    }
+    Ok(found)
+}
