@@ -1,0 +1,15 @@
+//! The base tables of a network.
+//!
+//! Of each router its connected routes and the static routes that can be used, of each prefix those of the least
+//! distance, in order. The crate stands on `nc_types` for the network and on `nc_tables` for the tables and for
+//! the definition of what stands in them. Its contract promises exactly these tables.
+#![tactic(auto)]
+
+mod candidates;
+mod nearest;
+mod tables;
+
+pub use tables::base_tables;
+
+#[cfg(test)]
+mod tests;

@@ -1,0 +1,14 @@
+pub mod Order
+pub mod Base
+pub mod Longest
+pub mod Reach
+pub mod Sessions
+pub mod Policy
+pub mod Choice
+pub mod Rounds
+pub mod Main
+pub mod Forwarding
+pub mod Cases
+pub mod CaseStatics
+pub mod CaseRoutes
+pub mod CasePolicy

@@ -1,0 +1,110 @@
+-- Tests over numbers that follow one another.
+use Rattle.std.proofs.Common.{◌≡◌, ℕ, zero, suc, ◌+◌, ◌-◌, ◌<◌, ◌≤◌, Bool, true, false, cond, ◌&&◌, ◌||◌, List, [], ◌∷◌, ◌++◌, get_or, length, refl, sym, ap, ◌∙◌, arith}
+use Rattle.std.specs.List.{list_any, range_with_len, filter}
+use Rattle.std.proofs.lemmas.List.Folds.{list_any-append, list_any_at}
+use Rattle.std.proofs.lemmas.List.FromFn.{length-range_with_len, get_or-range_with_len}
+use Rattle.nc_underlay.specs.Levels.{flag, any_flagged}
+
+-- ---- truth values
+
+-- two tests of which each passes where the other does
+pub same_truth : (a b : Bool) → (a ≡ true → b ≡ true) → (b ≡ true → a ≡ true) → a ≡ b
+same_truth true b f g = sym (f refl)
+same_truth false true f g = g refl
+same_truth false false f g = refl
+
+pub both : (a b : Bool) → a ≡ true → b ≡ true → (a && b) ≡ true
+both true b e f = f
+both false b e f = absurd cc
+
+pub first_of : (a b : Bool) → (a && b) ≡ true → a ≡ true
+first_of true b e = refl
+first_of false b e = absurd cc
+
+pub second_of : (a b : Bool) → (a && b) ≡ true → b ≡ true
+second_of true b e = e
+second_of false b e = absurd cc
+
+pub or_right : (a b : Bool) → b ≡ true → (a || b) ≡ true
+or_right true b e = refl
+or_right false b e = e
+
+pub or_left : (a b : Bool) → a ≡ true → (a || b) ≡ true
+or_left true b e = refl
+or_left false b e = absurd cc
+
+pub not_left : (a b : Bool) → (a || b) ≡ true → a ≡ false → b ≡ true
+not_left true b e f = absurd cc
+not_left false b e f = e
+
+pub or_false : (a : Bool) → (a || false) ≡ a
+or_false true = refl
+or_false false = refl
+
+pub not_true : (a : Bool) → (a ≡ true → ⊥) → a ≡ false
+not_true true f = absurd (f refl)
+not_true false f = refl
+
+-- ---- numbers from one on
+
+pub any_in : (f : ℕ → Bool) (from n k : ℕ) → from ≤ k → k < from + n → f k ≡ true → list_any f (range_with_len from n) ≡ true
+any_in f from n k low high passes =
+    let here : from + (k - from) ≡ k = omega arith in
+    let count : length (range_with_len from n) ≡ n = length-range_with_len from n in
+    let item : get_or (range_with_len from n) (k - from) 0 ≡ k = get_or-range_with_len from n (k - from) 0 (omega arith) ∙ here in
+    list_any_at f (range_with_len from n) (k - from) 0 (omega (arith, count)) (ap f item ∙ passes)
+
+pub any_out : (f : ℕ → Bool) (from n : ℕ) → list_any f (range_with_len from n) ≡ true → (k : ℕ) × (from ≤ k) × (k < from + n) × (f k ≡ true)
+any_out f from zero e = absurd cc
+any_out f from (suc n) e = by_first (f from) refl e (any_out f (from + 1) n)
+  where
+    by_first : (b : Bool) → f from ≡ b → (b || list_any f (range_with_len (from + 1) n)) ≡ true
+        → (list_any f (range_with_len (from + 1) n) ≡ true → (k : ℕ) × (from + 1 ≤ k) × (k < from + 1 + n) × (f k ≡ true)) → (k : ℕ) × (from ≤ k) × (k < from + suc n) × (f k ≡ true)
+    by_first true here e later = (from, omega arith, omega arith, here)
+    by_first false here e later = let found = later e in (found.0, omega (arith, found.1), omega (arith, found.2), found.3)
+
+range_more : (from n : ℕ) → range_with_len from (suc n) ≡ range_with_len from n ++ (from + n) ∷ []
+range_more from zero = let e : from ≡ from + 0 = omega arith in ap (λ (k : ℕ). k ∷ []) e
+range_more from (suc n) =
+    let e : from + 1 + n ≡ from + suc n = omega arith in
+    ap (λ (ks : List ℕ). from ∷ ks) (range_more (from + 1) n ∙ ap (λ (k : ℕ). range_with_len (from + 1) n ++ k ∷ []) e)
+
+pub any_more : (f : ℕ → Bool) (from n m last : ℕ) → m ≡ suc n → last ≡ from + n → list_any f (range_with_len from m) ≡ (list_any f (range_with_len from n) || f last)
+any_more f from n m last more is =
+    ap (λ (k : ℕ). list_any f (range_with_len from k)) more ∙ ap (list_any f) (range_more from n) ∙ list_any-append f (range_with_len from n) ((from + n) ∷ [])
+    ∙ ap (λ (b : Bool). list_any f (range_with_len from n) || b) (or_false (f (from + n)) ∙ ap f (sym is))
+
+-- a test that no other number passes
+pub only : (f : ℕ → Bool) (n k : ℕ) → k < n → ((r : ℕ) → f r ≡ true → r ≡ k) → list_any f (range_with_len 0 n) ≡ f k
+only f n k lt single = same_truth (list_any f (range_with_len 0 n)) (f k) (λ e. let found = any_out f 0 n e in ap f (sym (single found.0 found.3)) ∙ found.3) (λ e. any_in f 0 n k (omega arith) (omega arith) e)
+
+-- ---- filters
+
+-- what a filter leaves out doesn't pass
+pub any_filter : {A : Type 0} (kept test : A → Bool) → ((x : A) → kept x ≡ false → test x ≡ false) → (xs : List A) → list_any test (filter kept xs) ≡ list_any test xs
+any_filter kept test out [] = refl
+any_filter kept test out (x ∷ xs) = by_kept (kept x) refl ∙ ap (λ (b : Bool). test x || b) (any_filter kept test out xs)
+  where
+    by_kept : (b : Bool) → kept x ≡ b → list_any test (cond b (x ∷ filter kept xs) (filter kept xs)) ≡ (test x || list_any test (filter kept xs))
+    by_kept true e = refl
+    by_kept false e = ap (λ (b : Bool). b || list_any test (filter kept xs)) (sym (out x e))
+
+-- ---- flags
+
+pub flagged_in : (flags : List Bool) (test : ℕ → Bool) (count k : ℕ) → k < count → flag flags k ≡ true → test k ≡ true → any_flagged flags test count ≡ true
+unfolding any_flagged
+flagged_in flags test count k lt is passes = any_in (λ r. flag flags r && test r) 0 count k (omega arith) (omega arith) (both (flag flags k) (test k) is passes)
+
+pub flagged_out : (flags : List Bool) (test : ℕ → Bool) (count : ℕ) → any_flagged flags test count ≡ true → (k : ℕ) × (k < count) × (flag flags k ≡ true) × (test k ≡ true)
+unfolding any_flagged
+flagged_out flags test count e =
+    let found = any_out (λ r. flag flags r && test r) 0 count e in
+    (found.0, omega (arith, found.2), first_of (flag flags found.0) (test found.0) found.3, second_of (flag flags found.0) (test found.0) found.3)
+
+pub flagged_more : (flags : List Bool) (test : ℕ → Bool) (count more : ℕ) → more ≡ suc count → any_flagged flags test more ≡ (any_flagged flags test count || (flag flags count && test count))
+unfolding any_flagged
+flagged_more flags test count more is = any_more (λ r. flag flags r && test r) 0 count more count is (omega arith)
+
+pub none_flagged : (flags : List Bool) (test : ℕ → Bool) → any_flagged flags test 0 ≡ false
+unfolding any_flagged
+none_flagged flags test = refl

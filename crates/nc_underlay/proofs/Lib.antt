@@ -1,0 +1,6 @@
+pub mod Flagging
+pub mod Owners
+pub mod Hits
+pub mod Marks
+pub mod Steps
+pub mod Sampling

@@ -1,0 +1,153 @@
+-- The owner of an address is the one router that has it, in a network that is valid.
+use Rattle.std.proofs.Common.{◌≡◌, ℕ, zero, suc, ◌+◌, ◌<◌, ◌≤◌, Bool, true, false, cond, ◌||◌, nat_eq, List, [], ◌∷◌, ◌++◌, length, Option, Some, None, position, slice_get, refl, sym, ap, ◌∙◌, arith}
+use Rattle.std.specs.List.{list_any, filter_map, flat_map, position_from, cons_option}
+use Rattle.std.specs.Option.{option_map, option_map_or, is_some}
+use Rattle.std.proofs.lemmas.Bool.{eqb-true, eq-eqb}
+use Rattle.std.proofs.lemmas.Bool.Decides.{nat_tests}
+use Rattle.std.proofs.lemmas.Iterator.Adapters.{position_from-zero}
+use Rattle.nc_types.specs.declared.config.Interface.{Interface}
+use Rattle.nc_types.specs.declared.config.IfaceAddr.{IfaceAddr}
+use Rattle.nc_types.specs.Config.{ConfigView}
+use Rattle.nc_types.specs.Network.{PlaceIn, up_of, has_address, owner_from, owner_of}
+use Rattle.nc_types.specs.Joining.{Clash, Numbered, Used, numbered_from, with_later, used_by, same_address, IsValid}
+use Rattle.nc_tables.specs.declared.base.BaseRow.{BaseRow}
+use Rattle.nc_tables.specs.Reach.{owns}
+use Rattle.nc_underlay.specs.Levels.{flag, any_flagged}
+use Rattle.nc_underlay.proofs.Flagging.{not_true, not_left, same_truth, flagged_in, flagged_out}
+
+pub some_is : {A : Type 0} (x y : A) → Some x ≡ Some y → x ≡ y
+some_is {A} x y e = ap (λ (o : Option A). option_map_or (λ v. v) o x) e
+
+-- ---- the owner's number
+
+owner_from_within : (n : ℕ) (cs : List ConfigView) (addr : ℕ) (o : PlaceIn) → owner_from n cs addr ≡ Some o → (n ≤ o.router) × (o.router < n + length cs)
+owner_from_within n [] addr o e = absurd cc
+owner_from_within n (c ∷ cs) addr o e = by_place (position (has_address addr) c.interfaces) e (owner_from_within (n + 1) cs addr o)
+  where
+    by_place : (p : Option ℕ) → option_map_or {U = Option PlaceIn} (λ place. Some (record { router = n; place = place })) p (owner_from (n + 1) cs addr) ≡ Some o
+        → (owner_from (n + 1) cs addr ≡ Some o → (n + 1 ≤ o.router) × (o.router < n + 1 + length cs)) → (n ≤ o.router) × (o.router < n + suc (length cs))
+    by_place (Some place) e later = let is : n ≡ o.router = ap (λ (p : PlaceIn). p.router) (some_is (record { router = n; place = place }) o e) in (omega (arith, is), omega (arith, is))
+    by_place None e later = let found = later e in (omega (arith, found.0), omega (arith, found.1))
+
+pub owner_within : (cs : List ConfigView) (addr : ℕ) (o : PlaceIn) → owner_of cs addr ≡ Some o → o.router < length cs
+owner_within cs addr o e = let found = owner_from_within 0 cs addr o e in omega (arith, found.1)
+
+-- ---- one address, one router
+
+module _ (addr : ℕ) where
+  abbrev has : Used → Bool
+  has u = nat_eq u.address.addr.0 addr
+
+  abbrev owns_at : List ConfigView → ℕ → Bool
+  owns_at cs router = option_map_or (λ c. list_any (has_address addr) c.interfaces) (slice_get cs router) false
+
+  empty_left : {A : Type 0} (xs ys : List A) → xs ++ ys ≡ [] → xs ≡ []
+  empty_left [] ys e = refl
+  empty_left (x ∷ xs) ys e = absurd cc
+
+  empty_right : {A : Type 0} (xs ys : List A) → xs ++ ys ≡ [] → ys ≡ []
+  empty_right [] ys e = e
+  empty_right (x ∷ xs) ys e = absurd cc
+
+  any_used : (n : ℕ) (is : List Interface) → list_any has (filter_map (λ i. option_map (λ a. record { router = n; line = i.address_line; address = a }) (up_of i)) is) ≡ list_any (has_address addr) is
+  any_used n [] = refl
+  any_used n (i ∷ is) = by_up (up_of i) (any_used n is)
+    where
+      by_up : (o : Option IfaceAddr) → list_any has (filter_map (λ (j : Interface). option_map {U = Used} (λ (a : IfaceAddr). record { router = n; line = j.address_line; address = a }) (up_of j)) is) ≡ list_any (has_address addr) is
+          → list_any has (cons_option (option_map {U = Used} (λ (a : IfaceAddr). record { router = n; line = i.address_line; address = a }) o) (filter_map (λ (j : Interface). option_map {U = Used} (λ (a : IfaceAddr). record { router = n; line = j.address_line; address = a }) (up_of j)) is))
+          ≡ (option_map_or (λ (a : IfaceAddr). nat_eq a.addr.0 addr) o false || list_any (has_address addr) is)
+      by_up None e = e
+      by_up (Some a) e = ap (λ b. nat_eq a.addr.0 addr || b) e
+
+  -- an address that has the number, and none with it is the same
+  none_same : (x : Used) (us : List Used) → has x ≡ true → flat_map (same_address x) us ≡ [] → list_any has us ≡ true → ⊥
+  none_same x [] is none any = absurd cc
+  none_same x (u ∷ us) is none any =
+      none_same x us is (empty_right (same_address x u) (flat_map (same_address x) us) none) (not_left (has u) (list_any has us) any (other (has u) refl))
+    where
+      apart : (b : Bool) (clash : Clash) → cond b (clash ∷ []) [] ≡ [] → b ≡ false
+      apart true clash e = absurd cc
+      apart false clash e = refl
+
+      other : (b : Bool) → has u ≡ b → b ≡ false
+      other false e = refl
+      other true e =
+          let mine : x.address.addr.0 ≡ addr = eqb-true x.address.addr.0 addr is in
+          let its : u.address.addr.0 ≡ addr = eqb-true u.address.addr.0 addr e in
+          let same : nat_eq x.address.addr.0 u.address.addr.0 ≡ true = eq-eqb x.address.addr.0 u.address.addr.0 (mine ∙ sym its) in
+          let differ : nat_eq x.address.addr.0 u.address.addr.0 ≡ false = apart (nat_eq x.address.addr.0 u.address.addr.0) _ (empty_left (same_address x u) (flat_map (same_address x) us) none) in
+          absurd cc
+
+  none_shared : (xs us : List Used) → flat_map (λ x. flat_map (same_address x) us) xs ≡ [] → list_any has xs ≡ true → list_any has us ≡ true → ⊥
+  none_shared [] us none mine its = absurd cc
+  none_shared (x ∷ xs) us none mine its =
+      by_first (has x) refl (none_shared xs us (empty_right (flat_map (same_address x) us) (flat_map (λ y. flat_map (same_address y) us) xs) none))
+    where
+      by_first : (b : Bool) → has x ≡ b → (list_any has xs ≡ true → list_any has us ≡ true → ⊥) → ⊥
+      by_first true e later = none_same x us e (empty_left (flat_map (same_address x) us) (flat_map (λ y. flat_map (same_address y) us) xs) none) its
+      by_first false e later = later (not_left (has x) (list_any has xs) mine e) its
+
+  abbrev shared : Numbered → Numbered → List Clash
+  shared a b = flat_map (λ x. flat_map (same_address x) (used_by b)) (used_by a)
+
+  later_free : (n m : ℕ) (c : ConfigView) (cs : List ConfigView) (r : ℕ) → list_any (has_address addr) c.interfaces ≡ true → flat_map (shared (record { router = n; config = c })) (numbered_from m cs) ≡ [] → owns_at cs r ≡ true → ⊥
+  later_free n m c [] r mine none its = absurd cc
+  later_free n m c (d ∷ cs) zero mine none its =
+      none_shared (used_by (record { router = n; config = c })) (used_by (record { router = m; config = d }))
+      (empty_left (shared (record { router = n; config = c }) (record { router = m; config = d })) (flat_map (shared (record { router = n; config = c })) (numbered_from (m + 1) cs)) none)
+      (any_used n c.interfaces ∙ mine) (any_used m d.interfaces ∙ its)
+  later_free n m c (d ∷ cs) (suc r) mine none its =
+      later_free n (m + 1) c cs r mine (empty_right (shared (record { router = n; config = c }) (record { router = m; config = d })) (flat_map (shared (record { router = n; config = c })) (numbered_from (m + 1) cs)) none) its
+
+  place_by_any : (place : ℕ) (is : List Interface) → is_some (position_from (has_address addr) place is) ≡ list_any (has_address addr) is
+  place_by_any place [] = refl
+  place_by_any place (i ∷ is) = by_test (has_address addr i) (place_by_any (place + 1) is)
+    where
+      by_test : (b : Bool) → is_some (position_from (has_address addr) (place + 1) is) ≡ list_any (has_address addr) is
+          → is_some (cond b (Some place) (position_from (has_address addr) (place + 1) is)) ≡ (b || list_any (has_address addr) is)
+      by_test true e = refl
+      by_test false e = e
+
+  placed : (is : List Interface) → is_some (position (has_address addr) is) ≡ list_any (has_address addr) is
+  placed is = ap is_some (position_from-zero (has_address addr) is) ∙ place_by_any 0 is
+
+  -- a router has the address exactly where it is the owner
+  owned_from : (n : ℕ) (cs : List ConfigView) (r : ℕ) → with_later shared (numbered_from n cs) ≡ [] → owns_at cs r ≡ option_map_or (λ o. nat_eq o.router (n + r)) (owner_from n cs addr) false
+  owned_from n [] r none = refl
+  owned_from n (c ∷ cs) zero none = by_place (position (has_address addr) c.interfaces) (owner_from (n + 1) cs addr) (placed c.interfaces) (λ o e. (owner_from_within (n + 1) cs addr o e).0)
+    where
+      by_place : (p : Option ℕ) (q : Option PlaceIn) → is_some p ≡ list_any (has_address addr) c.interfaces → ((o : PlaceIn) → q ≡ Some o → n + 1 ≤ o.router)
+          → list_any (has_address addr) c.interfaces ≡ option_map_or (λ (o : PlaceIn). nat_eq o.router (n + 0)) (option_map_or {U = Option PlaceIn} (λ place. Some (record { router = n; place = place })) p q) false
+      by_place (Some place) q is low = sym is ∙ sym (eq-eqb n (n + 0) (omega arith))
+      by_place None None is low = sym is
+      by_place None (Some o) is low =
+          let le : n + 1 ≤ o.router = low o refl in
+          let far : nat_eq o.router (n + 0) ≡ false = grind (arith, nat_tests) in
+          sym is ∙ sym far
+  owned_from n (c ∷ cs) (suc r) none =
+      by_place (position (has_address addr) c.interfaces) (placed c.interfaces) (owned_from (n + 1) cs r (empty_right (flat_map (shared (record { router = n; config = c })) (numbered_from (n + 1) cs)) (with_later shared (numbered_from (n + 1) cs)) none))
+    where
+      by_place : (p : Option ℕ) → is_some p ≡ list_any (has_address addr) c.interfaces → owns_at cs r ≡ option_map_or (λ (o : PlaceIn). nat_eq o.router (n + 1 + r)) (owner_from (n + 1) cs addr) false
+          → owns_at cs r ≡ option_map_or (λ (o : PlaceIn). nat_eq o.router (n + suc r)) (option_map_or {U = Option PlaceIn} (λ place. Some (record { router = n; place = place })) p (owner_from (n + 1) cs addr)) false
+      by_place (Some place) is later =
+          let far : nat_eq n (n + suc r) ≡ false = grind (arith, nat_tests) in
+          not_true (owns_at cs r) (later_free n (n + 1) c cs r (sym is) (empty_left (flat_map (shared (record { router = n; config = c })) (numbered_from (n + 1) cs)) (with_later shared (numbered_from (n + 1) cs)) none)) ∙ sym far
+      by_place None is later = let e : n + 1 + r ≡ n + suc r = omega arith in later ∙ ap (λ (k : ℕ). option_map_or (λ (o : PlaceIn). nat_eq o.router k) (owner_from (n + 1) cs addr) false) e
+
+-- ---- flagged owners
+
+module _ (routers : List ConfigView) (tables : List (List BaseRow)) (valid : IsValid routers) (addr : ℕ) where
+  owned : (r : ℕ) → owns routers tables r addr ≡ option_map_or (λ o. nat_eq o.router r) (owner_of routers addr) false
+  owned r = let e : 0 + r ≡ r = omega arith in owned_from addr 0 routers r valid.addresses ∙ ap (λ (k : ℕ). option_map_or (λ (o : PlaceIn). nat_eq o.router k) (owner_of routers addr) false) e
+
+  owned_by : (q : Option PlaceIn) (r : ℕ) → owner_of routers addr ≡ q → owns routers tables r addr ≡ option_map_or (λ o. nat_eq o.router r) q false
+  owned_by q r e = owned r ∙ ap (λ (p : Option PlaceIn). option_map_or (λ (o : PlaceIn). nat_eq o.router r) p false) e
+
+  pub no_owner : (flags : List Bool) (count : ℕ) → owner_of routers addr ≡ None → any_flagged flags (λ r. owns routers tables r addr) count ≡ false
+  no_owner flags count e = not_true (any_flagged flags (λ r. owns routers tables r addr) count) (λ is. let found = flagged_out flags (λ r. owns routers tables r addr) count is in let none : owns routers tables found.0 addr ≡ false = owned_by None found.0 e in let some : owns routers tables found.0 addr ≡ true = found.3 in absurd cc)
+
+  pub the_owner : (flags : List Bool) (count : ℕ) (o : PlaceIn) → owner_of routers addr ≡ Some o → o.router < count → flag flags o.router ≡ any_flagged flags (λ r. owns routers tables r addr) count
+  the_owner flags count o e lt =
+      same_truth (flag flags o.router) (any_flagged flags (λ r. owns routers tables r addr) count)
+      (λ is. flagged_in flags (λ r. owns routers tables r addr) count o.router lt is (owned_by (Some o) o.router e ∙ eq-eqb o.router o.router refl))
+      (λ is. let found = flagged_out flags (λ r. owns routers tables r addr) count is in let same : o.router ≡ found.0 = eqb-true o.router found.0 (sym (owned_by (Some o) found.0 e) ∙ found.3) in ap (flag flags) same ∙ found.2)
