@@ -5,7 +5,10 @@ use Rattle.std.specs.Option.{option_map, option_map_or}
 use Rattle.std.specs.Str.{bytes_eq}
 use Rattle.nc_types.specs.Config.{ElementView, ConfigView}
 use Rattle.nc_types.specs.declared.config.IfaceAddr.{IfaceAddr}
+use Rattle.nc_types.specs.declared.addr.Addr.{Addr}
 use Rattle.nc_types.specs.declared.config.Interface.{Interface}
+use Rattle.nc_types.specs.declared.config.Via.{Via}
+use Rattle.nc_types.specs.declared.config.Via.TheVariants.{Null, Hop, Through}
 
 -- ---- interfaces
 
@@ -35,6 +38,12 @@ owner_from router (c ∷ cs) addr =
 -- the owner of an address
 abbrev pub owner_of : List ConfigView → ℕ → Option PlaceIn
 owner_of routers addr = owner_from 0 routers addr
+
+-- the next hop of a static route, unless it discards
+abbrev pub hop_of : Via → Option Addr
+hop_of Null = None
+hop_of (Hop hop) = Some hop
+hop_of (Through reference hop) = Some hop
 
 -- ---- names
 

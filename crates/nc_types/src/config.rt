@@ -1,3 +1,8 @@
+ghost use Rattle.std.specs.Prelude.{◌≡◌};
+ghost use Rattle.std.specs.Option.{option_map};
+ghost use Rattle.nc_types.specs.Network.{up_of, hop_of};
+ghost use Rattle.nc_types.specs.Joining.{interface_by};
+
 use crate::addr::Addr;
 use crate::prefix::Prefix;
 use crate::text::Text;
@@ -71,6 +76,15 @@ pub struct Interface {
     pub element: u32,
 }
 
+impl Interface {
+    /// The address of an interface that is up: it has one and isn't shut.
+    pub fn up(&self) -> Option<IfaceAddr>
+        ensures { result ≡ up_of self.now }
+    {
+        if self.shut { None } else { self.address }
+    }
+}
+
 /// Where a static route leads.
 #[derive(Debug, Drop)]
 pub enum Via {
@@ -80,6 +94,29 @@ pub enum Via {
     Hop(Addr),
     /// To a next hop through the interface of this name.
     Through(Reference, Addr),
+}
+
+impl Via {
+    /// The next hop; `None` where it discards.
+    pub fn hop(&self) -> Option<Addr>
+        ensures { result ≡ hop_of self.now }
+    {
+        match self {
+            Via::Null => None,
+            Via::Hop(hop) => Some(*hop),
+            Via::Through(_, hop) => Some(*hop),
+        }
+    }
+
+    /// The interface that it names, and the line where it does; `None` where it names none.
+    pub fn interface(&self) -> Option<&Reference>
+        ensures { option_map (λ reference. reference.now) result ≡ interface_by self.now }
+    {
+        match self {
+            Via::Through(reference, _) => Some(reference),
+            Via::Null | Via::Hop(_) => None,
+        }
+    }
 }
 
 /// A static route as its statements leave it: the last one decides its distance and the line of its

@@ -10,6 +10,7 @@
 #![tactic(auto)]
 
 mod addr;
+mod command;
 mod config;
 mod fault;
 pub mod laws;
@@ -18,6 +19,7 @@ mod prefix;
 mod text;
 
 pub use addr::{Addr, mask_len};
+pub use command::TestCommand;
 pub use config::{
     AggregateStatement, Clause, Element, ElementId, IfaceAddr, IfaceId, Interface, Kind, ListEntry,
     Neighbor, NetworkStatement, OriginCode, PrefixList, Process, Reference, RouterConfig, RouterId,

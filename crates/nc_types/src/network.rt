@@ -14,7 +14,6 @@ mod tables;
 
 use crate::addr::Addr;
 use crate::config::{Element, ElementId, IfaceAddr, IfaceId, RouterConfig, RouterId};
-use crate::network::addresses::up_address;
 use crate::network::elements::element_in;
 use crate::network::tables::{Tables, make_tables};
 use std::alloc::{AllocError, Global};
@@ -109,7 +108,7 @@ impl Network {
     {
         let config = self.routers.get(router.0 as usize)?;
         let interface = config.interfaces.get(iface.0 as usize)?;
-        up_address(interface)
+        interface.up()
     }
 }
 

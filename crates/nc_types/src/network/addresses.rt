@@ -3,11 +3,11 @@
 ghost use Rattle.std.specs.Prelude.{◌≡◌, ◌^◌, ◌<◌, ◌==◌, ℕ, length, map, All, IfOk, OnOk, None, Some, if◌then◌else◌};
 ghost use Rattle.std.specs.Option.{option_map, option_or};
 ghost use Rattle.nc_types.specs.Config.{config_view};
-ghost use Rattle.nc_types.specs.Network.{up_of, has_address, owner_of};
+ghost use Rattle.nc_types.specs.Network.{has_address, owner_of};
 ghost use Rattle.nc_types.specs.Tables.{place_in, owner_by, iface_from};
 
 use crate::addr::Addr;
-use crate::config::{IfaceAddr, IfaceId, Interface, RouterConfig, RouterId};
+use crate::config::{IfaceId, Interface, RouterConfig, RouterId};
 use std::alloc::{AllocError, Global};
 use std::collections::BTreeMap;
 
@@ -16,17 +16,6 @@ use std::collections::BTreeMap;
 pub(crate) struct IfacePlace {
     pub(crate) router: RouterId,
     pub(crate) iface: IfaceId,
-}
-
-/// The address of an interface that is up.
-pub(crate) fn up_address(interface: &Interface) -> Option<IfaceAddr>
-    ensures { result ≡ up_of interface.now }
-{
-    if interface.shut {
-        None
-    } else {
-        interface.address
-    }
 }
 
 // Gives the address of an interface that is up to it, if no interface has that address yet.
@@ -38,7 +27,7 @@ fn claim_address(
     ensures { OnOk result ((addr : ℕ) → owner_by owners.new addr
         ≡ option_or (owner_by owners.old addr) (if has_address addr interface.now then Some owner else None)) }
 {
-    let Some(address) = up_address(interface) else {
+    let Some(address) = interface.up() else {
         return Ok(());
     };
     if owners.contains_key(&address.addr) {

@@ -11,7 +11,7 @@ pub returns : goal.returns
 returns c addr =
     let key : Addr = c.in-Some.address.addr in
     let none : owner_by c.args.owners.now key.0 ≡ None = is_none (owner_by c.args.owners.now key.0) (sym c.contains_key.ensures ∙ c.if-contains_key.false) in
-    let up : Some c.in-Some.address ≡ up_of c.args.interface.now = sym c.in-Some.is ∙ c.up_address.ensures in
+    let up : Some c.in-Some.address ≡ up_of c.args.interface.now = sym c.in-Some.is ∙ c.up.ensures in
     c.in_ok-insert.ensures.updates.0 (record { 0 = addr })
     ∙ claimed_address (owner_by c.args.owners.now) key.0 addr c.args.owner none
     ∙ ap (λ (o : Option IfaceAddr). option_or (owner_by c.args.owners.now addr) (cond (option_map_or (λ a. nat_eq a.addr.0 addr) o false) (Some c.args.owner) None)) up
