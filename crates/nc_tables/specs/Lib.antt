@@ -8,6 +8,7 @@ pub mod Choice
 pub mod Rounds
 pub mod Main
 pub mod Forwarding
+pub mod State
 pub mod Cases
 pub mod CaseStatics
 pub mod CaseRoutes

@@ -1,0 +1,57 @@
+-- The facts that a test tests.
+use Rattle.std.specs.Prelude.{ℕ, Bool, true, false, ◌&&◌, ◌==◌, List, [], map, filter, Option, Some, None, slice_get}
+use Rattle.std.specs.Option.{option_map_or}
+use Rattle.nc_types.specs.Network.{router_named}
+use Rattle.nc_types.specs.Cidr.{Cidr}
+use Rattle.nc_types.specs.declared.addr.Addr.{Addr}
+use Rattle.nc_types.specs.declared.command.TestCommand.{TestCommand}
+use Rattle.nc_types.specs.declared.command.TestCommand.TheVariants.{Rib, Bgp, Session, Reach, Every, Element}
+use Rattle.nc_tables.specs.declared.base.BaseFrom.{BaseFrom}
+use Rattle.nc_tables.specs.declared.base.BaseFrom.TheVariants as base
+use Rattle.nc_tables.specs.declared.bgp.MainRow.{MainRow}
+use Rattle.nc_tables.specs.declared.bgp.MainFrom.{MainFrom}
+use Rattle.nc_tables.specs.declared.bgp.MainFrom.TheVariants as main
+use Rattle.nc_tables.specs.Base.{same_prefix}
+use Rattle.nc_tables.specs.Longest.{places_from}
+use Rattle.nc_tables.specs.Reach.{next_hop}
+use Rattle.nc_tables.specs.State.{StateView}
+use Rattle.nc_fact.specs.declared.fact.Fact.{Fact}
+use Rattle.nc_fact.specs.declared.fact.Fact.TheVariants as fact
+use Rattle.nc_fact.specs.Facts.{base_rows, main_rows, holds}
+
+module _ (s : StateView) where
+  -- the next hop of a base row: that of its static route, and of a main row that is of the base table
+  abbrev pub hop_from : ℕ → BaseFrom → Option ℕ
+  hop_from router (base.Connected iface) = None
+  hop_from router (base.Static place iface) = next_hop s.routers s.base router place
+  hop_from router (base.Null place) = None
+
+  abbrev pub main_hop : ℕ → MainFrom → Option ℕ
+  main_hop router (main.Base place) = option_map_or (λ row. hop_from router row.from) (slice_get (base_rows s router) place) None
+  main_hop router (main.Bgp place) = None
+  main_hop router (main.Discard place) = None
+
+  -- a main row of the prefix, with this next hop where one is asked for
+  abbrev pub has_hop : ℕ → Option Addr → MainRow → Bool
+  has_hop router None row = true
+  has_hop router (Some addr) row = option_map_or (λ hop. hop == addr.0) (main_hop router row.from) false
+
+  abbrev pub is_asked : ℕ → Cidr → Option Addr → MainRow → Bool
+  is_asked router prefix via row = same_prefix row.prefix prefix && has_hop router via row
+
+  -- the main rows of a prefix at a router, which a test of routes tests
+  abbrev pub asked_rows : ℕ → Cidr → Option Addr → List Fact
+  asked_rows router prefix via = map (fact.Main (record { 0 = router })) (places_from (is_asked router prefix via) 0 (main_rows s router))
+
+  -- what a test names; of tests of routes alone there are facts yet
+  abbrev pub named_facts : TestCommand → List Fact
+  named_facts (Rib name prefix via) = option_map_or (λ router. asked_rows router prefix via) (router_named s.routers name) []
+  named_facts (Bgp name prefix from) = []
+  named_facts (Session name addr) = []
+  named_facts (Reach name addr) = []
+  named_facts (Every name addr) = []
+  named_facts (Element name line) = []
+
+  -- the facts that a test tests: those that it names and that hold
+  unfoldable pub tested_facts : TestCommand → List Fact
+  tested_facts test = filter (holds s) (named_facts test)

@@ -1,0 +1,25 @@
+use nc_types::{Addr, ElementId, IfaceId, Prefix, RouterId};
+
+/// Something that may be so in a network, and on which a test or another fact may rest. A place is
+/// counted from 0, in the table or the list of the router that is named first.
+#[derive(Clone, Copy, Debug, PartialEq, Eq, Hash)]
+pub enum Fact {
+    /// An element of a configuration.
+    Element(ElementId),
+    /// That an interface is up, which gives the router a connected route.
+    Connected(RouterId, IfaceId),
+    /// That the static route at a place can be used.
+    Static(RouterId, u32),
+    /// The row at a place of the base table.
+    Base(RouterId, u32),
+    /// That a packet for an address finds a row of the base table that doesn't discard it.
+    Resolve(RouterId, Addr),
+    /// That the base table has a row of a prefix.
+    NetSource(RouterId, Prefix),
+    /// That a packet comes to the owner of an address over at most so many hops.
+    Reach(RouterId, Addr, u8),
+    /// That it does by the row at a place of the base table, the hop by that row counted.
+    Hop(RouterId, Addr, u32, u8),
+    /// The row at a place of the main table.
+    Main(RouterId, u32),
+}

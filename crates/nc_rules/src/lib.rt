@@ -1,0 +1,2 @@
+//! Rules: the flow graph of a network.
+#![tactic(auto)]

@@ -1,0 +1,2 @@
+//! Rules of routes: from which facts each fact about routes follows.
+#![tactic(auto)]
