@@ -4,3 +4,7 @@ pub mod Keeping
 pub mod Places
 pub mod Few
 pub mod Outcome
+pub mod Overlapping
+pub mod Linking
+pub mod Usable
+pub mod Apart

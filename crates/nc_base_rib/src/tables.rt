@@ -1,6 +1,7 @@
-ghost use Rattle.std.specs.Prelude.{◌≡◌, ◌^◌, ◌<◌, length, IfOk};
+ghost use Rattle.std.specs.Prelude.{◌≡◌, ◌^◌, ◌<◌, length, All, IfOk};
 ghost use Rattle.nc_types.specs.Config.{config_view};
 ghost use Rattle.nc_tables.specs.Base.{base_table, base_tables, AreRows};
+ghost use Rattle.nc_base_rib.specs.Links.{AreApart, HasOwnPrefix};
 
 use crate::candidates::candidate_rows;
 use crate::nearest::nearest_rows;
@@ -12,6 +13,8 @@ use std::alloc::{AllocError, Global};
 pub(crate) fn base_rows(alloc: Global, config: &RouterConfig) -> Result<Vec<BaseRow>, AllocError>
     requires interfaces { length config.now.interfaces.items < 2 ^ 32 }
     requires statics { length config.now.statics.items < 2 ^ 32 }
+    requires apart { AreApart config.now.interfaces.items }
+    requires covered { All HasOwnPrefix config.now.interfaces.items }
     ensures table { IfOk result (λ rows. rows.items ≡ base_table (config_view config.now)) }
     ensures rows { IfOk result (λ rows. AreRows rows.items) }
 {

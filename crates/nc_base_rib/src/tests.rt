@@ -1,31 +1,49 @@
-ghost use Rattle.std.specs.Prelude.{◌≤◌};
+ghost use Rattle.std.specs.Prelude.{◌≡◌, ◌≤◌, ◌<◌, ◌^◌, length, map, All, IfOk};
+ghost use Rattle.nc_types.specs.Config.{element_view, config_view};
+ghost use Rattle.nc_types.specs.Joining.{IsValid};
+ghost use Rattle.nc_types.specs.Sample.{sample_element, sample_interface, sample};
+ghost use Rattle.nc_base_rib.specs.Links.{AreApart, HasOwnPrefix};
 
+use crate::base_tables;
 use crate::tables::base_rows;
 use nc_tables::{BaseFrom, BaseRow};
 use nc_types::{
-    Addr, IfaceAddr, IfaceId, Interface, Prefix, Reference, RouterConfig, StaticRoute, Text, Via,
+    Addr, Element, IfaceAddr, IfaceId, Interface, Kind, Network, Prefix, Reference, RouterConfig,
+    RouterId, StaticRoute, Text, Via,
 };
 use std::alloc::{AllocError, Global};
 use std::test::*;
 
-// An interface of this name, address and length of prefix.
+// An element of two lines.
+fn element(alloc: Global, first: u32) -> Result<Element, AllocError>
+    requires { first < 6 }
+    ensures { IfOk result (λ e. element_view e ≡ sample_element first) }
+{
+    let lines = vec![in alloc; first, first + 1]?;
+    Ok(Element {
+        kind: Kind::Interface,
+        lines,
+    })
+}
+
+// An interface with an address of a prefix of 24 bits.
 fn interface(
     alloc: Global,
     name: &[u8],
     addr: u32,
-    len: u8,
     shut: bool,
+    element: u32,
 ) -> Result<Interface, AllocError>
-    requires { len ≤ 32 }
+    ensures { IfOk result (λ i. i ≡ sample_interface name.now addr shut element) }
 {
     let addr = Addr(addr);
-    let prefix = Prefix::around(addr, len);
+    let prefix = Prefix::around(addr, 24);
     Ok(Interface {
         name: Text::new(alloc, name)?,
         address: Some(IfaceAddr { addr, prefix }),
         address_line: 3,
         shut,
-        element: 0,
+        element,
     })
 }
 
@@ -61,14 +79,22 @@ fn row(prefix: Prefix, distance: u8, from: BaseFrom) -> BaseRow {
     }
 }
 
+// 10.0.0.1, 10.0.1.1 and, shut, 10.0.2.1.
+fn interfaces(alloc: Global) -> Result<Vec<Interface>, AllocError>
+    ensures few { IfOk result (λ is. length is.items < 2 ^ 32) }
+    ensures apart { IfOk result (λ is. AreApart is.items) }
+    ensures covered { IfOk result (λ is. All HasOwnPrefix is.items) }
+{
+    let one = interface(alloc, b"Ethernet0", 0x0a00_0001, false, 0)?;
+    let two = interface(alloc, b"Ethernet1", 0x0a00_0101, false, 1)?;
+    let three = interface(alloc, b"Ethernet2", 0x0a00_0201, true, 2)?;
+    Ok(vec![in alloc; one, two, three]?)
+}
+
 #[test]
 fn several_interfaces(rt: HostRuntime) -> Result<(), Fail> {
     let alloc = rt.alloc();
-    let interfaces = vec![in alloc;
-        interface(alloc, b"Ethernet0", 0x0a00_0001, 24, false)?,
-        interface(alloc, b"Ethernet1", 0x0a00_0101, 24, false)?,
-        interface(alloc, b"Ethernet2", 0x0a00_0201, 24, true)?,
-    ]?;
+    let interfaces = interfaces(alloc)?;
     let statics = vec![in alloc;
         route(20, Via::Hop(Addr(0x0a00_0002)), 1),
         route(20, through(alloc, b"Ethernet1", 0x0a00_0102)?, 1),
@@ -134,5 +160,53 @@ fn no_interfaces(rt: HostRuntime) -> Result<(), Fail> {
         row(prefix(0x0a00_0000, 8), 200, BaseFrom::Null(1)),
     ];
     assert_eq!(rt; rows.as_slice(), wanted.as_slice());
+    Ok(())
+}
+
+// A router with an interface that is up and one that may be shut.
+fn router(
+    alloc: Global,
+    name: &[u8],
+    first: u32,
+    second: u32,
+    shut: bool,
+) -> Result<RouterConfig, AllocError>
+    ensures { IfOk result (λ c. config_view c ≡ sample name.now first second shut) }
+{
+    let elements = vec![in alloc; element(alloc, 2)?, element(alloc, 5)?]?;
+    let one = interface(alloc, b"e0", first, false, 0)?;
+    let other = interface(alloc, b"e1", second, shut, 1)?;
+    Ok(RouterConfig {
+        name: Text::new(alloc, name)?,
+        name_line: 1,
+        line_count: 6,
+        elements,
+        interfaces: vec![in alloc; one, other]?,
+        statics: Vec::new(alloc),
+        process: None,
+        clauses: Vec::new(alloc),
+        lists: Vec::new(alloc),
+    })
+}
+
+// A router r1 with 10.0.0.1 and, shut, 10.0.1.1, and a router r2 with 10.0.0.2 and 10.0.1.1.
+fn two_routers(alloc: Global) -> Result<Vec<RouterConfig>, AllocError>
+    ensures valid { IfOk result (λ rs. IsValid (map config_view rs.items)) }
+    ensures two { IfOk result (λ rs. length rs.items ≡ 2) }
+    ensures lines { IfOk result (λ rs. All (λ c. c.line_count ≤ 65535) rs.items) }
+{
+    let one = router(alloc, b"r1", 0x0a00_0001, 0x0a00_0101, true)?;
+    let other = router(alloc, b"r2", 0x0a00_0002, 0x0a00_0101, false)?;
+    Ok(vec![in alloc; one, other]?)
+}
+
+#[test]
+fn two_tables(rt: HostRuntime) -> Result<(), Fail> {
+    let network = Network::new(rt.alloc(), two_routers(rt.alloc())?)?;
+    let tables = base_tables(rt.alloc(), &network)?;
+    let link = row(prefix(0x0a00_0000, 24), 0, BaseFrom::Connected(IfaceId(0)));
+    let other = row(prefix(0x0a00_0100, 24), 0, BaseFrom::Connected(IfaceId(1)));
+    assert_eq!(rt; tables.rows(RouterId(0)), [link].as_slice());
+    assert_eq!(rt; tables.rows(RouterId(1)), [link, other].as_slice());
     Ok(())
 }

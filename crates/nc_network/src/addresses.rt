@@ -6,24 +6,12 @@ ghost use Rattle.std.specs.Map.{lookup};
 ghost use Rattle.std.specs.Option.{option_map, option_to_list};
 ghost use Rattle.nc_types.specs.Config.{config_view};
 ghost use Rattle.nc_types.specs.Joining.{Used, earliest, same_addresses};
-ghost use Rattle.nc_types.specs.Network.{up_of};
 ghost use Rattle.nc_network.specs.Steps.{merge, first_of_all, lower_place, used_of, Heads, Notes, by_address, pair_up, address_pairs};
 
 use crate::clash::{LinePair, Place, before_or_equal, earlier_of};
 use indexmap::IndexMap;
-use nc_types::{Addr, IfaceAddr, Interface, RouterConfig};
+use nc_types::{Addr, Interface, RouterConfig};
 use std::alloc::{AllocError, Global};
-
-/// The address of an interface that is up.
-pub(crate) fn up(interface: &Interface) -> Option<IfaceAddr>
-    ensures { result ≡ up_of interface.now }
-{
-    if interface.shut {
-        None
-    } else {
-        interface.address
-    }
-}
 
 // The lower of two lines, by router.
 fn lower(place: Place, other: Place) -> Place
@@ -56,7 +44,7 @@ fn note_one(
 ) -> Result<(), AllocError>
     ensures { OnOk result ((later : List Used) → Heads by_address heads.old.entries later → Heads by_address heads.new.entries (option_to_list (used_of router interface.now) ++ later)) }
 {
-    if let Some(address) = up(interface) {
+    if let Some(address) = interface.up() {
         let line = interface.address_line;
         note(heads, address.addr, Place { router, line })?;
     }
@@ -111,7 +99,7 @@ fn find_one(
 ) -> Option<LinePair>
     ensures { (later : List Used) → Heads by_address heads.now.entries later → result ≡ merge found (first_of_all (address_pairs later) (option_to_list (used_of router interface.now))) }
 {
-    match up(interface) {
+    match interface.up() {
         None => found,
         Some(address) => {
             let line = interface.address_line;

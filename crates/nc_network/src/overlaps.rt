@@ -8,7 +8,6 @@ ghost use Rattle.nc_types.specs.Config.{config_view};
 ghost use Rattle.nc_types.specs.Joining.{Used, earliest, with_later, overlapping, overlaps};
 ghost use Rattle.nc_network.specs.Steps.{merge, first_of_all, used_of, Heads, Notes, by_prefix, lines_clash, in_shorter, same_pairs, shorter_pairs, AreCidrs};
 
-use crate::addresses::up;
 use crate::clash::{LinePair, earlier_of};
 use indexmap::IndexMap;
 use nc_types::{IfaceAddr, Interface, Prefix, RouterConfig};
@@ -71,7 +70,7 @@ fn note_one(
     ensures found { IfOk result (λ r. (later : List Used) → Heads by_prefix heads.old.entries later → AreCidrs later
         → r ≡ merge found (first_of_all (λ x. flat_map (same_pairs router x) later) (option_to_list (used_of router interface.now)))) }
 {
-    match up(interface) {
+    match interface.up() {
         None => Ok(found),
         Some(address) => {
             let line = interface.address_line;
@@ -134,7 +133,7 @@ fn find_one(
     ensures { (all : List Used) → Heads by_prefix heads.now.entries all → AreCidrs all
         → result ≡ merge found (first_of_all (shorter_pairs router all) (option_to_list (used_of router interface.now))) }
 {
-    match up(interface) {
+    match interface.up() {
         None => found,
         Some(address) => find_shorter(heads, router, address, interface.address_line, found),
     }

@@ -10,7 +10,7 @@ ghost use Rattle.nc_network.specs.Steps.{merge, first_of_all, undefined_interfac
 use crate::clash::{LinePair, earlier_of};
 use crate::defined::{interface_names, list_names, map_names};
 use indexmap::IndexSet;
-use nc_types::{Clause, Neighbor, Reference, RouterConfig, StaticRoute, Text, Via};
+use nc_types::{Clause, Neighbor, Reference, RouterConfig, StaticRoute, Text};
 use std::alloc::{AllocError, Global};
 
 // Looks a reference up.
@@ -77,9 +77,9 @@ fn check_via(
 ) -> Option<LinePair>
     ensures { result ≡ merge found (first_of_all (undefined_by router names.now.keys) (option_to_list (interface_by route.now.via))) }
 {
-    match &route.via {
-        Via::Through(reference, _) => check(router, names, reference, found),
-        Via::Null | Via::Hop(_) => found,
+    match route.via.interface() {
+        None => found,
+        Some(reference) => check(router, names, reference, found),
     }
 }
 

@@ -6,7 +6,7 @@ ghost use Rattle.nc_tables.specs.declared.base.BaseRow.{BaseRow};
 ghost use Rattle.nc_tables.specs.Reach.{next_hop, exit_of, is_linked, exit_leads, leads_to};
 
 use nc_tables::{BaseFrom, BaseTables};
-use nc_types::{Addr, IfaceId, Network, RouterId, Via};
+use nc_types::{Addr, IfaceId, Network, RouterId};
 
 /// A way out of a router.
 #[derive(Clone, Copy, Debug, PartialEq, Eq)]
@@ -23,11 +23,7 @@ fn next_hop(network: &Network, router: RouterId, place: u32) -> Option<Addr>
 {
     let config = network.routers().get(router.0 as usize)?;
     let route = config.statics.get(place as usize)?;
-    match &route.via {
-        Via::Null => None,
-        Via::Hop(hop) => Some(*hop),
-        Via::Through(_, hop) => Some(*hop),
-    }
+    route.via.hop()
 }
 
 // The way out of a router by the row at a place.

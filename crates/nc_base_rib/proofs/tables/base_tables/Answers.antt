@@ -7,7 +7,9 @@ use Rattle.nc_types.specs.Network.{element_count}
 use Rattle.nc_types.specs.declared.config.RouterConfig.{RouterConfig}
 use Rattle.nc_tables.specs.declared.base.BaseRow.{BaseRow}
 use Rattle.nc_tables.specs.Base.{base_table, AreRows}
+use Rattle.nc_base_rib.specs.Links.{AreApart, HasOwnPrefix}
 use Rattle.nc_base_rib.proofs.Few.{interfaces_at, statics_at}
+use Rattle.nc_base_rib.proofs.Apart.{apart_at, covered_at}
 use Rattle.nc_base_rib.proofs.tables.base_tables.Goals as goal
 
 pub base_rows-requires-clause-interfaces : goal.base_rows-requires-clause-interfaces
@@ -47,3 +49,15 @@ routers-preserved c =
           ∙ map_push base_table (map config_view (take k routers)) (config_view (get_or routers k r)));
       rows = subst (λ l. All (λ v. AreRows v.items) l) (sym items) (All-push (λ v. AreRows v.items) c.routers.tables.items rows c.routers.invariant.rows c.in_ok-base_rows.ensures.rows);
     }
+
+pub base_rows-requires-clause-apart : goal.base_rows-requires-clause-apart
+base_rows-requires-clause-apart c =
+    let routers = c.routers-config-items.result.now in
+    let valid : IsValid (map config_view routers) = subst IsValid (sym c.routers-config-items.ensures.routers) c.routers-config-items.ensures.valid in
+    subst (λ (r : RouterConfig). AreApart r.interfaces.items) (sym c.config-item.is) (apart_at routers valid c.routers.config-index c.config-item.result c.routers-test.true)
+
+pub base_rows-requires-clause-covered : goal.base_rows-requires-clause-covered
+base_rows-requires-clause-covered c =
+    let routers = c.routers-config-items.result.now in
+    let valid : IsValid (map config_view routers) = subst IsValid (sym c.routers-config-items.ensures.routers) c.routers-config-items.ensures.valid in
+    subst (λ (r : RouterConfig). All HasOwnPrefix r.interfaces.items) (sym c.config-item.is) (covered_at routers valid c.routers.config-index c.config-item.result c.routers-test.true)

@@ -2,7 +2,7 @@ use Rattle.std.proofs.Common.{map}
 use Rattle.nc_types.specs.Config.{config_view}
 use Rattle.nc_types.specs.Joining.{same_names, overlaps, same_addresses, undefined}
 use Rattle.nc_network.proofs.Clashes.{found-none}
-use Rattle.nc_network.proofs.join.judge.Goals as goal
+use Rattle.nc_network.proofs.joining.judge.Goals as goal
 
 pub returns-clause-valid : goal.returns-clause-valid
 returns-clause-valid c = λ formed.

@@ -1,6 +1,6 @@
-//! Whether several configurations go together.
+//! Whether several configurations go together, and the network that they make.
 
-ghost use Rattle.std.specs.Prelude.{◌≡◌, ◌≤◌, length, map, All, OnOk};
+ghost use Rattle.std.specs.Prelude.{◌≡◌, ◌≤◌, length, map, All, OnOk, IfOk};
 ghost use Rattle.nc_types.specs.Config.{config_view};
 ghost use Rattle.nc_types.specs.WellFormed.{IsWellFormed};
 ghost use Rattle.nc_types.specs.Joining.{IsValid};
@@ -14,7 +14,7 @@ use crate::limits::{many_neighbors, many_prefixes};
 use crate::names::name_clash;
 use crate::overlaps::overlap_clash;
 use crate::references::reference_clash;
-use nc_types::{RouterConfig, RouterId};
+use nc_types::{Network, RouterConfig, RouterId};
 use std::alloc::Global;
 
 // The fault of two routers of one name.
@@ -94,3 +94,20 @@ pub fn judge(alloc: Global, routers: &[RouterConfig]) -> Result<(), JoinFault>
     }
     Ok(())
 }
+
+/// Makes one network of the configurations of several routers, each of a file of at most 65,535 lines; a
+/// router's number is its place among them. A fault is told where [`judge`] tells it, and then no network is
+/// made; `Memory` may come in place of each answer.
+pub fn join(alloc: Global, routers: Vec<RouterConfig>) -> Result<Network, JoinFault>
+    requires few { length routers.items ≤ 256 }
+    requires formed { All IsWellFormed (map config_view routers.items) }
+    requires lines { All (λ c. c.line_count ≤ 65535) routers.items }
+    ensures told { IsTold (judged (map config_view routers.items)) result }
+    ensures network { IfOk result (λ n. n ≡ map config_view routers.items) }
+{
+    judge(alloc, &routers)?;
+    Ok(Network::new(alloc, routers)?)
+}
+
+#[cfg(test)]
+mod tests;
