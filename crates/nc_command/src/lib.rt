@@ -2,11 +2,13 @@
 //!
 //! It stands on `nc_lines`, which cuts a line into words and reads prefixes and addresses, and on `nc_types`
 //! for the tests. Its contract promises of each line, by the definitions of `specs/Command`, what it asks,
-//! or that it is passed over, too long or not understood, and of each test the exact text.
+//! or that it is passed over, too long or not understood, and of each test the exact text; the law in
+//! `laws` says that this text is the words of the line that asks the test.
 #![tactic(auto)]
 
 mod command;
 mod fault;
+pub mod laws;
 mod reading;
 mod text;
 
