@@ -121,8 +121,8 @@ impl KeptMarks {
 
         // With what was kept of the first nodes for the tests before, where all nodes are reached from these and
         // the new ones, it is what is kept of all nodes for all of these tests.
-        ensures kept { OnOk result ((before : List ℕ) (elements : ℕ)
-            → AreKept (node_flow graph.now) (kept_nodes self.old) before elements self.old
+        ensures kept { OnOk result ((count : ℕ) (before : List ℕ) (elements : ℕ)
+            → AreKept (node_flow graph.now) count before elements self.old
             → ((i : ℕ) → i < length graph.now.facts
             → IsReachedFrom (node_flow graph.now) (before ++ map (λ p. p.0) tested.now) i)
             → AreKept (node_flow graph.now) (length graph.now.facts) (before ++ map (λ p. p.0) tested.now) elements self.new) }
