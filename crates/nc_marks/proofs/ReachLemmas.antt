@@ -14,7 +14,7 @@ use Rattle.nc_graph.specs.Nodes.{Nodes, node_flow, IsGraph}
 use Rattle.nc_graph.proofs.Members.{In, any_in, in_any, of_all}
 use Rattle.nc_graph.proofs.DerivationLaws.{by_rank, parent_lower, occurs-step}
 use Rattle.nc_marks.specs.Sets.{has, has_node, flag}
-use Rattle.nc_marks.specs.Reach.{is_leaf_of, occurs_in, IsClosed, IsReached, IsAtLeaf, TellsLeaf}
+use Rattle.nc_marks.specs.Reach.{is_leaf_of, occurs_in, IsClosed, IsReached, IsAtLeaf, TellsLeaf, AddsLeaf}
 
 -- a listed number is an element, and the other way round
 pub has-in : (xs : List ℕ) (x : ℕ) → has xs x ≡ true → In x xs
@@ -41,14 +41,14 @@ same_truth true b f h = sym (f refl)
 same_truth false true f h = h refl
 same_truth false false f h = refl
 
-or_cases : (a b : Bool) → (a || b) ≡ true → (a ≡ true) ⊎ (b ≡ true)
+pub or_cases : (a b : Bool) → (a || b) ≡ true → (a ≡ true) ⊎ (b ≡ true)
 or_cases true b e = inl refl
 or_cases false b e = inr e
 
-or_left : (a b : Bool) → a ≡ true → (a || b) ≡ true
+pub or_left : (a b : Bool) → a ≡ true → (a || b) ≡ true
 or_left a b e = ap (λ v. v || b) e
 
-or_right : (a b : Bool) → b ≡ true → (a || b) ≡ true
+pub or_right : (a b : Bool) → b ≡ true → (a || b) ≡ true
 or_right true b e = refl
 or_right false b e = e
 
@@ -58,7 +58,7 @@ parents-at n i ps at = ap (map (λ p. p.0)) (get_or_from_slice_get n.parents i p
 
 module _ {F : Type 0} (n : Nodes F) (is : IsGraph n) where
   -- an element that occurs at a parent occurs at the node
-  occurs-up : (e i p : ℕ) → nat_lt i (length n.facts) ≡ true → In p ((node_flow n).parents i) → occurs (node_flow n) e p ≡ true → occurs (node_flow n) e i ≡ true
+  pub occurs-up : (e i p : ℕ) → nat_lt i (length n.facts) ≡ true → In p ((node_flow n).parents i) → occurs (node_flow n) e p ≡ true → occurs (node_flow n) e i ≡ true
   occurs-up e i p h within o =
       occurs-step (node_flow n) is.flow e i h ∙ by_cases ((node_flow n).kind i) refl
     where
@@ -127,9 +127,24 @@ module _ {F : Type 0} (n : Nodes F) (is : IsGraph n) where
     ];
   }
 
+  -- one more leaf among those from a number on
+  pub adds-more : (low high e : ℕ) (before value next : Bool) → low ≤ high → next ≡ (is_leaf_of e ((node_flow n).kind high) || value)
+      → AddsLeaf (node_flow n) low high e before value → AddsLeaf (node_flow n) low (high + 1) e before next
+  adds-more low high e before value next le made a = record {
+    only = λ h. elim (or_cases (is_leaf_of e ((node_flow n).kind high)) value (sym made ∙ h)) [
+      | inl leaf ↦ inr (high, le, omega arith, leaf)
+      | inr old ↦ elim (a.only old) [ inl b ↦ inl b | inr r ↦ let l : r.0 < high = r.2 in inr (r.0, r.1, omega arith, r.3) ]
+    ];
+    kept = λ h. made ∙ or_right (is_leaf_of e ((node_flow n).kind high)) value (a.kept h);
+    each = λ r. elim (cases_eq r.0 high) [
+      | inl s ↦ made ∙ or_left (is_leaf_of e ((node_flow n).kind high)) value (subst (λ i. is_leaf_of e ((node_flow n).kind i) ≡ true) s r.3)
+      | inr ne ↦ let l : r.0 < high + 1 = r.2 in let low : r.0 < high = grind arith in made ∙ or_right (is_leaf_of e ((node_flow n).kind high)) value (a.each (r.0, r.1, low, r.3))
+    ];
+  }
+
   module _ (flags : List Bool) (closed : IsClosed (node_flow n) 0 flags) (e : ℕ) where
     -- below a flagged node at which the element occurs there is its leaf
-    leaf-below : (i : ℕ) → nat_lt i (length n.facts) ≡ true → flag flags i ≡ true → occurs (node_flow n) e i ≡ true → IsAtLeaf (node_flow n) flags (length n.facts) e
+    pub leaf-below : (i : ℕ) → nat_lt i (length n.facts) ≡ true → flag flags i ≡ true → occurs (node_flow n) e i ≡ true → IsAtLeaf (node_flow n) flags (length n.facts) e
     leaf-below = by_rank (node_flow n) is.flow (λ i. flag flags i ≡ true → occurs (node_flow n) e i ≡ true → IsAtLeaf (node_flow n) flags (length n.facts) e)
         (λ i h below f o. at_kind i h below f (sym (occurs-step (node_flow n) is.flow e i h) ∙ o) ((node_flow n).kind i) refl)
       where
@@ -149,7 +164,7 @@ module _ {F : Type 0} (n : Nodes F) (is : IsGraph n) where
         at_kind i h below f o Any s = by_parent i below f (sym (ap (λ k. by_kind k (nat_eq e) (list_any (occurs (node_flow n) e) ((node_flow n).parents i)) (list_any (occurs (node_flow n) e) ((node_flow n).parents i))) s) ∙ o)
 
     -- the element occurs at its leaf
-    leaf-occurs : (i : ℕ) → nat_lt i (length n.facts) ≡ true → (k : NodeKind) → (node_flow n).kind i ≡ k → is_leaf_of e k ≡ true → occurs (node_flow n) e i ≡ true
+    pub leaf-occurs : (i : ℕ) → nat_lt i (length n.facts) ≡ true → (k : NodeKind) → (node_flow n).kind i ≡ k → is_leaf_of e k ≡ true → occurs (node_flow n) e i ≡ true
     leaf-occurs i h (Leaf m) s l = occurs-step (node_flow n) is.flow e i h ∙ ap (λ k. by_kind k (nat_eq e) (list_any (occurs (node_flow n) e) ((node_flow n).parents i)) (list_any (occurs (node_flow n) e) ((node_flow n).parents i))) s ∙ l
     leaf-occurs i h Every s l = absurd (cc)
     leaf-occurs i h Any s l = absurd (cc)
@@ -183,6 +198,14 @@ pub flags-of : (ps : List NodeId) (before after last : List Bool) → ((i : ℕ)
     → ((i : ℕ) → flag after i ≡ true → flag last i ≡ true) → All (λ p. flag last p.0 ≡ true) ps
 flags-of ps before after last flagged kept = all_from (λ p. flag last p.0 ≡ true) ps
     (λ p within. kept p.0 (flagged p.0 ∙ or_left (has_node ps p.0) (flag before p.0) (in_any (λ q. nat_eq p.0 q.0) ps p within (eq-eqb p.0 p.0 refl))))
+
+-- no leaf from a number on and below it
+pub adds-none : (g : Flow ℕ) (low e : ℕ) (before : Bool) → AddsLeaf g low low e before before
+adds-none g low e before = record {
+  only = λ h. inl h;
+  kept = λ h. h;
+  each = λ r. let a : low ≤ r.0 = r.1 in let b : r.0 < low = r.2 in absurd (omega arith);
+}
 
 -- there is no leaf among no nodes
 pub tells-none : (g : Flow ℕ) (flags : List Bool) (e : ℕ) (value : Bool) → value ≡ false → TellsLeaf g flags 0 e value

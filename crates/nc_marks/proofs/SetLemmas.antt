@@ -1,6 +1,7 @@
 -- Sets as lists, and flags.
-use Rattle.std.proofs.Common.{◌≡◌, ℕ, ◌<◌, Bool, true, false, ◌||◌, ◌&&◌, cond, List, [], ◌∷◌, sym, ap, ◌∙◌, refl, nat_eq}
+use Rattle.std.proofs.Common.{◌≡◌, ℕ, ◌<◌, Bool, true, false, ◌||◌, ◌&&◌, cond, List, [], ◌∷◌, take, map, Vec, Global, sym, ap, ◌∙◌, refl, nat_eq}
 use Rattle.std.proofs.lemmas.Bool.{eqb-true}
+use Rattle.std.proofs.lemmas.List.{take-map}
 use Rattle.std.specs.List.{filter}
 use Rattle.nc_marks.specs.Sets.{has, flag}
 
@@ -46,3 +47,7 @@ pub keeps-common : (n : ℕ) (all set : List ℕ) (f0 f1 f2 : List Bool) → ((e
     → (e : ℕ) → e < n → has (filter (flag f2) all) e ≡ (has all e && has set e)
 keeps-common n all set f0 f1 f2 told lowered raised e h =
     has-filter (flag f2) all e ∙ ap (λ b. has all e && b) (tells-set n all set f0 f1 f2 told lowered raised e h)
+
+-- the sets in the first vectors
+pub sets-take : (len : ℕ) (vs ws : List (Vec ℕ Global)) → ws ≡ take len vs → map (λ (v : Vec ℕ Global). v.items) ws ≡ take len (map (λ (v : Vec ℕ Global). v.items) vs)
+sets-take len vs ws e = ap (map (λ (v : Vec ℕ Global). v.items)) e ∙ sym (take-map (λ (v : Vec ℕ Global). v.items) len vs)

@@ -1,5 +1,5 @@
 -- What flags of nodes say: that they are raised downward from nodes, and only at what these reach.
-use Rattle.std.specs.Prelude.{◌≡◌, ℕ, ◌<◌, ◌≤◌, Bool, true, false, All, List, nat_eq}
+use Rattle.std.specs.Prelude.{◌≡◌, ℕ, ◌<◌, ◌≤◌, ◌⊎◌, Bool, true, false, All, List, nat_eq}
 use Rattle.std.specs.List.{list_any}
 use Rattle.nc_graph.specs.declared.node.NodeKind.{NodeKind}
 use Rattle.nc_graph.specs.declared.node.NodeKind.TheVariants.{Leaf, Every, Any}
@@ -38,3 +38,13 @@ module _ (g : Flow ℕ) where
   pub record TellsLeaf (flags : List Bool) (high e : ℕ) (value : Bool) : Type 0 where
     pub only : value ≡ true → IsAtLeaf flags high e
     pub each : IsAtLeaf flags high e → value ≡ true
+
+  -- the element of a node from `low` on and below `high`, a leaf
+  abbrev pub IsLeafFrom : ℕ → ℕ → ℕ → Type 0
+  IsLeafFrom low high e = (i : ℕ) × (low ≤ i) × (i < high) × (is_leaf_of e (g.kind i) ≡ true)
+
+  -- a value that was raised stays so, and is raised too where the element is at a leaf from `low` on and below `high`
+  pub record AddsLeaf (low high e : ℕ) (before value : Bool) : Type 0 where
+    pub only : value ≡ true → (before ≡ true) ⊎ IsLeafFrom low high e
+    pub kept : before ≡ true → value ≡ true
+    pub each : IsLeafFrom low high e → value ≡ true

@@ -40,6 +40,17 @@ pub record IsAt (t : Table) (place : ℕ) (passes : ℕ → Bool) : Type 0 where
   pub within : place < length t.sets
   pub exact : (e : ℕ) → e < t.width → has_at t place e ≡ passes e
 
+-- the places are those of sets of the table
+pub record ArePlaced (t : Table) (places : List ℕ) : Type 0 where
+  pub each : (i : ℕ) → i < length places → slice_index_or places i 0 < length t.sets
+
+-- the sets of nodes lie at their places in the table, whose set at 0 is empty, and as many elements count in all that is kept
+pub record IsTable (t : Table) (gathered : Gathering) (places : List ℕ) (elements : ℕ) : Type 0 where
+  pub empty : IsAt t 0 (λ _. false)
+  pub gathering : gathered.width ≡ t.width
+  pub marked : elements ≡ t.width
+  pub placed : ArePlaced t places
+
 -- an element is in the set of some node, and in that of each
 abbrev pub in_some : Table → List ℕ → List NodeId → ℕ → Bool
 in_some t places nodes e = list_any (λ p. has_at t (slice_index_or places p.0 0) e) nodes

@@ -106,7 +106,7 @@ pub(crate) fn union_of(
     requires within { All (λ p. p.0 < length places.now) nodes.now }
     requires placed { All (λ p. slice_index_or places.now p.0 0 < length sets.old.sets) nodes.now }
     ensures width { gathered.new.width ≡ gathered.old.width }
-    ensures grows { OnOk result (Grows sets.old sets.new) }
+    ensures grows { Grows sets.old sets.new }
     ensures union { IfOk result (λ place. IsAt sets.new place (in_some sets.old places.now nodes.now)) }
 {
     let largest = largest(sets, places, nodes);
@@ -133,7 +133,7 @@ pub(crate) fn intersection_of(
     requires within { All (λ p. p.0 < length places.now) nodes.now }
     requires placed { All (λ p. slice_index_or places.now p.0 0 < length sets.old.sets) nodes.now }
     ensures width { gathered.new.width ≡ gathered.old.width }
-    ensures grows { OnOk result (Grows sets.old sets.new) }
+    ensures grows { Grows sets.old sets.new }
     ensures intersection { IfOk result (λ place. IsAt sets.new place (in_each sets.old places.now nodes.now)) }
 {
     let smallest = smallest(sets, places, nodes);

@@ -4,10 +4,10 @@ ghost use Rattle.nc_graph.specs.Nodes.{node_flow, IsGraph};
 ghost use Rattle.nc_graph.specs.Derivation.{strong};
 ghost use Rattle.nc_marks.specs.Marks.{AreMarks};
 ghost use Rattle.nc_marks.specs.Reach.{IsClosed, strong_in};
-ghost use Rattle.nc_marks.specs.Sets.{flag, Grows, IsAt, in_some};
+ghost use Rattle.nc_marks.specs.Sets.{flag, Grows, IsAt};
 
 use crate::combine::{intersection_of, union_of};
-use crate::flags::flag_set;
+use crate::flags::flag_strong;
 use crate::gathered::Gathered;
 use crate::mark::Marks;
 use crate::reach::{elements_reached, reach};
@@ -21,7 +21,7 @@ use std::hash::Hash;
 mod tests;
 
 // The place of the strong elements of a node, by those of its parents.
-fn place_of<F: Copy + Eq + Hash>(
+pub(crate) fn place_of<F: Copy + Eq + Hash>(
     graph: &Graph<F>,
     sets: &mut Sets,
     gathered: &mut Gathered,
@@ -33,11 +33,13 @@ fn place_of<F: Copy + Eq + Hash>(
     requires len { length places.now ≡ node.0 }
     requires width { gathered.old.width ≡ sets.old.width }
     requires empty { IsAt sets.old 0 (λ _. false) }
-    requires below { All (λ p. IsAt sets.old (slice_index_or places.now p 0) (λ e. strong (node_flow graph.now) e p))
-        ((node_flow graph.now).parents node.0) }
+    requires placed { All (λ p. slice_index_or places.now p 0 < length sets.old.sets) ((node_flow graph.now).parents node.0) }
     ensures width { gathered.new.width ≡ gathered.old.width }
-    ensures grows { OnOk result (Grows sets.old sets.new) }
-    ensures strong { IfOk result (λ place. IsAt sets.new place (λ e. strong (node_flow graph.now) e node.0)) }
+    ensures grows { Grows sets.old sets.new }
+    ensures placed { IfOk result (λ place. place < length sets.new.sets) }
+    ensures strong { IfOk result (λ place.
+        All (λ p. IsAt sets.old (slice_index_or places.now p 0) (λ e. strong (node_flow graph.now) e p)) ((node_flow graph.now).parents node.0)
+        → IsAt sets.new place (λ e. strong (node_flow graph.now) e node.0)) }
 {
     let parents = graph.parents(node);
     let place = match graph.kind(node) {
@@ -75,20 +77,6 @@ fn places_of<F: Copy + Eq + Hash>(
         places.push(place)?;
     }
     Ok(places)
-}
-
-// Raises the flags of the elements of the sets of nodes, where none is raised.
-fn flag_strong(sets: &Sets, places: &[usize], nodes: &[NodeId], flags: &mut [bool])
-    requires within { All (λ p. p.0 < length places.now) nodes.now }
-    requires placed { All (λ p. slice_index_or places.now p.0 0 < length sets.now.sets) nodes.now }
-    requires lowered { (e : ℕ) → e < length flags.old → flag flags.old e ≡ false }
-    ensures len { length flags.new ≡ length flags.old }
-    ensures flags { (e : ℕ) → e < length flags.old
-        → flag flags.new e ≡ in_some sets.now places.now nodes.now e }
-{
-    'nodes: for node in nodes {
-        flag_set(flags, sets.get(places[node.0 as usize]), true);
-    }
 }
 
 // Which elements are strong for a tested node.

@@ -1,8 +1,9 @@
 //! Flags of elements and of nodes, by their numbers.
-ghost use Rattle.std.specs.Prelude.{◌≡◌, ◌||◌, ◌&&◌, ◌<◌, ℕ, All, length, true, if◌then◌else◌};
+ghost use Rattle.std.specs.Prelude.{◌≡◌, ◌||◌, ◌&&◌, ◌<◌, ℕ, All, length, true, slice_index_or, if◌then◌else◌};
 ghost use Rattle.std.specs.List.{filter};
-ghost use Rattle.nc_marks.specs.Sets.{has, has_node, flag};
+ghost use Rattle.nc_marks.specs.Sets.{has, has_node, flag, in_some};
 
+use crate::sets::Sets;
 use nc_graph::node::NodeId;
 
 // Gives the flags of a set's elements a value. Elements that have no flag are passed over.
@@ -16,6 +17,19 @@ pub(crate) fn flag_set(flags: &mut [bool], set: &[u32], value: bool)
         if element < flags.len() {
             flags[element] = value;
         }
+    }
+}
+
+// Raises the flags of the elements of the sets of nodes.
+pub(crate) fn flag_strong(sets: &Sets, places: &[usize], nodes: &[NodeId], flags: &mut [bool])
+    requires within { All (λ p. p.0 < length places.now) nodes.now }
+    requires placed { All (λ p. slice_index_or places.now p.0 0 < length sets.now.sets) nodes.now }
+    ensures len { length flags.new ≡ length flags.old }
+    ensures flags { (e : ℕ) → e < length flags.old
+        → flag flags.new e ≡ (in_some sets.now places.now nodes.now e || flag flags.old e) }
+{
+    'nodes: for node in nodes {
+        flag_set(flags, sets.get(places[node.0 as usize]), true);
     }
 }
 

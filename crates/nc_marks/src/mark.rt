@@ -1,9 +1,20 @@
 //! Marks of elements and of lines.
-ghost use Rattle.std.specs.Prelude.{◌≡◌, ◌↔◌, ◌-◌, ◌<◌, ◌≤◌, length, Some, None, slice_index_or};
-ghost use Rattle.std.specs.Option.{ForSome};
+ghost use Rattle.std.specs.Prelude.{◌≡◌, ◌↔◌, ◌||◌, ◌<◌, ◌≤◌, ℕ, All, length, false, Some, None, slice_index_or, IfOk};
+ghost use Rattle.nc_graph.specs.Nodes.{node_flow};
 ghost use Rattle.nc_marks.specs.Marks.{mark_of, marked_elements};
+ghost use Rattle.nc_marks.specs.Reach.{AddsLeaf};
+ghost use Rattle.nc_marks.specs.Sets.{flag, in_some};
 ghost use Rattle.nc_marks.specs.declared.mark.Mark.TheVariants.{Outside};
+ghost use Rattle.nc_types.specs.Network.{element_count, owner_at};
 
+use crate::flags::flag_strong;
+use crate::reach::flag_leaves_from;
+use crate::sets::Sets;
+use nc_graph::graph::Graph;
+use nc_graph::node::NodeId;
+use nc_types::{ElementId, Network, RouterId};
+use std::alloc::{AllocError, Global};
+use std::hash::Hash;
 use std::marker::Model;
 
 /// How an element or a line is covered by the tests.
@@ -46,32 +57,63 @@ impl Marks {
         Marks { strong, some }
     }
 
-    /// The mark of an element by its number, which is below the number of elements. It is never
-    /// `Outside`.
-    pub fn of_element(&self, element: u32) -> Mark
-        requires { element < marked_elements self.now }
-        ensures mark { result ≡ mark_of self.now (Some element) }
+    // No element is marked: each of the elements below `elements` is uncovered.
+    pub(crate) fn none(alloc: Global, elements: u32) -> Result<Marks, AllocError>
+        ensures elements { IfOk result (λ m. marked_elements m ≡ elements) }
+        ensures strong { IfOk result (λ m. (e : ℕ) → flag m.strong e ≡ false) }
+        ensures some { IfOk result (λ m. (e : ℕ) → flag m.some e ≡ false) }
+    {
+        let strong = vec![in alloc; false; elements as usize]?;
+        let some = vec![in alloc; false; elements as usize]?;
+        Ok(Marks { strong, some })
+    }
+
+    // Marks the elements of the sets of nodes as strong.
+    pub(crate) fn add_strong(&mut self, sets: &Sets, places: &[usize], nodes: &[NodeId])
+        requires within { All (λ p. p.0 < length places.now) nodes.now }
+        requires placed { All (λ p. slice_index_or places.now p.0 0 < length sets.now.sets) nodes.now }
+        ensures elements { marked_elements self.new ≡ marked_elements self.old }
+        ensures some { self.new.some ≡ self.old.some }
+        ensures strong { (e : ℕ) → e < marked_elements self.old
+            → flag self.new.strong e ≡ (in_some sets.now places.now nodes.now e || flag self.old.strong e) }
+    {
+        flag_strong(sets, places, nodes, &mut self.strong);
+    }
+
+    // Marks the elements of the leaves from a number on as being in some derivation.
+    pub(crate) fn add_leaves<F: Copy + Eq + Hash>(&mut self, graph: &Graph<F>, from: u32)
+        requires { from ≤ length graph.now.facts }
+        ensures elements { marked_elements self.new ≡ marked_elements self.old }
+        ensures strong { self.new.strong ≡ self.old.strong }
+        ensures some { (e : ℕ) → e < marked_elements self.old
+            → AddsLeaf (node_flow graph.now) from (length graph.now.facts) e (flag self.old.some e) (flag self.new.some e) }
+    {
+        flag_leaves_from(graph, from, &mut self.some);
+    }
+
+    /// The mark of an element, whose number is below the number of elements. It is never `Outside`.
+    pub fn of_element(&self, id: ElementId) -> Mark
+        requires { id.0 < marked_elements self.now }
+        ensures mark { result ≡ mark_of self.now (Some id.0) }
         ensures inside { result ≡ Outside → ⊥ }
     {
-        if self.strong[element as usize] {
+        if self.strong[id.0 as usize] {
             Mark::Strong
-        } else if self.some[element as usize] {
+        } else if self.some[id.0 as usize] {
             Mark::Weak
         } else {
             Mark::Uncovered
         }
     }
 
-    /// The mark of a line, from 1 to the number of lines: `Outside` where it has no owner, and else
-    /// the owner's. `owners` has the owner of each line, from line 1 on.
-    pub fn of_line(&self, owners: &[Option<u32>], line: u32) -> Mark
-        requires first { 0 < line }
-        requires last { line ≤ length owners.now }
-        requires known { ForSome (slice_index_or owners.now (line - 1) None) (λ e. e < marked_elements self.now) }
-        ensures mark { result ≡ mark_of self.now (slice_index_or owners.now (line - 1) None) }
-        ensures outside { result ≡ Outside ↔ (slice_index_or owners.now (line - 1) None ≡ None) }
+    /// The mark of a line of a router's file, from 1: `Outside` where no element has it, and else
+    /// that of the element. The marks are those of the elements of the network.
+    pub fn of_line(&self, network: &Network, router: RouterId, line: u32) -> Mark
+        requires { marked_elements self.now ≡ element_count network.now }
+        ensures mark { result ≡ mark_of self.now (owner_at network.now router.0 line) }
+        ensures outside { result ≡ Outside ↔ (owner_at network.now router.0 line ≡ None) }
     {
-        match owners[line as usize - 1] {
+        match network.owner(router, line) {
             Some(element) => self.of_element(element),
             None => Mark::Outside,
         }

@@ -1,8 +1,8 @@
 //! Which nodes the tested ones reach, and which elements are at the leaves among them.
-ghost use Rattle.std.specs.Prelude.{◌≡◌, ◌<◌, ◌||◌, ℕ, All, List, length, true, false, map, IfOk};
+ghost use Rattle.std.specs.Prelude.{◌≡◌, ◌<◌, ◌≤◌, ◌||◌, ℕ, All, List, length, true, false, map, IfOk};
 ghost use Rattle.nc_graph.specs.Nodes.{node_flow, IsGraph};
 ghost use Rattle.nc_marks.specs.Sets.{flag};
-ghost use Rattle.nc_marks.specs.Reach.{is_leaf_of, occurs_in, IsReached, IsClosed, TellsLeaf};
+ghost use Rattle.nc_marks.specs.Reach.{is_leaf_of, occurs_in, IsReached, IsClosed, TellsLeaf, AddsLeaf};
 
 use crate::flags::flag_nodes;
 use nc_graph::graph::Graph;
@@ -74,6 +74,18 @@ fn flag_leaf<F: Copy + Eq + Hash>(graph: &Graph<F>, node: NodeId, flags: &mut [b
         if element < flags.len() {
             flags[element] = true;
         }
+    }
+}
+
+// Raises the flags of the elements of all leaves from a number on.
+pub(crate) fn flag_leaves_from<F: Copy + Eq + Hash>(graph: &Graph<F>, from: u32, flags: &mut [bool])
+    requires { from ≤ length graph.now.facts }
+    ensures len { length flags.new ≡ length flags.old }
+    ensures leaves { (e : ℕ) → e < length flags.old
+        → AddsLeaf (node_flow graph.now) from (length graph.now.facts) e (flag flags.old e) (flag flags.new e) }
+{
+    'nodes: for number in from..graph.len() {
+        flag_leaf(graph, NodeId(number), flags);
     }
 }
 

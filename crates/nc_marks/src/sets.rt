@@ -1,5 +1,5 @@
 //! A table of sets of elements, in which nodes share the sets that are equal.
-ghost use Rattle.std.specs.Prelude.{◌≡◌, ◌<◌, [], ◌∷◌, length, false, nat_eq, slice_index_or, IfOk, OnOk};
+ghost use Rattle.std.specs.Prelude.{◌≡◌, ◌<◌, [], ◌∷◌, length, false, nat_eq, slice_index_or, take, IfOk};
 ghost use Rattle.nc_marks.specs.Sets.{has, Grows, IsAt};
 
 use std::alloc::{AllocError, Global};
@@ -32,6 +32,20 @@ impl Sets {
         Ok(Sets { sets, width, alloc })
     }
 
+    // How many sets there are.
+    pub(crate) fn len(&self) -> usize
+        ensures { result ≡ length self.now.sets }
+    {
+        self.sets.len()
+    }
+
+    // Keeps the sets at the places below `len`.
+    pub(crate) fn truncate(&mut self, len: usize)
+        ensures { self.new ≡ record self.old { sets = take len self.old.sets } }
+    {
+        self.sets.truncate(len);
+    }
+
     // The set at a place.
     pub(crate) fn get(&self, place: usize) -> &[u32]
         requires { place < length self.now.sets }
@@ -42,7 +56,7 @@ impl Sets {
 
     // Adds a copy of a set, and answers its place.
     pub(crate) fn add(&mut self, set: &[u32]) -> Result<usize, AllocError>
-        ensures grows { OnOk result (Grows self.old self.new) }
+        ensures grows { Grows self.old self.new }
         ensures added { IfOk result (λ place. IsAt self.new place (has set.now)) }
     {
         let place = self.sets.len();
@@ -54,7 +68,7 @@ impl Sets {
     // The place of the set of one element, or of none where the element doesn't count.
     pub(crate) fn single(&mut self, element: u32) -> Result<usize, AllocError>
         requires empty { IsAt self.old 0 (λ _. false) }
-        ensures grows { OnOk result (Grows self.old self.new) }
+        ensures grows { Grows self.old self.new }
         ensures single { IfOk result (λ place. IsAt self.new place (λ e. nat_eq e element)) }
     {
         if element >= self.width {

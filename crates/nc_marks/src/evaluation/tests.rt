@@ -1,63 +1,20 @@
-ghost use Rattle.std.specs.Prelude.{◌≡◌, ◌<◌, ◌^◌, IfOk};
-ghost use Rattle.nc_graph.specs.Ladder.{ladder, IsFlow-ladder};
+ghost use Rattle.std.specs.Prelude.{◌≡◌, IfOk};
 ghost use Rattle.nc_marks.specs.Marks.{marked_elements};
-ghost use Rattle.std.proofs.lemmas.Bool.{eqb-true};
 
 use super::*;
+use crate::ladder::Ladder;
 use crate::mark::Mark;
-use nc_graph::inference::Inference;
+use nc_types::{ElementId, Network, RouterId};
 use std::process::Abort;
 use std::test::Fail;
 
-// The leaves 0 and 1 of the elements 0 and 1, the conjunctive fact 2 over both, and the disjunctive
-// fact 3 over 0 and 2.
-#[derive(Drop)]
-struct Ladder {
-    asked: u64,
-    ghost counted: { asked < 2 ^ 64 },
-}
-
-impl Inference for Ladder {
-    type Fact = u32;
-
-    ghost flow = { λ _. ladder };
-
-    ghost asked = { λ rules. rules.asked };
-
-    fn infer(&mut self, fact: &u32, into: &mut Vec<u32>) -> Result<NodeKind, AllocError> {
-        self.asked = self.asked.saturating_add(1);
-        match *fact {
-            0 => Ok(NodeKind::Leaf(0)),
-            1 => Ok(NodeKind::Leaf(1)),
-            2 => {
-                into.extend_from_slice(&[0, 1])?;
-                Ok(NodeKind::Every)
-            }
-            3 => {
-                into.extend_from_slice(&[0, 2])?;
-                Ok(NodeKind::Any)
-            }
-            rung => {
-                into.push(rung - 1)?;
-                Ok(NodeKind::Every)
-            }
-        }
-    }
-
-    ghost lawful = { λ _. IsFlow-ladder };
-
-    ghost counted = { λ rules. rules.counted };
-
-    ghost exact = { eqb-true };
-}
-
-// The marks of three elements for tested facts.
-fn ladder_marks(alloc: Global, facts: &[u32]) -> Result<Marks, Fail>
-    ensures { IfOk result (λ m. marked_elements m ≡ 3) }
+// The marks of elements for tested facts.
+fn ladder_marks(alloc: Global, elements: u32, facts: &[u32]) -> Result<Marks, Fail>
+    ensures { IfOk result (λ m. marked_elements m ≡ elements) }
 {
     let mut graph = Graph::new(alloc, 10);
     let tested = graph.add(&mut Ladder { asked: 0 }, facts)?;
-    let marks = marks(alloc, &graph, 3, &tested)?;
+    let marks = marks(alloc, &graph, elements, &tested)?;
     Ok(marks)
 }
 
@@ -68,11 +25,11 @@ fn see(
     facts: &[u32],
     wanted: (Mark, Mark, Mark),
 ) -> Result<(), Fail> {
-    let marks = ladder_marks(alloc, facts)?;
+    let marks = ladder_marks(alloc, 3, facts)?;
     let seen = (
-        marks.of_element(0),
-        marks.of_element(1),
-        marks.of_element(2),
+        marks.of_element(ElementId(0)),
+        marks.of_element(ElementId(1)),
+        marks.of_element(ElementId(2)),
     );
     assert_eq!(rt; seen, wanted);
     Ok(())
@@ -116,17 +73,9 @@ fn marks_elements(rt: HostRuntime) -> Result<(), Fail> {
 
 #[test]
 fn marks_lines(rt: HostRuntime) -> Result<(), Fail> {
-    let marks = ladder_marks(rt.alloc(), &[3])?;
-    let owners = [None, Some(1), Some(0), Some(2)];
-    let lines = (
-        marks.of_line(&owners, 1),
-        marks.of_line(&owners, 2),
-        marks.of_line(&owners, 3),
-        marks.of_line(&owners, 4),
-    );
-    assert_eq!(rt;
-        lines,
-        (Mark::Outside, Mark::Weak, Mark::Strong, Mark::Uncovered)
-    );
+    // Of a network without routers, no line has an owner.
+    let network = Network::new(rt.alloc(), Vec::new(rt.alloc()))?;
+    let marks = ladder_marks(rt.alloc(), 0, &[3])?;
+    assert_eq!(rt; marks.of_line(&network, RouterId(0), 1), Mark::Outside);
     Ok(())
 }

@@ -1,0 +1,219 @@
+-- The text of what was read is what was read.
+use Rattle.std.proofs.Common.{◌≡◌, ℕ, ◌+◌, ◌-◌, ◌*◌, ◌/◌, ◌%◌, ◌^◌, ◌<◌, ◌≤◌, ◌&&◌, Bool, true, false, cond, List, [], ◌∷◌, ◌++◌, length, Option, Some, None, codes, append_assoc, refl, sym, ap, ◌∙◌, subst, arith}
+use Rattle.std.specs.Prelude.{nat_lt, nat_le, ◌==◌}
+use Rattle.std.specs.List.{list_all, slice_split, join_with_byte}
+use Rattle.std.specs.Option.{option_map, option_map_or}
+use Rattle.std.specs.Str.{bytes_eq}
+use Rattle.std.specs.Fmt.{decimal}
+use Rattle.std.proofs.lemmas.Bool.{leb-true, ltb-true, and_parts}
+use Rattle.std.proofs.lemmas.Fmt.{decimal_digit, decimal_step}
+use Rattle.std.proofs.lemmas.List.{append-nil}
+use Rattle.std.proofs.lemmas.List.Splits.{join_with_byte-slice_split}
+use Rattle.std.proofs.lemmas.Option.{option_and_then_some}
+use Rattle.std.proofs.lemmas.Slice.Eq.{bytes_eq-Decides}
+use Rattle.nc_types.specs.Cidr.{Cidr}
+use Rattle.nc_types.specs.Masks.{network_of}
+use Rattle.nc_types.specs.declared.addr.Addr.{Addr}
+use Rattle.nc_types.specs.declared.command.TestCommand.{TestCommand}
+use Rattle.nc_types.specs.declared.command.TestCommand.TheVariants.{Rib}
+use Rattle.nc_lines.specs.Lines.{words_of}
+use Rattle.nc_lines.specs.Numbers.{is_digit, value_after, is_plain, number_of, address_of, address_of_parts, prefix_of, prefix_of_parts}
+use Rattle.nc_lines.proofs.NumberLemmas.{value_after-ge}
+use Rattle.nc_command.specs.declared.command.Command.TheVariants.{Test}
+use Rattle.nc_command.specs.Command.{Passed, TooLong, Unread, Asks, begins_note, addr_of, address_behind, rib_of, quit_of, asked_by, command_of, dotted, cidr_text, spaced, prefix_text, text_of}
+
+-- ---- numbers
+
+-- a digit is 48 and its value
+digit-is : (d : ℕ) → is_digit d ≡ true → (48 ≤ d) × (d < 58)
+digit-is d h =
+    let parts = and_parts (nat_le 48 d) (nat_le d 57) h in
+    let low = leb-true 48 d parts.0 in
+    let high = leb-true d 57 parts.1 in
+    (low, omega arith)
+
+-- digits behind a number that isn't 0 are appended to its text
+decimal-after : (n : ℕ) (digits : List ℕ) → 0 < n → list_all is_digit digits ≡ true → value_after n digits < 2 ^ 64 → decimal (value_after n digits) ≡ decimal n ++ digits
+decimal-after n [] some all small = sym (append-nil (decimal n))
+decimal-after n (d ∷ ds) some all small =
+    let parts = and_parts (is_digit d) (list_all is_digit ds) all in
+    let digit = digit-is d parts.0 in
+    let low : 48 ≤ d = digit.0 in
+    let high : d < 58 = digit.1 in
+    let m = 10 * n + (d - 48) in
+    let less : m ≤ value_after m ds = value_after-ge m ds in
+    let step : decimal m ≡ decimal (m / 10) ++ ((48 + m % 10) ∷ []) = decimal_step m (omega arith) (omega arith) in
+    let front : m / 10 ≡ n = omega arith in
+    let last : 48 + m % 10 ≡ d = omega arith in
+    decimal-after m ds (omega arith) parts.1 small
+    ∙ ap (λ t. t ++ ds) (step ∙ ap (λ k. decimal k ++ ((48 + m % 10) ∷ [])) front ∙ ap (λ k. decimal n ++ (k ∷ [])) last)
+    ∙ append_assoc (decimal n) (d ∷ []) ds
+
+-- the text of the number that digits without a leading zero make
+decimal-plain : (word : List ℕ) → is_plain word ≡ true → value_after 0 word < 2 ^ 64 → decimal (value_after 0 word) ≡ word
+decimal-plain [] plain small = absurd (cc)
+decimal-plain (d ∷ []) plain small =
+    let digit = digit-is d plain in
+    let low : 48 ≤ d = digit.0 in
+    let high : d < 58 = digit.1 in
+    let value : 10 * 0 + (d - 48) < 10 = omega arith in
+    let same : 48 + (10 * 0 + (d - 48)) ≡ d = omega arith in
+    decimal_digit (10 * 0 + (d - 48)) value ∙ ap (λ k. k ∷ []) same
+decimal-plain (d ∷ e ∷ es) plain small =
+    let parts = and_parts (nat_lt 48 d) (list_all is_digit (d ∷ e ∷ es)) plain in
+    let all = and_parts (is_digit d) (list_all is_digit (e ∷ es)) parts.1 in
+    let above : 48 < d = ltb-true 48 d parts.0 in
+    let digit = digit-is d all.0 in
+    let high : d < 58 = digit.1 in
+    let value : 10 * 0 + (d - 48) < 10 = omega arith in
+    let some : 0 < 10 * 0 + (d - 48) = omega arith in
+    let same : 48 + (10 * 0 + (d - 48)) ≡ d = omega arith in
+    decimal-after (10 * 0 + (d - 48)) (e ∷ es) some all.1 small
+    ∙ ap (λ t. t ++ (e ∷ es)) (decimal_digit (10 * 0 + (d - 48)) value ∙ ap (λ k. k ∷ []) same)
+
+-- a word that writes a number is that number's text
+number-text : (most n : ℕ) (word : List ℕ) → most < 2 ^ 32 → number_of most word ≡ Some n → (decimal n ≡ word) × (n ≤ most)
+unfolding number_of
+number-text most n word few at = by_test (is_plain word && nat_le (value_after 0 word) most) refl at
+  where
+    by_test : (b : Bool) → (is_plain word && nat_le (value_after 0 word) most) ≡ b → cond b (Some (value_after 0 word)) None ≡ Some n → (decimal n ≡ word) × (n ≤ most)
+    by_test false test is = absurd (cc)
+    by_test true test is =
+        let parts = and_parts (is_plain word) (nat_le (value_after 0 word) most) test in
+        let within : value_after 0 word ≤ most = leb-true (value_after 0 word) most parts.1 in
+        let same : value_after 0 word ≡ n = cc in
+        (ap decimal (sym same) ∙ decimal-plain word parts.0 (omega arith), subst (λ k. k ≤ most) same within)
+
+-- ---- addresses and prefixes
+
+octets : (a b c d : ℕ) → a ≤ 255 → b ≤ 255 → c ≤ 255 → d ≤ 255 → dotted (((a * 256 + b) * 256 + c) * 256 + d) ≡ join_with_byte 46 (decimal a ∷ decimal b ∷ decimal c ∷ decimal d ∷ [])
+octets a b c d la lb lc ld =
+    let n = ((a * 256 + b) * 256 + c) * 256 + d in
+    let first : n / 16777216 ≡ a = omega arith in
+    let second : n / 65536 % 256 ≡ b = omega arith in
+    let third : n / 256 % 256 ≡ c = omega arith in
+    let fourth : n % 256 ≡ d = omega arith in
+    ap (λ k. join_with_byte 46 (decimal k ∷ decimal (n / 65536 % 256) ∷ decimal (n / 256 % 256) ∷ decimal (n % 256) ∷ [])) first
+    ∙ ap (λ k. join_with_byte 46 (decimal a ∷ decimal k ∷ decimal (n / 256 % 256) ∷ decimal (n % 256) ∷ [])) second
+    ∙ ap (λ k. join_with_byte 46 (decimal a ∷ decimal b ∷ decimal k ∷ decimal (n % 256) ∷ [])) third
+    ∙ ap (λ k. join_with_byte 46 (decimal a ∷ decimal b ∷ decimal c ∷ decimal k ∷ [])) fourth
+
+address-parts : (parts : List (List ℕ)) (n : ℕ) → address_of_parts parts ≡ Some n → dotted n ≡ join_with_byte 46 parts
+address-parts [] n at = absurd (cc)
+address-parts (p ∷ []) n at = absurd (cc)
+address-parts (p ∷ q ∷ []) n at = absurd (cc)
+address-parts (p ∷ q ∷ r ∷ []) n at = absurd (cc)
+address-parts (p ∷ q ∷ r ∷ s ∷ t ∷ us) n at = absurd (cc)
+address-parts (p ∷ q ∷ r ∷ s ∷ []) n at =
+    option_and_then_some _ (number_of 255 p) n at (λ a is-a in-a.
+    option_and_then_some _ (number_of 255 q) n in-a (λ b is-b in-b.
+    option_and_then_some _ (number_of 255 r) n in-b (λ c is-c in-c.
+    option_and_then_some _ (number_of 255 s) n in-c (λ d is-d in-d. four a b c d is-a is-b is-c is-d in-d))))
+  where
+    four : (a b c d : ℕ) → number_of 255 p ≡ Some a → number_of 255 q ≡ Some b → number_of 255 r ≡ Some c → number_of 255 s ≡ Some d → Some (((a * 256 + b) * 256 + c) * 256 + d) ≡ Some n
+        → dotted n ≡ join_with_byte 46 (p ∷ q ∷ r ∷ s ∷ [])
+    four a b c d is-a is-b is-c is-d is =
+        let ta = number-text 255 a p (omega arith) is-a in
+        let tb = number-text 255 b q (omega arith) is-b in
+        let tc = number-text 255 c r (omega arith) is-c in
+        let td = number-text 255 d s (omega arith) is-d in
+        let same : ((a * 256 + b) * 256 + c) * 256 + d ≡ n = cc in
+        ap dotted (sym same) ∙ octets a b c d ta.1 tb.1 tc.1 td.1
+        ∙ ap (λ w. join_with_byte 46 (w ∷ decimal b ∷ decimal c ∷ decimal d ∷ [])) ta.0
+        ∙ ap (λ w. join_with_byte 46 (p ∷ w ∷ decimal c ∷ decimal d ∷ [])) tb.0
+        ∙ ap (λ w. join_with_byte 46 (p ∷ q ∷ w ∷ decimal d ∷ [])) tc.0
+        ∙ ap (λ w. join_with_byte 46 (p ∷ q ∷ r ∷ w ∷ [])) td.0
+
+address-text : (word : List ℕ) (n : ℕ) → address_of word ≡ Some n → dotted n ≡ word
+unfolding address_of
+address-text word n at = address-parts (slice_split (λ b. b == 46) word) n at ∙ join_with_byte-slice_split 46 word
+
+prefix-parts : (parts : List (List ℕ)) (p : Cidr) → prefix_of_parts parts ≡ Some p → cidr_text p ≡ join_with_byte 47 parts
+prefix-parts [] p at = absurd (cc)
+prefix-parts (a ∷ []) p at = absurd (cc)
+prefix-parts (a ∷ b ∷ c ∷ ds) p at = absurd (cc)
+prefix-parts (address ∷ len ∷ []) p at =
+    option_and_then_some _ (address_of address) p at (λ base is-base in-base.
+    option_and_then_some _ (number_of 32 len) p in-base (λ bits is-bits in-bits. two base bits is-base is-bits (network_of base bits == base) in-bits))
+  where
+    two : (base bits : ℕ) → address_of address ≡ Some base → number_of 32 len ≡ Some bits → (b : Bool) → cond b (Some (let c : Cidr = record { base = base; len = bits } in c)) None ≡ Some p
+        → cidr_text p ≡ join_with_byte 47 (address ∷ len ∷ [])
+    two base bits is-base is-bits false is = absurd (cc)
+    two base bits is-base is-bits true is =
+        let same : ◌≡◌ {A = Cidr} (record { base = base; len = bits }) p = cc in
+        ap cidr_text (sym same)
+        ∙ ap (λ w. join_with_byte 47 (w ∷ decimal bits ∷ [])) (address-text address base is-base)
+        ∙ ap (λ w. join_with_byte 47 (address ∷ w ∷ [])) (number-text 32 bits len (omega arith) is-bits).0
+
+prefix-text : (word : List ℕ) (p : Cidr) → prefix_of word ≡ Some p → cidr_text p ≡ word
+unfolding prefix_of
+prefix-text word p at = prefix-parts (slice_split (λ b. b == 47) word) p at ∙ join_with_byte-slice_split 47 word
+
+-- ---- tests
+
+map-some : {A B : Type 0} (f : A → B) (o : Option A) (y : B) → option_map f o ≡ Some y → (x : A) × (o ≡ Some x) × (f x ≡ y)
+map-some f None y at = absurd (cc)
+map-some f (Some x) y at = (x, refl, cc)
+
+-- a key word and an address behind a prefix
+behind-text : (command name : List ℕ) (p : Cidr) (key : List ℕ) (words : List (List ℕ)) (via : Option Addr) → address_behind key words ≡ Some via
+    → prefix_text command name p key via ≡ spaced (command ∷ name ∷ cidr_text p ∷ words)
+behind-text command name p key [] via at = ap (prefix_text command name p key) (let same : via ≡ None = cc in same)
+behind-text command name p key (a ∷ []) via at = absurd (cc)
+behind-text command name p key (a ∷ b ∷ c ∷ ds) via at = absurd (cc)
+behind-text command name p key (word ∷ address ∷ []) via at = by_key (bytes_eq word key) refl at
+  where
+    by_key : (b : Bool) → bytes_eq word key ≡ b → cond b (option_map Some (addr_of address)) None ≡ Some via
+        → prefix_text command name p key via ≡ spaced (command ∷ name ∷ cidr_text p ∷ word ∷ address ∷ [])
+    by_key false test is = absurd (cc)
+    by_key true test is =
+        let some = map-some Some (addr_of address) via is in
+        let addr = map-some (λ (a : ℕ). let r : Addr = record { 0 = a } in r) (address_of address) some.0 some.1 in
+        let same : key ≡ word = sym ((bytes_eq-Decides word key).0 test) in
+        ap (prefix_text command name p key) (sym some.2)
+        ∙ ap (λ (a : Addr). spaced (command ∷ name ∷ cidr_text p ∷ key ∷ dotted a.0 ∷ [])) (sym addr.2)
+        ∙ ap (λ w. spaced (command ∷ name ∷ cidr_text p ∷ key ∷ w ∷ [])) (address-text address addr.0 addr.1)
+        ∙ ap (λ w. spaced (command ∷ name ∷ cidr_text p ∷ w ∷ address ∷ [])) same
+
+rib-text : (words : List (List ℕ)) (test : TestCommand) → rib_of words ≡ Some test → text_of test ≡ spaced (codes "rib" ∷ words)
+rib-text [] test at = absurd (cc)
+rib-text (a ∷ []) test at = absurd (cc)
+rib-text (name ∷ word ∷ words) test at =
+    option_and_then_some _ (prefix_of word) test at (λ p is-p in-p.
+    let via = map-some (λ via. Rib name p via) (address_behind (codes "via") words) test in-p in
+    ap text_of (sym via.2)
+    ∙ behind-text (codes "rib") name p (codes "via") words via.0 via.1
+    ∙ ap (λ w. spaced (codes "rib" ∷ name ∷ w ∷ words)) (prefix-text word p is-p))
+
+-- a test that words ask has the words as its text
+asked-text : (words : List (List ℕ)) (test : TestCommand) → asked_by words ≡ Asks (Test test) → text_of test ≡ spaced words
+asked-text [] test at = absurd (cc)
+asked-text (word ∷ words) test at = by_note (begins_note word) at
+  where
+    by_quit : (b : Bool) (ws : List (List ℕ)) → cond b (quit_of ws) Unread ≡ Asks (Test test) → text_of test ≡ spaced (word ∷ words)
+    by_quit false ws is = absurd (cc)
+    by_quit true [] is = absurd (cc)
+    by_quit true (w ∷ ws) is = absurd (cc)
+
+    by_test : (o : Option TestCommand) → rib_of words ≡ o → option_map_or (λ test. Asks (Test test)) o Unread ≡ Asks (Test test) → rib_of words ≡ Some test
+    by_test None found is = absurd (cc)
+    by_test (Some t) found is = let same : t ≡ test = cc in found ∙ ap Some same
+
+    by_rib : (b : Bool) → bytes_eq word (codes "rib") ≡ b
+        → cond b (option_map_or (λ test. Asks (Test test)) (rib_of words) Unread) (cond (bytes_eq word (codes "quit")) (quit_of words) Unread) ≡ Asks (Test test)
+        → text_of test ≡ spaced (word ∷ words)
+    by_rib false test is = by_quit (bytes_eq word (codes "quit")) words is
+    by_rib true same is = rib-text words test (by_test (rib_of words) refl is) ∙ ap (λ w. spaced (w ∷ words)) (sym ((bytes_eq-Decides word (codes "rib")).0 same))
+
+    by_note : (b : Bool) → cond b Passed (cond (bytes_eq word (codes "rib")) (option_map_or (λ test. Asks (Test test)) (rib_of words) Unread) (cond (bytes_eq word (codes "quit")) (quit_of words) Unread)) ≡ Asks (Test test)
+        → text_of test ≡ spaced (word ∷ words)
+    by_note true is = absurd (cc)
+    by_note false is = by_rib (bytes_eq word (codes "rib")) refl is
+
+pub line-text : (line : List ℕ) (test : TestCommand) → command_of line ≡ Asks (Test test) → text_of test ≡ spaced (words_of line)
+unfolding command_of
+line-text line test at = by_length (nat_lt 4096 (length line)) at
+  where
+    by_length : (b : Bool) → cond b TooLong (asked_by (words_of line)) ≡ Asks (Test test) → text_of test ≡ spaced (words_of line)
+    by_length true is = absurd (cc)
+    by_length false is = asked-text (words_of line) test is

@@ -1,0 +1,109 @@
+-- The session language: what a line of a session asks, and the text of a test.
+use Rattle.std.specs.Prelude.{◌≡◌, ℕ, ◌/◌, ◌%◌, Bool, false, ◌==◌, nat_lt, List, [], ◌∷◌, length, Option, Some, None, Result, Ok, Err, option_and_then, if◌then◌else◌, codes}
+use Rattle.std.specs.List.{join_with_byte}
+use Rattle.std.specs.Option.{option_map, option_map_or}
+use Rattle.std.specs.Str.{bytes_eq}
+use Rattle.std.specs.Fmt.{decimal}
+use Rattle.nc_types.specs.Cidr.{Cidr}
+use Rattle.nc_types.specs.declared.addr.Addr.{Addr}
+use Rattle.nc_types.specs.declared.command.TestCommand.{TestCommand}
+use Rattle.nc_types.specs.declared.command.TestCommand.TheVariants.{Rib, Bgp, Session, Reach, Every, Element}
+use Rattle.nc_lines.specs.Lines.{words_of}
+use Rattle.nc_lines.specs.Numbers.{address_of, prefix_of}
+use Rattle.nc_command.specs.declared.command.Command.{Command}
+use Rattle.nc_command.specs.declared.command.Command.TheVariants.{Test, Quit}
+use Rattle.nc_command.specs.declared.fault.CommandFault.{CommandFault}
+use Rattle.nc_command.specs.declared.fault.CommandFault.TheVariants.{Long, Syntax, Memory}
+
+-- ---- what a line asks
+
+-- what a line of a session is
+pub data Line : Type 0 where
+  -- blank or a note: it is passed over
+  Passed : Line
+  -- of too many bytes
+  TooLong : Line
+  -- no command
+  Unread : Line
+  Asks : Command → Line
+
+-- a word that begins with a number sign
+abbrev pub begins_note : List ℕ → Bool
+begins_note [] = false
+begins_note (b ∷ bs) = b == 35
+
+-- the address that a word writes
+abbrev pub addr_of : List ℕ → Option Addr
+addr_of word = option_map (λ a. record { 0 = a }) (address_of word)
+
+-- what may stand behind the needed words: nothing, or a key word and an address
+abbrev pub address_behind : List ℕ → List (List ℕ) → Option (Option Addr)
+address_behind key [] = Some None
+address_behind key (word ∷ address ∷ []) = if bytes_eq word key then option_map Some (addr_of address) else None
+address_behind key words = None
+
+-- the test that the words behind `rib` make: a name, a prefix, and perhaps `via` and an address
+abbrev pub rib_of : List (List ℕ) → Option TestCommand
+rib_of (name ∷ prefix ∷ words) = option_and_then (λ p. option_map (λ via. Rib name p via) (address_behind (codes "via") words)) (prefix_of prefix)
+rib_of words = None
+
+-- `quit` and nothing behind it
+abbrev pub quit_of : List (List ℕ) → Line
+quit_of [] = Asks Quit
+quit_of (word ∷ words) = Unread
+
+-- what the words of a line ask
+abbrev pub asked_by : List (List ℕ) → Line
+asked_by [] = Passed
+asked_by (word ∷ words) =
+    if begins_note word then Passed
+    else (if bytes_eq word (codes "rib") then option_map_or (λ test. Asks (Test test)) (rib_of words) Unread
+    else (if bytes_eq word (codes "quit") then quit_of words else Unread))
+
+-- what a line of a session is, by its bytes
+unfoldable pub command_of : List ℕ → Line
+command_of line = if nat_lt 4096 (length line) then TooLong else asked_by (words_of line)
+
+-- the answer of a reader tells what the line is; where memory is refused it tells nothing
+abbrev pub IsRead : Line → Result (Option Command) CommandFault → Type 0
+IsRead line (Ok None) = line ≡ Passed
+IsRead line (Ok (Some command)) = line ≡ Asks command
+IsRead line (Err Long) = line ≡ TooLong
+IsRead line (Err Syntax) = line ≡ Unread
+IsRead line (Err Memory) = Unit {0}
+
+-- ---- the text of a test
+
+-- an address as four numbers with dots between them
+abbrev pub dotted : ℕ → List ℕ
+dotted a = join_with_byte 46 (decimal (a / 16777216) ∷ decimal (a / 65536 % 256) ∷ decimal (a / 256 % 256) ∷ decimal (a % 256) ∷ [])
+
+-- a prefix as its address and its length with a slash between them
+abbrev pub cidr_text : Cidr → List ℕ
+cidr_text p = join_with_byte 47 (dotted p.base ∷ decimal p.len ∷ [])
+
+-- words with a space between each two
+abbrev pub spaced : List (List ℕ) → List ℕ
+spaced words = join_with_byte 32 words
+
+-- a command for a prefix of a router, and perhaps for an address behind a key word
+abbrev pub prefix_text : List ℕ → List ℕ → Cidr → List ℕ → Option Addr → List ℕ
+prefix_text command name p key None = spaced (command ∷ name ∷ cidr_text p ∷ [])
+prefix_text command name p key (Some addr) = spaced (command ∷ name ∷ cidr_text p ∷ key ∷ dotted addr.0 ∷ [])
+
+-- a command for an address
+abbrev pub address_text : List ℕ → List ℕ → Addr → List ℕ
+address_text command name addr = spaced (command ∷ name ∷ dotted addr.0 ∷ [])
+
+-- a command for a line
+abbrev pub line_text : List ℕ → List ℕ → ℕ → List ℕ
+line_text command name line = spaced (command ∷ name ∷ decimal line ∷ [])
+
+-- the text of a test
+abbrev pub text_of : TestCommand → List ℕ
+text_of (Rib name p via) = prefix_text (codes "rib") name p (codes "via") via
+text_of (Bgp name p sender) = prefix_text (codes "bgp") name p (codes "from") sender
+text_of (Session name addr) = address_text (codes "session") name addr
+text_of (Reach name addr) = address_text (codes "reach") name addr
+text_of (Every name addr) = address_text (codes "every") name addr
+text_of (Element name line) = line_text (codes "element") name line

@@ -1,0 +1,84 @@
+//! What a line of a session asks, read word by word.
+
+ghost use Rattle.std.specs.Prelude.{◌≡◌, IfOk};
+ghost use Rattle.std.specs.Option.{option_map};
+ghost use Rattle.nc_lines.specs.Lines.{words_of};
+ghost use Rattle.nc_command.specs.Command.{address_behind, rib_of, command_of, IsRead};
+
+use crate::command::Command;
+use crate::fault::CommandFault;
+use nc_lines::cut::cut_word;
+use nc_lines::numbers::{read_address, read_prefix};
+use nc_types::{Addr, TestCommand, Text};
+use std::alloc::{AllocError, Global};
+
+/// How many bytes a line may have, without its line end.
+pub const LINE_LIMIT: usize = 4096;
+
+// What may stand at the end of a line: nothing, or a key word and an address. None where it is another
+// thing.
+fn read_behind(rest: &[u8], key: &[u8]) -> Option<Option<Addr>>
+    ensures { result ≡ address_behind key.now (words_of rest.now) }
+{
+    let Some((word, rest)) = cut_word(rest) else {
+        return Some(None);
+    };
+    let (address, rest) = cut_word(rest)?;
+    if word != key || cut_word(rest).is_some() {
+        return None;
+    }
+    let address = read_address(address)?;
+    Some(Some(address))
+}
+
+// The test that the words behind `rib` make, if they make one.
+fn read_rib(alloc: Global, rest: &[u8]) -> Result<Option<TestCommand>, AllocError>
+    ensures { IfOk result (λ test. test ≡ rib_of (words_of rest.now)) }
+{
+    let Some((name, rest)) = cut_word(rest) else {
+        return Ok(None);
+    };
+    let Some((word, rest)) = cut_word(rest) else {
+        return Ok(None);
+    };
+    let Some(prefix) = read_prefix(word) else {
+        return Ok(None);
+    };
+    let Some(via) = read_behind(rest, b"via") else {
+        return Ok(None);
+    };
+    let name = Text::new(alloc, name)?;
+    Ok(Some(TestCommand::Rib(name, prefix, via)))
+}
+
+/// What a line asks, given without its line end; `None` where it is blank or its first word begins with
+/// `#`, so that it is passed over.
+///
+/// # Errors
+///
+/// `Long` where the line has more than 4,096 bytes, whatever they are; `Syntax` where it is no command;
+/// and `Memory` where memory is refused.
+#[tactic(auto, unfolding(crate::specs::Command::command_of))]
+pub fn read_command(alloc: Global, line: &[u8]) -> Result<Option<Command>, CommandFault>
+    ensures { IsRead (command_of line.now) result }
+{
+    if line.len() > LINE_LIMIT {
+        return Err(CommandFault::Long);
+    }
+    let Some((word, rest)) = cut_word(line) else {
+        return Ok(None);
+    };
+    if word.first() == Some(&b'#') {
+        return Ok(None);
+    }
+    if word == b"rib".as_slice() {
+        let Some(test) = read_rib(alloc, rest)? else {
+            return Err(CommandFault::Syntax);
+        };
+        return Ok(Some(Command::Test(test)));
+    }
+    if word == b"quit".as_slice() && cut_word(rest).is_none() {
+        return Ok(Some(Command::Quit));
+    }
+    Err(CommandFault::Syntax)
+}

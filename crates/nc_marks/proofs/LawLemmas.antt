@@ -1,0 +1,186 @@
+-- The laws of marks: over a graph that extends another, and over facts in place of nodes.
+use Rattle.std.proofs.Common.{◌≡◌, ◌↔◌, ℕ, suc, zero, ◌<◌, ◌≤◌, inl, inr, true, List, [], ◌∷◌, length, map, get_or, Some, None, Option, slice_get, nat_eq, nat_lt, sym, ap, ◌∙◌, subst, refl, arith, All}
+use Rattle.std.proofs.lemmas.Bool.{lt-ltb, ltb-true}
+use Rattle.std.proofs.lemmas.List.{get_or-take}
+use Rattle.std.specs.List.{list_any, list_all, Any}
+use Rattle.nc_graph.specs.declared.node.NodeKind.TheVariants as kind
+use Rattle.nc_graph.specs.declared.node.NodeId.{NodeId}
+use Rattle.nc_graph.specs.Closure.{Reaches, itself, by_parent, IsReachedFrom, IsClosure}
+use Rattle.nc_graph.specs.Derivation.{IsStrong, IsInSome, strong, occurs}
+use Rattle.nc_graph.specs.Flow.{Flow, IsFlow, by_kind}
+use Rattle.nc_graph.specs.Nodes.{Nodes, node_flow, IsGraph, Mirrors, Extends}
+use Rattle.nc_graph.proofs.Members.{In, any_same, all_same, get_in, at_within, of_all}
+use Rattle.nc_graph.proofs.DerivationLaws.{by_rank, parent_holds, strong-step, occurs-step, IsStrong-is, IsInSome-is}
+use Rattle.nc_graph.proofs.NodeLaws.{IsStrong-node, IsInSome-node}
+use Rattle.nc_graph.proofs.WalkLemmas.{Contains-in, in-Contains, Apart, distinct-Apart, prefix-length}
+use Rattle.nc_marks.specs.declared.mark.Mark.{Mark}
+use Rattle.nc_marks.specs.declared.mark.Mark.TheVariants.{Strong, Weak, Uncovered, Outside}
+use Rattle.nc_marks.specs.Kept.{Kept, AreKept}
+use Rattle.nc_marks.specs.Marks.{IsMark, AreMarks, ElementMarks, mark_of}
+
+-- an element of a list with a fact of it
+abbrev With : {X : Type 0} → (X → Type 0) → List X → Type 0
+With {X} P xs = (x : X) × In x xs × P x
+
+any-from : {X Y : Type 0} (P : X → Type 0) (Q : Y → Type 0) (xs : List X) (ys : List Y) → ((x : X) → In x xs → P x → With Q ys) → Any P xs → Any Q ys
+any-from P Q xs ys f a =
+    let r = f a.1 (Contains-in xs a.1 (a.0, a.2, a.3)) a.4 in
+    let c = in-Contains ys r.0 r.1 in
+    (c.0, r.0, c.1, c.2, r.2)
+
+each-both : {X : Type 0} (V P Q : X → Type 0) (xs : List X) → All V xs → ((x : X) → V x → P x ↔ Q x) → Any P xs ↔ Any Q xs
+each-both V P Q xs valid both = (
+  any-from P Q xs xs (λ x i p. (x, i, (both x (of_all V xs x valid i)).0 p)),
+  any-from Q P xs xs (λ x i q. (x, i, (both x (of_all V xs x valid i)).1 q)),
+)
+
+module _ {X Y : Type 0} (g : Flow X) (xs : List X) (h : Flow Y) (ys : List Y)
+    (strongs : (e : ℕ) → Any (IsStrong g e) xs ↔ Any (IsStrong h e) ys) (somes : (e : ℕ) → Any (IsInSome g e) xs ↔ Any (IsInSome h e) ys) where
+  mark-carried : (owner : Option ℕ) (m : Mark) → IsMark g xs owner m → IsMark h ys owner m
+  mark-carried (Some e) Strong m = (strongs e).0 m
+  mark-carried (Some e) Weak m = (λ a. m.0 ((strongs e).1 a), (somes e).0 m.1)
+  mark-carried (Some e) Uncovered m = (λ a. m.0 ((strongs e).1 a), λ a. m.1 ((somes e).1 a))
+  mark-carried (Some e) Outside m = m
+  mark-carried None Strong m = m
+  mark-carried None Weak m = m
+  mark-carried None Uncovered m = m
+  mark-carried None Outside m = m
+
+  -- where the same elements are strong and in some derivation, the marks are the same
+  pub marks-carried : (elements : ℕ) (m : ElementMarks) → AreMarks g xs elements m → AreMarks h ys elements m
+  marks-carried elements m are = record { count = are.count; each = λ owner known. mark-carried owner (mark_of m owner) (are.each owner known) }
+
+-- ---- a graph that extends another
+
+module _ {F : Type 0} (old new : Nodes F) (is : IsGraph old) (longer : IsGraph new) (ext : Extends old new) where
+  more : length old.facts ≤ length new.facts
+  more = prefix-length old.facts new.facts ext.facts
+
+  holds-new : (i : ℕ) → nat_lt i (length old.facts) ≡ true → nat_lt i (length new.facts) ≡ true
+  holds-new i h = let lt = ltb-true i (length old.facts) h in let all = more in lt-ltb i (length new.facts) (omega arith)
+
+  kind-same : (i : ℕ) → nat_lt i (length old.facts) ≡ true → (node_flow new).kind i ≡ (node_flow old).kind i
+  kind-same i h =
+      sym (get_or-take (length old.facts) new.kinds i kind.Every (ltb-true i (length old.facts) h)) ∙ ap (λ ks. get_or ks i kind.Every) ext.kinds
+
+  parents-same : (i : ℕ) → nat_lt i (length old.facts) ≡ true → (node_flow new).parents i ≡ (node_flow old).parents i
+  parents-same i h =
+      ap (map (λ (p : NodeId). p.0)) (sym (get_or-take (length old.facts) new.parents i [] (ltb-true i (length old.facts) h)) ∙ ap (λ ps. get_or ps i []) ext.parents)
+
+  strong-same : (e i : ℕ) → nat_lt i (length old.facts) ≡ true → strong (node_flow new) e i ≡ strong (node_flow old) e i
+  strong-same e = by_rank (node_flow old) is.flow (λ i. strong (node_flow new) e i ≡ strong (node_flow old) e i) (λ i h below.
+      let ps = (node_flow old).parents i in
+      strong-step (node_flow new) longer.flow e i (holds-new i h)
+      ∙ ap (λ k. by_kind k (nat_eq e) (list_any (strong (node_flow new) e) ((node_flow new).parents i)) (list_all (strong (node_flow new) e) ((node_flow new).parents i))) (kind-same i h)
+      ∙ ap (λ qs. by_kind ((node_flow old).kind i) (nat_eq e) (list_any (strong (node_flow new) e) qs) (list_all (strong (node_flow new) e) qs)) (parents-same i h)
+      ∙ ap (λ b. by_kind ((node_flow old).kind i) (nat_eq e) b (list_all (strong (node_flow new) e) ps)) (any_same (strong (node_flow new) e) (strong (node_flow old) e) ps below)
+      ∙ ap (λ b. by_kind ((node_flow old).kind i) (nat_eq e) (list_any (strong (node_flow old) e) ps) b) (all_same (strong (node_flow new) e) (strong (node_flow old) e) ps below)
+      ∙ sym (strong-step (node_flow old) is.flow e i h))
+
+  occurs-same : (e i : ℕ) → nat_lt i (length old.facts) ≡ true → occurs (node_flow new) e i ≡ occurs (node_flow old) e i
+  occurs-same e = by_rank (node_flow old) is.flow (λ i. occurs (node_flow new) e i ≡ occurs (node_flow old) e i) (λ i h below.
+      let ps = (node_flow old).parents i in
+      occurs-step (node_flow new) longer.flow e i (holds-new i h)
+      ∙ ap (λ k. by_kind k (nat_eq e) (list_any (occurs (node_flow new) e) ((node_flow new).parents i)) (list_any (occurs (node_flow new) e) ((node_flow new).parents i))) (kind-same i h)
+      ∙ ap (λ qs. by_kind ((node_flow old).kind i) (nat_eq e) (list_any (occurs (node_flow new) e) qs) (list_any (occurs (node_flow new) e) qs)) (parents-same i h)
+      ∙ ap (λ b. by_kind ((node_flow old).kind i) (nat_eq e) b b) (any_same (occurs (node_flow new) e) (occurs (node_flow old) e) ps below)
+      ∙ sym (occurs-step (node_flow old) is.flow e i h))
+
+  strong-both : (e i : ℕ) → i < length old.facts → IsStrong (node_flow old) e i ↔ IsStrong (node_flow new) e i
+  strong-both e i lt =
+      let h = lt-ltb i (length old.facts) lt in
+      let here = IsStrong-is (node_flow old) is.flow e i h in
+      let there = IsStrong-is (node_flow new) longer.flow e i (holds-new i h) in
+      (λ s. there.1 (strong-same e i h ∙ here.0 s), λ s. here.1 (sym (strong-same e i h) ∙ there.0 s))
+
+  some-both : (e i : ℕ) → i < length old.facts → IsInSome (node_flow old) e i ↔ IsInSome (node_flow new) e i
+  some-both e i lt =
+      let h = lt-ltb i (length old.facts) lt in
+      let here = IsInSome-is (node_flow old) is.flow e i h in
+      let there = IsInSome-is (node_flow new) longer.flow e i (holds-new i h) in
+      (λ s. there.1 (occurs-same e i h ∙ here.0 s), λ s. here.1 (sym (occurs-same e i h) ∙ there.0 s))
+
+  reaches-new : {f h : ℕ} → Reaches (node_flow old) f h → nat_lt f (length old.facts) ≡ true → Reaches (node_flow new) f h
+  reaches-new (itself f) here = itself f
+  reaches-new (by_parent f q x c w) here =
+      let i = Contains-in ((node_flow old).parents f) q c in
+      by_parent f q x (in-Contains ((node_flow new).parents f) q (subst (λ ps. In q ps) (sym (parents-same f here)) i)) (reaches-new w (parent_holds (node_flow old) is.flow f q here i))
+
+  pub kept-extended : (tested : List ℕ) (elements : ℕ) (k : Kept) → AreKept (node_flow old) (length old.facts) tested elements k → AreKept (node_flow new) (length old.facts) tested elements k
+  kept-extended tested elements k are = record {
+    nodes = are.nodes;
+    within = are.within;
+    reached = λ i lt. (let r = are.reached i lt in
+        let j = Contains-in tested r.0 r.1 in
+        (r.0, r.1, reaches-new r.2 (lt-ltb r.0 (length old.facts) (of_all (λ i. i < length old.facts) tested r.0 are.within j))));
+    sets = λ i lt e below. are.sets i lt e below ∙ sym (strong-same e i (lt-ltb i (length old.facts) lt));
+    marks = marks-carried (node_flow old) tested (node_flow new) tested
+        (λ e. each-both (λ i. i < length old.facts) (IsStrong (node_flow old) e) (IsStrong (node_flow new) e) tested are.within (strong-both e))
+        (λ e. each-both (λ i. i < length old.facts) (IsInSome (node_flow old) e) (IsInSome (node_flow new) e) tested are.within (some-both e)) elements k.marks are.marks;
+  }
+
+-- ---- facts in place of nodes
+
+-- an element that a list has once has one place
+one-place : {X : Type 0} (xs : List X) (x : X) (i j : ℕ) → Apart xs → slice_get xs i ≡ Some x → slice_get xs j ≡ Some x → i ≡ j
+one-place [] x i j a s t = absurd (cc)
+one-place (y ∷ ys) x zero zero a s t = refl
+one-place (y ∷ ys) x zero (suc j) a s t = let same : y ≡ x = cc in absurd (a.0 (subst (λ z. In z ys) (sym same) (get_in ys j x t)))
+one-place (y ∷ ys) x (suc i) zero a s t = let same : y ≡ x = cc in absurd (a.0 (subst (λ z. In z ys) (sym same) (get_in ys i x s)))
+one-place (y ∷ ys) x (suc i) (suc j) a s t = ap suc (one-place ys x i j a.1 s t)
+
+module _ {F : Type 0} (n : Nodes F) where
+  -- the fact of each of the nodes, and the node of each of the facts
+  fact-of : (ids : List NodeId) (fs : List F) → map (λ p. slice_get n.facts p.0) ids ≡ map Some fs → (j : ℕ) → In j (map (λ p. p.0) ids) → With (λ f. slice_get n.facts j ≡ Some f) fs
+  fact-of [] fs are j i = absurd i
+  fact-of (d ∷ ds) [] are j i = absurd (cc)
+  fact-of (d ∷ ds) (f ∷ fs) are j i =
+      let here : slice_get n.facts d.0 ≡ Some f = cc in
+      let rest : map (λ p. slice_get n.facts p.0) ds ≡ map Some fs = cc in
+      elim i [
+        | inl e ↦ (f, inl refl, subst (λ k. slice_get n.facts k ≡ Some f) e here)
+        | inr i' ↦ let r = fact-of ds fs rest j i' in (r.0, inr r.1, r.2)
+      ]
+
+  node-of : (ids : List NodeId) (fs : List F) → map (λ p. slice_get n.facts p.0) ids ≡ map Some fs → (f : F) → In f fs → With (λ j. slice_get n.facts j ≡ Some f) (map (λ p. p.0) ids)
+  node-of [] [] are f i = absurd i
+  node-of [] (g ∷ gs) are f i = absurd (cc)
+  node-of (d ∷ ds) [] are f i = absurd i
+  node-of (d ∷ ds) (g ∷ gs) are f i =
+      let here : slice_get n.facts d.0 ≡ Some g = cc in
+      let rest : map (λ p. slice_get n.facts p.0) ds ≡ map Some gs = cc in
+      elim i [
+        | inl e ↦ (d.0, inl refl, here ∙ ap Some e)
+        | inr i' ↦ let r = node-of ds gs rest f i' in (r.0, inr r.1, r.2)
+      ]
+
+module _ {F : Type 0} (g : Flow F) (law : IsFlow g) (n : Nodes F) (is : IsGraph n) (m : Mirrors g n) (ids : List NodeId) (facts : List F)
+    (are : map (λ p. slice_get n.facts p.0) ids ≡ map Some facts) where
+  -- P of some node is Q of some fact, where P of each node is Q of its fact
+  nodes-both : (P : ℕ → Type 0) (Q : F → Type 0) → ((j : ℕ) (f : F) → slice_get n.facts j ≡ Some f → P j ↔ Q f) → Any P (map (λ p. p.0) ids) ↔ Any Q facts
+  nodes-both P Q both = (
+    any-from P Q (map (λ p. p.0) ids) facts (λ j i p. let r = fact-of n ids facts are j i in (r.0, r.1, (both j r.0 r.2).0 p)),
+    any-from Q P facts (map (λ p. p.0) ids) (λ f i q. let r = node-of n ids facts are f i in (r.0, r.1, (both r.0 f r.2).1 q)),
+  )
+
+  pub marks-of-facts : (elements : ℕ) (marks : ElementMarks) → AreMarks (node_flow n) (map (λ p. p.0) ids) elements marks → AreMarks g facts elements marks
+  marks-of-facts = marks-carried (node_flow n) (map (λ p. p.0) ids) g facts
+      (λ e. nodes-both (IsStrong (node_flow n) e) (IsStrong g e) (λ j f at. IsStrong-node g law n is m e j f at))
+      (λ e. nodes-both (IsInSome (node_flow n) e) (IsInSome g e) (λ j f at. IsInSome-node g law n is m e j f at))
+
+  module _ (closure : IsClosure g facts n.facts) where
+    apart : Apart n.facts
+    apart = distinct-Apart g.same (λ x. (law.same x x).1 refl) n.facts closure.distinct
+
+    reaches-node : {f h : F} → Reaches g f h → (j i : ℕ) → slice_get n.facts j ≡ Some f → slice_get n.facts i ≡ Some h → Reaches (node_flow n) j i
+    reaches-node (itself f) j i at there = subst (λ k. Reaches (node_flow n) j k) (one-place n.facts f j i apart at there) (itself j)
+    reaches-node (by_parent f p h c w) j i at there =
+        let r = node-of n (get_or n.parents j []) (g.parents f) (m.each j f at).parents p (Contains-in (g.parents f) p c) in
+        by_parent j r.0 i (in-Contains ((node_flow n).parents j) r.0 r.1) (reaches-node w r.0 i r.2 there)
+
+    pub reached-nodes : (i : ℕ) → i < length n.facts → IsReachedFrom (node_flow n) (map (λ p. p.0) ids) i
+    reached-nodes i lt =
+        let at = at_within n.facts i lt in
+        let r = (closure.exact at.0).0 (in-Contains n.facts at.0 (get_in n.facts i at.0 at.1)) in
+        let top = node-of n ids facts are r.0 (Contains-in facts r.0 r.1) in
+        (top.0, in-Contains (map (λ p. p.0) ids) top.0 top.1, reaches-node r.2 top.0 i top.2 at.1)

@@ -1,0 +1,31 @@
+use Rattle.std.proofs.Common.{◌+◌, ◌<◌, ◌∙◌, length, get_or, ap, sym, subst, arith}
+use Rattle.std.proofs.lemmas.Bool.{lt-ltb}
+use Rattle.std.proofs.lemmas.List.{length_push}
+use Rattle.nc_graph.specs.Derivation.{strong}
+use Rattle.nc_graph.specs.Nodes.{node_flow}
+use Rattle.nc_graph.proofs.DerivationLaws.{parent_lower}
+use Rattle.nc_marks.specs.Sets.{IsAt}
+use Rattle.nc_marks.proofs.ReachLemmas.{all_from}
+use Rattle.nc_marks.proofs.StrongLemmas.{place-more}
+use Rattle.nc_marks.proofs.KeptLemmas.{placed-more, take-more, grows-on}
+use Rattle.nc_marks.proofs.kept.add_places.Goals as goal
+
+pub nodes-preserved : goal.nodes-preserved
+nodes-preserved g c =
+    let n = c.args.graph.now in
+    let i = c.nodes.number in
+    let here : i < length n.facts = omega (arith, c.nodes-test.true, c.nodes.auto.number-end, c.len-len.ensures.len) in
+    let places = c.nodes.places.items in
+    let pushed = c.in_ok-push.ensures.items in
+    record {
+      long = ap length pushed ∙ length_push places c.in_ok-place.place ∙ ap (λ m. m + 1) c.nodes.invariant.long;
+      kept = take-more c.args.places.now.items places c.push.new.self.items c.in_ok-place.place pushed c.nodes.invariant.kept;
+      gathered = c.place_of.ensures.width ∙ c.nodes.invariant.gathered;
+      grows = grows-on c.args.sets.now c.nodes.sets c.place_of.new.sets c.nodes.invariant.grows c.place_of.ensures.grows;
+      placed = placed-more c.nodes.sets c.place_of.new.sets places c.push.new.self.items c.in_ok-place.place c.place_of.ensures.grows pushed c.nodes.invariant.placed c.in_ok-place.ensures.placed;
+      strong = λ before j lt. place-more (λ _. Unit {0}) (λ j e. strong (node_flow n) e j) c.nodes.sets c.place_of.new.sets places c.push.new.self.items c.in_ok-place.place i c.nodes.invariant.long c.place_of.ensures.grows pushed
+          (λ j lt t. c.nodes.invariant.strong before j lt)
+          (λ t. c.in_ok-place.ensures.strong (all_from (λ p. IsAt c.nodes.sets (get_or c.deref.result.now p 0) (λ e. strong (node_flow n) e p)) ((node_flow n).parents i)
+          (λ p within. subst (λ ps. IsAt c.nodes.sets (get_or ps p 0) (λ e. strong (node_flow n) e p)) (sym c.deref.ensures.value)
+          (c.nodes.invariant.strong before p (parent_lower (node_flow n) c.len-len.ensures.graph.flow i p (lt-ltb i (length n.facts) here) within))))) j lt tt;
+    }
