@@ -18,7 +18,7 @@ use Rattle.nc_fact.specs.declared.fact.Fact.TheVariants.{Connected, Static, Base
 use Rattle.nc_fact.specs.Facts.{base_rows, static_at, holds, rank}
 use Rattle.nc_rules_route.specs.Parents.{element_in, connected_by, route_of}
 use Rattle.nc_rules_route.proofs.Members.{In, all_of_one}
-use Rattle.nc_rules_route.proofs.Elements.{number_below}
+use Rattle.nc_rules_route.proofs.Numbers.{number_below}
 use Rattle.nc_rules_route.proofs.BaseRows.{IsUp, LeadsBy, IsMadeBy, connected, static, row_leads, row_is_made}
 use Rattle.nc_rules_route.proofs.Tables.{router_of_row}
 

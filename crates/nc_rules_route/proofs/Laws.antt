@@ -25,7 +25,7 @@ use Rattle.nc_fact.specs.declared.fact.Fact.TheVariants.{Element, Connected, Sta
 use Rattle.nc_fact.specs.Facts.{most_hops, base_place, base_rows, main_rows, static_at, base_of, hops_by, holds, rank}
 use Rattle.nc_rules_route.specs.Parents.{kind, element_in, of_interface, of_static, connected_by, route_of, own_interface, hops_of, parents}
 use Rattle.nc_rules_route.proofs.Members.{In, in_by_get, in_map, in_filter, some_in, all_by_in, all_by_option, all_of_one, all_of_three, some_place, is_among, among_is, place_within}
-use Rattle.nc_rules_route.proofs.Elements.{formed_at, interface_element, static_element}
+use Rattle.nc_rules_route.proofs.Numbers.{formed_at, interface_element, static_element}
 use Rattle.nc_rules_route.proofs.BaseRows.{found_up, address_up, row_leads}
 use Rattle.nc_rules_route.proofs.Tables.{base_of_main}
 use Rattle.nc_rules_route.proofs.Holding.{IsBelow, element_holds, connected_holds, base_holds, connected_below, route_below}

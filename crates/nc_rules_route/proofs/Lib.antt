@@ -1,5 +1,6 @@
 pub mod Members
-pub mod Elements
+pub mod Numbers
+pub mod Ranges
 pub mod BaseRows
 pub mod MainRows
 pub mod Tables
