@@ -62,7 +62,7 @@ module _ {A : Type 0} where
 
   -- ---- places
 
-  places_map : {B : Type 0} (f : A → B) (test : B → Bool) (place : ℕ) (xs : List A) → places_from test place (map f xs) ≡ places_from (λ x. test (f x)) place xs
+  pub places_map : {B : Type 0} (f : A → B) (test : B → Bool) (place : ℕ) (xs : List A) → places_from test place (map f xs) ≡ places_from (λ x. test (f x)) place xs
   places_map f test place [] = refl
   places_map f test place (x ∷ xs) = ap (λ (ks : List ℕ). cond (test (f x)) (place ∷ ks) ks) (places_map f test (place + 1) xs)
 
@@ -79,7 +79,7 @@ module _ {A : Type 0} where
       ∙ no_places t (place + 1) xs (λ k d lt. none (suc k) d (omega arith))
 
   -- where no place is, none passes
-  none_by_places : (t : A → Bool) (place : ℕ) (xs : List A) → places_from t place xs ≡ [] → All (λ x. t x ≡ false) xs
+  pub none_by_places : (t : A → Bool) (place : ℕ) (xs : List A) → places_from t place xs ≡ [] → All (λ x. t x ≡ false) xs
   none_by_places t place [] e k d lt = absurd (omega arith)
   none_by_places t place (x ∷ xs) e zero d lt = here (t x) (places_from t (place + 1) xs) e
     where

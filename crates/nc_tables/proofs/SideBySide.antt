@@ -1,12 +1,13 @@
 -- Items in order of their prefixes: those of one prefix stand side by side.
 use Rattle.std.proofs.Common.{◌≡◌, ℕ, zero, suc, ◌+◌, ◌-◌, ◌<◌, ◌≤◌, Bool, true, false, cond, not, List, [], ◌∷◌, length, get_or, refl, ap, ◌∙◌, arith, inl, inr}
 use Rattle.std.specs.List.{AllWithin, range_with_len}
-use Rattle.std.specs.List.Sorted.{IsPartitionPoint, IsPartitionedBy}
+use Rattle.std.specs.List.Sorted.{IsPartitionPoint, IsPartitionedBy, IsSortedByKey}
 use Rattle.std.specs.Cmp.{IsTotalOrder}
 use Rattle.std.specs.declared.cmp.Ordering.{Ordering}
 use Rattle.std.specs.declared.cmp.Ordering.TheVariants.{Less, Equal, Greater}
 use Rattle.std.specs.Ordering.{ordering_reverse, is_lt, is_le, is_gt, is_eq}
 use Rattle.std.proofs.lemmas.Cmp.{nat_cmp_total, on_total, then_total, upto}
+use Rattle.std.proofs.lemmas.List.Sorted.{sorted_far, ranks_by}
 use Rattle.std.proofs.lemmas.Bool.{cases_lt}
 use Rattle.std.proofs.lemmas.Bool.Decides.{nat_tests}
 use Rattle.nc_types.specs.Cidr.{Cidr}
@@ -76,6 +77,9 @@ module _ {A : Type 0} (pre : A → Cidr) where
   -- the prefixes of items don't fall
   abbrev pub Rises : List A → Type 0
   Rises rows = (i j : ℕ) (d : A) → i ≤ j → j < length rows → is_gt (prefix_cmp (pre (get_or rows i d)) (pre (get_or rows j d))) ≡ false
+
+  pub rises : (rows : List A) → IsSortedByKey pre prefix_cmp rows → Rises rows
+  rises rows ordered i j d le lt = no_less (pre (get_or rows i d)) (pre (get_or rows j d)) (sorted_far _ (ranks_by prefix_total pre) rows ordered i j d le lt)
 
   module _ (rows : List A) (rising : Rises rows) where
     -- those below a prefix come first, and those no greater

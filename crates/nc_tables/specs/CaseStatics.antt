@@ -1,29 +1,11 @@
 -- Two routers with two links between them, and two static routes of equal cost: worked case ecmp-reach, and every-path.
-use Rattle.std.specs.Prelude.{◌≡◌, ◌*◌, ◌+◌, ℕ, Bool, true, false, List, [], ◌∷◌, length, map, Option, Some, None, codes, refl}
-use Rattle.std.specs.Option.{option_map_or}
-use Rattle.nc_types.specs.Cidr.{Cidr}
-use Rattle.nc_types.specs.Config.{ConfigView, ProcessView, ClauseView, PrefixListView}
-use Rattle.nc_types.specs.declared.config.Interface.{Interface}
-use Rattle.nc_types.specs.declared.config.Neighbor.{Neighbor}
-use Rattle.nc_types.specs.declared.config.Reference.{Reference}
-use Rattle.nc_types.specs.declared.config.StaticRoute.{StaticRoute}
-use Rattle.nc_types.specs.declared.config.Via.TheVariants.{Hop}
-use Rattle.nc_types.specs.declared.config.OriginCode.TheVariants.{Igp}
-use Rattle.nc_tables.specs.declared.base.BaseRow.{BaseRow}
-use Rattle.nc_tables.specs.declared.bgp.SessionRow.{SessionRow}
-use Rattle.nc_tables.specs.declared.bgp.Route.{Route}
-use Rattle.nc_tables.specs.declared.bgp.Chosen.{Chosen}
-use Rattle.nc_tables.specs.declared.bgp.BgpFrom.TheVariants.{Entry}
-use Rattle.nc_tables.specs.declared.bgp.MainRow.{MainRow}
-use Rattle.nc_tables.specs.declared.bgp.MainFrom.TheVariants.{Base, Bgp, Discard}
+use Rattle.std.specs.Prelude.{◌≡◌, true, false, List, [], ◌∷◌, map, None, refl}
+use Rattle.nc_types.specs.Config.{ConfigView}
 use Rattle.nc_tables.specs.Base.{base_table, base_tables}
 use Rattle.nc_tables.specs.Longest.{longest}
 use Rattle.nc_tables.specs.Reach.{reaches}
-use Rattle.nc_tables.specs.Sessions.{sessions, router_id}
-use Rattle.nc_tables.specs.Policy.{Verdict, Deny, Permit, verdict}
-use Rattle.nc_tables.specs.Choice.{choose, preference_cmp}
-use Rattle.nc_tables.specs.Rounds.{BgpRowView, after, round, chosen_at}
-use Rattle.nc_tables.specs.Main.{main_table, main_tables}
+use Rattle.nc_tables.specs.Rounds.{after}
+use Rattle.nc_tables.specs.Main.{main_table}
 use Rattle.nc_tables.specs.Forwarding.{traces, all_trace}
 use Rattle.nc_tables.specs.Cases.{address, prefix, interface, route_to, router, sessions_in, state, mains}
 

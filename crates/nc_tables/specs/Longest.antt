@@ -1,8 +1,14 @@
--- The rows of the longest prefix that covers an address.
-use Rattle.std.specs.Prelude.{ℕ, ◌+◌, Bool, not, ◌&&◌, nat_lt, List, [], ◌∷◌, if◌then◌else◌}
+-- Rows in order of their prefixes, and those of the longest prefix that covers an address.
+use Rattle.std.specs.Prelude.{ℕ, ◌+◌, Bool, not, ◌&&◌, nat_lt, List, [], ◌∷◌, All, if◌then◌else◌}
 use Rattle.std.specs.List.{list_any}
-use Rattle.nc_types.specs.Cidr.{Cidr}
-use Rattle.nc_tables.specs.Base.{covers}
+use Rattle.std.specs.List.Sorted.{IsSortedByKey}
+use Rattle.nc_types.specs.Cidr.{Cidr, IsCidr}
+use Rattle.nc_tables.specs.Base.{covers, prefix_cmp}
+
+-- rows in order of their prefixes, none of which has host bits
+pub record AreByPrefix {A : Type 0} (prefix_of : A → Cidr) (rows : List A) : Type 0 where
+  pub ordered : IsSortedByKey prefix_of prefix_cmp rows
+  pub valid : All (λ row. IsCidr (prefix_of row).base (prefix_of row).len) rows
 
 -- a prefix that covers the address, and none of these that covers it is longer
 abbrev pub is_longest : List Cidr → ℕ → Cidr → Bool

@@ -1,6 +1,7 @@
 -- How BGP routes spread: messages, what is accepted of them, rounds, and the state in which nothing changes.
-use Rattle.std.specs.Prelude.{◌≡◌, ◌≢◌, ℕ, zero, suc, ◌<◌, Bool, true, false, not, ◌&&◌, ◌||◌, ◌==◌, nat_lt, List, [], ◌∷◌, ◌++◌, length, map, filter, Option, Some, None, option_and_then, slice_get, slice_index_or, if◌then◌else◌}
+use Rattle.std.specs.Prelude.{◌≡◌, ℕ, zero, suc, ◌<◌, Bool, true, false, not, ◌&&◌, ◌||◌, ◌==◌, nat_lt, List, [], ◌∷◌, ◌++◌, length, map, Option, Some, None, option_and_then, slice_get, slice_index_or, All, AllPairs, if◌then◌else◌}
 use Rattle.std.specs.List.{filter_map, find, flat_map, list_any, range_with_len}
+use Rattle.std.specs.declared.cmp.Ordering.TheVariants.{Less}
 use Rattle.std.specs.Option.{option_map, option_map_or}
 use Rattle.nc_types.specs.Cidr.{Cidr}
 use Rattle.nc_types.specs.Config.{ConfigView, ProcessView}
@@ -78,14 +79,30 @@ sent_as false asn source self_hop r = record { prefix = r.prefix; path = asn ∷
 sent_as true asn source self_hop r =
     record { prefix = r.prefix; path = r.path; next_hop = if self_hop then record { 0 = source } else r.next_hop; preference = r.preference; metric = r.metric; origin = r.origin }
 
+-- ---- tables
+
+-- the chosen candidates of a prefix, among the rows of a router
+abbrev pub chosen_in : List BgpRowView → Cidr → List Chosen
+chosen_in rows p = option_map_or (λ row. row.chosen) (find (λ row. same_prefix row.prefix p) rows) []
+
+-- the session of a neighbor statement, among those of a router
+abbrev pub session_in : List SessionRow → ℕ → Option SessionRow
+session_in rows place = find (λ s. s.neighbor == place) rows
+
+-- the rows of a router: strictly in order of prefix, each with a candidate, and each candidate a route of the row's prefix
+pub record AreBgpRows (rows : List BgpRowView) : Type 0 where
+  pub ordered : AllPairs (λ a b. prefix_cmp a.prefix b.prefix ≡ Less) rows
+  pub some : All (λ row. 0 < length row.chosen) rows
+  pub own : All (λ row. All (λ x. x.route.prefix ≡ row.prefix) row.chosen) rows
+
 module _ (routers : List ConfigView) (tables : List (List BaseRow)) (sessions : List (List SessionRow)) (table : List (List BgpRowView)) where
   -- the chosen candidates of a prefix at a router
   abbrev pub chosen_at : ℕ → Cidr → List Chosen
-  chosen_at router p = option_map_or (λ row. row.chosen) (find (λ row. same_prefix row.prefix p) (slice_index_or table router [])) []
+  chosen_at router p = chosen_in (slice_index_or table router []) p
 
-  -- the session of a neighbor statement
+  -- the session of a neighbor statement of a router
   abbrev pub session_by : ℕ → ℕ → Option SessionRow
-  session_by router place = find (λ s. s.neighbor == place) (slice_index_or sessions router [])
+  session_by router place = session_in (slice_index_or sessions router []) place
 
   abbrev pub config_at : ℕ → Option ConfigView
   config_at router = slice_get routers router

@@ -1,13 +1,12 @@
 -- Which BGP sessions are established, and the router id.
-use Rattle.std.specs.Prelude.{ℕ, ◌+◌, Bool, true, false, not, ◌&&◌, ◌||◌, ◌==◌, nat_lt, List, [], ◌∷◌, length, map, filter, Option, Some, None, option_and_then, position, slice_get, if◌then◌else◌, codes}
+use Rattle.std.specs.Prelude.{ℕ, ◌<◌, AllPairs, Bool, false, not, ◌&&◌, ◌||◌, ◌==◌, nat_lt, List, [], ◌∷◌, length, map, filter, Option, Some, None, option_and_then, position, slice_get, if◌then◌else◌, codes}
 use Rattle.std.specs.List.{filter_map, list_any, starts_with, range_with_len, fold}
-use Rattle.std.specs.Option.{option_map, option_map_or, option_or}
+use Rattle.std.specs.Option.{option_map, option_map_or}
 use Rattle.std.specs.Str.{bytes_eq}
 use Rattle.nc_types.specs.Config.{ConfigView, ProcessView}
 use Rattle.nc_types.specs.Network.{up_of, up_at, owner_of}
 use Rattle.nc_types.specs.declared.config.Interface.{Interface}
 use Rattle.nc_types.specs.declared.config.Neighbor.{Neighbor}
-use Rattle.nc_types.specs.declared.config.Reference.{Reference}
 use Rattle.nc_tables.specs.declared.base.BaseRow.{BaseRow}
 use Rattle.nc_tables.specs.declared.bgp.SessionRow.{SessionRow}
 use Rattle.nc_tables.specs.Base.{is_toward}
@@ -39,6 +38,10 @@ router_id c =
     if nat_lt 0 (length loopbacks) then greatest loopbacks else greatest (up_addresses c.interfaces))
 
 -- ---- sessions
+
+-- the sessions of a router, strictly in order of its neighbor statements
+abbrev pub AreSessions : List SessionRow → Type 0
+AreSessions rows = AllPairs (λ a b. a.neighbor < b.neighbor) rows
 
 -- where a session starts: an interface that is up, and its address
 pub record SourceOf : Type 0 where

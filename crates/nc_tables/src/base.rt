@@ -2,10 +2,10 @@ ghost use Rattle.std.specs.Prelude.{◌≡◌, ◌-◌, ◌<◌, ◌≤◌, [], 
 ghost use Rattle.std.specs.List.{range_with_len};
 ghost use Rattle.std.specs.List.Sorted.{IsSorted};
 ghost use Rattle.nc_types.specs.Cidr.{IsCidr};
-ghost use Rattle.nc_tables.specs.Base.{row_cmp, AreRows};
-ghost use Rattle.nc_tables.specs.Longest.{longest};
+ghost use Rattle.nc_tables.specs.Base.{row_cmp, same_prefix, AreRows};
+ghost use Rattle.nc_tables.specs.Longest.{longest, places_from};
 
-use crate::longest::{Rows, longest_rows};
+use crate::longest::{HasPrefix, Rows, longest_rows, rows_at, rows_with};
 use nc_types::{Addr, IfaceId, Prefix, RouterId};
 use std::marker::Model;
 
@@ -27,6 +27,14 @@ pub struct BaseRow {
     /// The administrative distance: 0 of a connected row, 1 to 254 of a static one.
     pub distance: u8,
     pub from: BaseFrom,
+}
+
+impl HasPrefix for BaseRow {
+    ghost prefix_of = { λ row. row.prefix };
+
+    fn prefix(&self) -> Prefix {
+        self.prefix
+    }
 }
 
 /// The base tables of the routers of a network: the rows of each router, in order of prefix (address, then
@@ -64,7 +72,18 @@ impl BaseTables {
         ensures ordered { IsSorted row_cmp result.now }
         ensures valid { All (λ row. IsCidr row.prefix.base row.prefix.len) result.now }
     {
-        &self.rows[router.0 as usize]
+        rows_at(&self.rows, router)
+    }
+
+    /// Where the rows of a prefix stand, among those of a router, which has a number below that of the
+    /// routers; an empty range exactly where no row has the prefix. Takes no memory.
+    pub fn rows_of(&self, router: RouterId, prefix: Prefix) -> Rows
+        requires { router.0 < length self.now }
+        ensures rows { places_from (λ row. same_prefix row.prefix prefix) 0 (slice_index_or self.now router.0 []) ≡ range_with_len result.from (result.to - result.from) }
+        ensures ordered { result.from ≤ result.to }
+        ensures within { result.to ≤ length (slice_index_or self.now router.0 []) }
+    {
+        rows_with(self.rows(router), prefix)
     }
 
     /// The rows of the longest prefix that covers an address, among those of a router, which has a number

@@ -1,14 +1,13 @@
 use Rattle.std.proofs.Common.{◌≤◌}
-use Rattle.nc_tables.specs.declared.base.BaseRow.{BaseRow}
 use Rattle.nc_tables.proofs.LongestPrefix.{AreShorter}
 use Rattle.nc_tables.proofs.longest.longest_rows.Given as goal
 
 abbrev pub invariant-lengths : goal.invariant-lengths
-invariant-lengths l = record {
+invariant-lengths g l = record {
   -- each prefix that covers the address is shorter than the length
-  short : AreShorter (λ (row : BaseRow). row.prefix) l.addr.0 l.len l.rows;
+  short : AreShorter g.R.HasPrefix.prefix_of l.addr.0 l.len l.rows;
   within : l.len ≤ 33;
 }
 
 abbrev pub decreases-lengths : goal.decreases-lengths
-decreases-lengths l = l.len
+decreases-lengths g l = l.len

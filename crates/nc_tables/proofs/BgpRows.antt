@@ -1,0 +1,70 @@
+-- The rows of a router's BGP table: what is chosen of a prefix.
+use Rattle.std.proofs.Common.{◌≡◌, ℕ, zero, suc, ◌∷◌, ◌+◌, ◌<◌, Bool, true, false, List, [], length, map, get_or, Option, Some, None, refl, ap, subst, ◌∙◌, arith}
+use Rattle.std.specs.List.{find, list_any, range_with_len}
+use Rattle.std.specs.List.Sorted.{IsSortedByKey}
+use Rattle.std.specs.Option.{option_map, option_map_or, is_some}
+use Rattle.std.specs.Ordering.{is_lt, ordering_reverse}
+use Rattle.std.specs.declared.cmp.Ordering.TheVariants.{Less}
+use Rattle.std.proofs.lemmas.List.{length-map}
+use Rattle.std.proofs.lemmas.Option.{slice_get-get_or, slice_get-map}
+use Rattle.nc_types.specs.Cidr.{Cidr}
+use Rattle.nc_tables.specs.declared.bgp.BgpRow.{BgpRow}
+use Rattle.nc_tables.specs.Base.{prefix_cmp, same_prefix}
+use Rattle.nc_tables.specs.Longest.{places_from}
+use Rattle.nc_tables.specs.Rounds.{BgpRowView, bgp_row_view, chosen_in, AreBgpRows}
+use Rattle.nc_tables.proofs.SideBySide.{prefix_total}
+use Rattle.nc_tables.proofs.LongestPrefix.{places_map}
+use Rattle.nc_tables.proofs.Finding.{found_first, found_nowhere, any_is_found}
+
+not_less : (p q : Cidr) → prefix_cmp p q ≡ Less → is_lt (prefix_cmp q p) ≡ false
+not_less p q e = ap is_lt (prefix_total.antisymm q p ∙ ap ordering_reverse e)
+
+view_at : (rows : List BgpRow) (i : ℕ) (d : BgpRow) → get_or (map bgp_row_view rows) i (bgp_row_view d) ≡ bgp_row_view (get_or rows i d)
+view_at [] i d = refl
+view_at (row ∷ rows) zero d = refl
+view_at (row ∷ rows) (suc i) d = view_at rows i d
+
+-- each row has a candidate
+pub has_some : (rows : List BgpRow) (i : ℕ) (d : BgpRow) → AreBgpRows (map bgp_row_view rows) → i < length rows → 0 < length (get_or rows i d).chosen.items
+has_some rows i d are lt =
+    let count : length (map bgp_row_view rows) ≡ length rows = length-map rows bgp_row_view in
+    subst (λ (row : BgpRowView). 0 < length row.chosen) (view_at rows i d) (are.some i (bgp_row_view d) (omega arith))
+
+module _ (rows : List BgpRow) (are : AreBgpRows (map bgp_row_view rows)) where
+  pub by_prefix : IsSortedByKey (λ (row : BgpRow). row.prefix) prefix_cmp rows
+  by_prefix k d lo hi =
+      let count : length (map bgp_row_view rows) ≡ length rows = length-map rows bgp_row_view in
+      let at : (i : ℕ) → (get_or (map bgp_row_view rows) i (bgp_row_view d)).prefix ≡ (get_or rows i d).prefix = (λ i. ap (λ (row : BgpRowView). row.prefix) (view_at rows i d)) in
+      let up : prefix_cmp (get_or (map bgp_row_view rows) k (bgp_row_view d)).prefix (get_or (map bgp_row_view rows) (k + 1) (bgp_row_view d)).prefix ≡ Less = are.ordered k (k + 1) (bgp_row_view d) (omega arith) (omega arith) in
+      not_less (get_or rows k d).prefix (get_or rows (k + 1) d).prefix (rw (← at k, ← at (k + 1)) up)
+
+module _ (prefix : Cidr) where
+  abbrev pub has : BgpRowView → Bool
+  has row = same_prefix row.prefix prefix
+
+  module _ (rows : List BgpRow) (from n : ℕ) (places : places_from (λ (row : BgpRow). same_prefix row.prefix prefix) 0 rows ≡ range_with_len from n) where
+    view_places : places_from has 0 (map bgp_row_view rows) ≡ range_with_len from n
+    view_places = places_map bgp_row_view has 0 rows ∙ places
+
+    -- no row: nothing is chosen
+    pub no_row : n ≡ 0 → find has (map bgp_row_view rows) ≡ None
+    no_row none = found_nowhere has (map bgp_row_view rows) from n view_places none
+
+    -- the row at the first place
+    pub row_is : (d : BgpRow) → 0 < n → from < length rows → find has (map bgp_row_view rows) ≡ Some (bgp_row_view (get_or rows from d))
+    row_is d some lt =
+        found_first has (map bgp_row_view rows) from n view_places some
+        ∙ slice_get-map bgp_row_view rows from
+        ∙ ap (option_map bgp_row_view) (slice_get-get_or rows from d lt)
+
+  pub nothing_chosen : (rows : List BgpRowView) → find has rows ≡ None → chosen_in rows prefix ≡ []
+  nothing_chosen rows e = ap (λ (o : Option BgpRowView). option_map_or (λ (row : BgpRowView). row.chosen) o []) e
+
+  pub chosen_of : (rows : List BgpRowView) (row : BgpRowView) → find has rows ≡ Some row → chosen_in rows prefix ≡ row.chosen
+  chosen_of rows row e = ap (λ (o : Option BgpRowView). option_map_or (λ (row : BgpRowView). row.chosen) o []) e
+
+  pub has_none : (rows : List BgpRowView) → find has rows ≡ None → list_any has rows ≡ false
+  has_none rows e = any_is_found has rows ∙ ap is_some e
+
+  pub has_one : (rows : List BgpRowView) (row : BgpRowView) → find has rows ≡ Some row → list_any has rows ≡ true
+  has_one rows row e = any_is_found has rows ∙ ap is_some e

@@ -1,0 +1,12 @@
+use Rattle.std.proofs.Common.{[], ◌≡◌, map, ap, ◌∙◌, slice_index_or, Vec, Global}
+use Rattle.nc_tables.specs.declared.bgp.SessionRow.{SessionRow}
+use Rattle.nc_tables.specs.Sessions.{AreSessions}
+use Rattle.nc_tables.proofs.RowsAt.{holds_at}
+use Rattle.nc_tables.proofs.sessions.Sessions.rows.Goals as goal
+
+pub returns-clause-ordered : goal.returns-clause-ordered
+returns-clause-ordered c =
+    let items = λ (rows : Vec SessionRow Global). rows.items in
+    let router = c.args.router.0 in
+    let is : c.rows_at.result.now ≡ slice_index_or c.args.self.now router [] = c.rows_at.ensures ∙ ap (λ ts. slice_index_or (map items ts) router []) c.deref.ensures.value ∙ ap (λ v. slice_index_or v router []) c.self.view_is in
+    holds_at AreSessions items c.self.inside.rows.items c.args.self.now router c.rows_at.result.now c.self.view_is c.requires is c.self.invariant

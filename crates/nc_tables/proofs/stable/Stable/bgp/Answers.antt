@@ -1,0 +1,10 @@
+use Rattle.std.proofs.Common.{length, ap, ◌∙◌}
+use Rattle.nc_tables.specs.State.{StateView}
+use Rattle.nc_tables.proofs.State.{bgp_count}
+use Rattle.nc_tables.proofs.stable.Stable.bgp.Goals as goal
+
+pub returns-clause-count : goal.returns-clause-count
+returns-clause-count c =
+    let fields = c.self.inside in
+    bgp_count (record { routers = fields.network; base = fields.base; sessions = fields.sessions; bgp = fields.bgp; main = fields.main }) c.self.invariant
+    ∙ ap (λ (s : StateView). length s.routers) c.self.view_is
