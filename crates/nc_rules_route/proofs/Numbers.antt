@@ -8,11 +8,11 @@ use Rattle.std.proofs.lemmas.List.{length-append, length-map}
 use Rattle.std.proofs.lemmas.List.Sums.{sum_by-cons, position_or_len_is}
 use Rattle.std.proofs.lemmas.Map.Made.{IsDistinct-from_AllPairs}
 use Rattle.std.proofs.lemmas.Map.Steps.{length-le_from_distinct_below}
-use Rattle.std.proofs.lemmas.Option.{slice_get_within, get_or_from_slice_get}
+use Rattle.std.proofs.lemmas.Option.{none-some, option_and_then_some, slice_get-get_or, slice_get_within, get_or_from_slice_get}
 use Rattle.nc_types.specs.declared.config.Interface.{Interface}
 use Rattle.nc_types.specs.declared.config.StaticRoute.{StaticRoute}
 use Rattle.nc_types.specs.Config.{ElementView, ConfigView}
-use Rattle.nc_types.specs.WellFormed.{places_of, IsWellFormed}
+use Rattle.nc_types.specs.WellFormed.{places_of, IsElement, IsWellFormed}
 use Rattle.nc_types.specs.Network.{element_count, place_with_line, owner_at}
 use Rattle.nc_rules_route.proofs.Members.{In, in_by_get, all_in, in_left, in_right, in_map, is_among, among_is}
 
@@ -86,6 +86,27 @@ pub line_number : (routers : List ConfigView) → All IsWellFormed routers → (
 line_number routers each router c at place e at_place line has =
     ap (λ (o : Option ConfigView). option_and_then (λ c. option_map (λ p. element_count (take router routers) + p) (place_with_line c line)) o) at
     ∙ ap (λ (o : Option ℕ). option_map (λ p. element_count (take router routers) + p) o) (line_leads c (formed_at routers each router c at) place e at_place line has)
+
+-- an element has a first line, which leads to its number
+pub first_line_number : (routers : List ConfigView) → All IsWellFormed routers → (router : ℕ) (c : ConfigView) → slice_get routers router ≡ Some c → (place line : ℕ) → option_and_then (λ e. slice_get e.lines 0) (slice_get c.elements place) ≡ Some line
+    → owner_at routers router line ≡ Some (element_count (take router routers) + place)
+first_line_number routers each router c at place line first =
+    option_and_then_some (λ (e : ElementView). slice_get e.lines 0) (slice_get c.elements place) line first (λ e at_place is_first. line_number routers each router c at place e at_place line (in_by_get e.lines 0 line is_first))
+
+pub some_line : (c : ConfigView) → IsWellFormed c → (place : ℕ) → place < length c.elements → option_and_then (λ e. slice_get e.lines 0) (slice_get c.elements place) ≡ None → ⊥
+some_line c formed place lt none = by_element (slice_get c.elements place) refl none
+  where
+    by_lines : (lines : List ℕ) → 0 < length lines → slice_get lines 0 ≡ None → ⊥
+    by_lines [] some e = absurd (omega arith)
+    by_lines (line ∷ lines) some e = absurd (none-some line (sym e))
+
+    by_element : (o : Option ElementView) → slice_get c.elements place ≡ o → option_and_then (λ e. slice_get e.lines 0) o ≡ None → ⊥
+    by_element None at e = absurd (none-some (get_or c.elements place (any c.elements lt)) (sym at ∙ slice_get-get_or c.elements place (any c.elements lt) lt))
+      where
+        any : (es : List ElementView) → place < length es → ElementView
+        any [] lt = absurd (omega arith)
+        any (e ∷ es) lt = e
+    by_element (Some e) at first = by_lines e.lines (all_in (IsElement c.line_count) c.elements formed.elements e (in_by_get c.elements place e at)).some first
 
 -- ---- how many there are
 

@@ -1,7 +1,7 @@
 -- What is made of the numbers of a range that pass a test, one number after another.
 use Rattle.std.proofs.Common.{◌≡◌, ℕ, zero, suc, ◌+◌, ◌-◌, ◌≤◌, Bool, true, false, cond, ◌&&◌, List, [], ◌∷◌, ◌++◌, length, map, filter, take, refl, sym, ap, subst, ◌∙◌, arith}
 use Rattle.std.specs.List.{range_with_len}
-use Rattle.std.proofs.lemmas.List.{map-append, append_assoc}
+use Rattle.std.proofs.lemmas.List.{map-append, append_assoc, append-nil}
 use Rattle.std.proofs.lemmas.List.Elements.{filter-append}
 
 -- what is made of the numbers from one up to another
@@ -41,3 +41,12 @@ module _ {X : Type 0} (make : ℕ → X) (test : ℕ → Bool) where
 pub each_kept : (from n : ℕ) → filter (λ _. true) (range_with_len from n) ≡ range_with_len from n
 each_kept from zero = refl
 each_kept from (suc n) = ap (λ (ks : List ℕ). from ∷ ks) (each_kept (from + 1) n)
+
+-- ---- one more number
+
+module _ {X : Type 0} (old into before after : List X) (x : X) (b : Bool) (so_far : into ≡ old ++ before) (more : after ≡ before ++ cond b (x ∷ []) []) where
+  pub taken : b ≡ true → into ++ x ∷ [] ≡ old ++ after
+  taken passes = ap (λ (xs : List X). xs ++ x ∷ []) so_far ∙ append_assoc ∙ ap (λ (xs : List X). old ++ xs) (sym (more ∙ ap (λ (t : Bool). before ++ cond t (x ∷ []) []) passes))
+
+  pub passed_over : b ≡ false → into ≡ old ++ after
+  passed_over fails = so_far ∙ ap (λ (xs : List X). old ++ xs) (sym (more ∙ ap (λ (t : Bool). before ++ cond t (x ∷ []) []) fails ∙ append-nil before))
