@@ -1,0 +1,5 @@
+pub mod Few
+pub mod Beyond
+pub mod Places
+pub mod Hits
+pub mod Asked
