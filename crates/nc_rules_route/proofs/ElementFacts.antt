@@ -1,18 +1,25 @@
 -- The facts of the elements that interfaces and static routes are.
 use Rattle.std.proofs.Common.{◌≡◌, ℕ, ◌<◌, List, [], ◌∷◌, length, Option, Some, None, refl, sym, ap, ◌∙◌}
 use Rattle.std.specs.List.{slice_get}
-use Rattle.std.specs.Option.{option_map, option_map_or, option_and_then}
+use Rattle.std.specs.Option.{IfSome, option_map, option_map_or, option_and_then}
 use Rattle.std.proofs.lemmas.Option.{none-some, same_Some}
 use Rattle.nc_types.specs.declared.config.ElementId.{ElementId}
 use Rattle.nc_types.specs.declared.config.Interface.{Interface}
 use Rattle.nc_types.specs.declared.config.StaticRoute.{StaticRoute}
-use Rattle.nc_types.specs.Config.{ConfigView}
+use Rattle.std.specs.Borrow.{Bor}
+use Rattle.nc_types.specs.declared.config.RouterConfig.{RouterConfig}
+use Rattle.nc_types.specs.Config.{ConfigView, config_view}
 use Rattle.nc_types.specs.WellFormed.{IsWellFormed}
 use Rattle.nc_tables.specs.State.{StateView}
 use Rattle.nc_fact.specs.declared.fact.Fact.{Fact}
 use Rattle.nc_fact.specs.declared.fact.Fact.TheVariants.{Element}
 use Rattle.nc_rules_route.specs.Parents.{element_in, of_interface, of_static}
 use Rattle.nc_rules_route.proofs.Numbers.{interface_element, static_element}
+
+-- what holds of the configuration of each router holds of the one that is found
+pub of_config : (o : Option (Bor RouterConfig)) {x : Option ConfigView} → option_map (λ c. config_view c.now) o ≡ x → (P : ConfigView → Type 0) → ((c : ConfigView) → x ≡ Some c → P c) → IfSome o (λ c. P (config_view c.now))
+of_config None e P each = tt
+of_config (Some b) e P each = each (config_view b.now) (sym e)
 
 -- the fact of an element of a number
 pub fact_of : (o : Option ElementId) (n : ℕ) → option_map (λ e. e.0) o ≡ Some n → option_map_or (λ e. Element e ∷ []) o [] ≡ Element (record { 0 = n }) ∷ []

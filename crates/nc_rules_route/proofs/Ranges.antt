@@ -46,7 +46,7 @@ each_kept from (suc n) = ap (λ (ks : List ℕ). from ∷ ks) (each_kept (from +
 
 module _ {X : Type 0} (old into before after : List X) (x : X) (b : Bool) (so_far : into ≡ old ++ before) (more : after ≡ before ++ cond b (x ∷ []) []) where
   pub taken : b ≡ true → into ++ x ∷ [] ≡ old ++ after
-  taken passes = ap (λ (xs : List X). xs ++ x ∷ []) so_far ∙ append_assoc ∙ ap (λ (xs : List X). old ++ xs) (sym (more ∙ ap (λ (t : Bool). before ++ cond t (x ∷ []) []) passes))
+  taken passes = ap (λ (xs : List X). xs ++ x ∷ []) so_far ∙ append_assoc old before (x ∷ []) ∙ ap (λ (xs : List X). old ++ xs) (sym (more ∙ ap (λ (t : Bool). before ++ cond t (x ∷ []) []) passes))
 
   pub passed_over : b ≡ false → into ≡ old ++ after
   passed_over fails = so_far ∙ ap (λ (xs : List X). old ++ xs) (sym (more ∙ ap (λ (t : Bool). before ++ cond t (x ∷ []) []) fails ∙ append-nil before))
