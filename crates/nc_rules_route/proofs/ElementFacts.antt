@@ -1,5 +1,5 @@
 -- The facts of the elements that interfaces and static routes are.
-use Rattle.std.proofs.Common.{◌≡◌, ℕ, ◌<◌, List, [], ◌∷◌, length, Option, Some, None, refl, sym, ap, ◌∙◌}
+use Rattle.std.proofs.Common.{◌≡◌, ℕ, ◌<◌, [], ◌∷◌, length, Option, Some, None, refl, sym, ap, ◌∙◌}
 use Rattle.std.specs.List.{slice_get}
 use Rattle.std.specs.Option.{IfSome, option_map, option_map_or, option_and_then}
 use Rattle.std.proofs.lemmas.Option.{none-some, same_Some}
@@ -11,7 +11,6 @@ use Rattle.nc_types.specs.declared.config.RouterConfig.{RouterConfig}
 use Rattle.nc_types.specs.Config.{ConfigView, config_view}
 use Rattle.nc_types.specs.WellFormed.{IsWellFormed}
 use Rattle.nc_tables.specs.State.{StateView}
-use Rattle.nc_fact.specs.declared.fact.Fact.{Fact}
 use Rattle.nc_fact.specs.declared.fact.Fact.TheVariants.{Element}
 use Rattle.nc_rules_route.specs.Parents.{element_in, of_interface, of_static}
 use Rattle.nc_rules_route.proofs.Numbers.{interface_element, static_element}

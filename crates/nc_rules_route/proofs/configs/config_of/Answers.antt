@@ -1,5 +1,4 @@
-use Rattle.std.proofs.Common.{◌≡◌, ℕ, ◌^◌, ◌<◌, ◌≤◌, length, All, subst, arith}
-use Rattle.nc_types.specs.Config.{ConfigView}
+use Rattle.std.proofs.Common.{◌^◌, ◌<◌, ◌≤◌, length, subst, arith}
 use Rattle.nc_types.specs.WellFormed.{IsWellFormed}
 use Rattle.nc_types.specs.Network.{element_count}
 use Rattle.nc_rules_route.proofs.Numbers.{formed_at, interfaces_few}

@@ -1,8 +1,6 @@
-use Rattle.std.proofs.Common.{◌≡◌, ℕ, ◌+◌, ◌<◌, length, take, List, Option, Some, sym, ap, subst, ◌∙◌, slice_get, option_and_then}
-use Rattle.std.specs.Option.{option_map}
-use Rattle.std.proofs.lemmas.Option.{same_Some}
-use Rattle.nc_types.specs.Config.{ElementView, ConfigView, config_view}
-use Rattle.nc_types.specs.Network.{element_count, owner_at}
+use Rattle.std.proofs.Common.{◌≡◌, List, Some, sym, ap, ◌∙◌, slice_get}
+use Rattle.nc_types.specs.Config.{ConfigView, config_view}
+use Rattle.nc_types.specs.Network.{owner_at}
 use Rattle.nc_rules_route.proofs.Numbers.{first_line_number}
 use Rattle.nc_rules_route.proofs.elements.element_at.Goals as goal
 

@@ -1,4 +1,4 @@
-use Rattle.std.proofs.Common.{◌≡◌, ℕ, ◌+◌, ◌-◌, ◌<◌, ◌≤◌, Bool, true, List, [], ◌∷◌, ◌++◌, length, map, filter, Some, None, refl, sym, ap, subst, ◌∙◌, arith}
+use Rattle.std.proofs.Common.{ℕ, ◌+◌, filter, sym, ap, ◌∙◌}
 use Rattle.nc_tables.specs.Reach.{is_hit}
 use Rattle.nc_fact.specs.declared.fact.Fact.TheVariants.{Hop}
 use Rattle.nc_fact.specs.Facts.{holds}

@@ -1,4 +1,4 @@
-use Rattle.std.proofs.Common.{◌≡◌, ℕ, ◌++◌, filter}
+use Rattle.std.proofs.Common.{◌≡◌, ◌++◌, filter}
 use Rattle.nc_tables.specs.Reach.{is_hit}
 use Rattle.nc_fact.specs.declared.fact.Fact.TheVariants.{Hop}
 use Rattle.nc_fact.specs.Facts.{holds}

@@ -1,4 +1,4 @@
-use Rattle.std.proofs.Common.{◌≡◌, ℕ, ◌+◌, ◌-◌, ◌<◌, ◌≤◌, Bool, true, List, [], ◌∷◌, ◌++◌, length, map, filter, Some, None, refl, sym, ap, subst, ◌∙◌, arith}
+use Rattle.std.proofs.Common.{◌+◌, sym, ap, ◌∙◌}
 use Rattle.nc_tables.specs.Reach.{is_hit}
 use Rattle.nc_fact.specs.declared.fact.Fact.TheVariants.{Base}
 use Rattle.nc_rules_route.proofs.Ranges.{made_between, made_more, taken, passed_over}

@@ -1,4 +1,4 @@
-use Rattle.std.proofs.Common.{◌≡◌, ℕ, ◌++◌}
+use Rattle.std.proofs.Common.{◌≡◌, ◌++◌}
 use Rattle.nc_tables.specs.Reach.{is_hit}
 use Rattle.nc_fact.specs.declared.fact.Fact.TheVariants.{Base}
 use Rattle.nc_rules_route.proofs.Ranges.{made_between}

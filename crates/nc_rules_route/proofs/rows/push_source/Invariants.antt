@@ -1,4 +1,4 @@
-use Rattle.std.proofs.Common.{◌≡◌, ℕ, ◌++◌, true}
+use Rattle.std.proofs.Common.{◌≡◌, ◌++◌, true}
 use Rattle.nc_fact.specs.declared.fact.Fact.TheVariants.{Base}
 use Rattle.nc_rules_route.proofs.Ranges.{made_between}
 use Rattle.nc_rules_route.proofs.rows.push_source.Given as goal
