@@ -6,3 +6,5 @@ pub mod State
 pub mod Finding
 pub mod SessionOrder
 pub mod BgpRows
+pub mod ByPrefix
+pub mod RowCount

@@ -31,7 +31,7 @@ le_is Less = refl
 le_is Equal = refl
 le_is Greater = refl
 
-same_by_cmp : (q p : Cidr) → same_prefix q p ≡ is_eq (prefix_cmp q p)
+pub same_by_cmp : (q p : Cidr) → same_prefix q p ≡ is_eq (prefix_cmp q p)
 same_by_cmp q p = grind (arith, nat_tests)
 
 -- what a comparison with the prefix says of an item

@@ -1,0 +1,15 @@
+use Rattle.std.proofs.Common.{sym, subst, ◌∙◌}
+use Rattle.nc_tables.specs.State.{IsState}
+use Rattle.nc_stable.proofs.WithoutBgp.{static_is, is_state}
+use Rattle.nc_stable.proofs.settle.settle_static.Goals as goal
+
+pub new-requires : goal.new-requires
+new-requires c =
+    let base = c.in_ok-base.base in
+    let made = static_is c.args.network base c.in_ok-sessions.sessions c.in_ok-bgp.bgp c.in_ok-main.main c.in_ok-base.ensures (c.in_ok-sessions.ensures base) (c.in_ok-bgp.ensures base c.in_ok-sessions.sessions) c.in_ok-main.ensures in
+    subst IsState (sym made) (is_state c.args.network c.requires c.routers-routers.ensures.valid c.routers-routers.ensures.few)
+
+pub returns : goal.returns
+returns c =
+    let base = c.in_ok-base.base in
+    c.new.ensures ∙ static_is c.args.network base c.in_ok-sessions.sessions c.in_ok-bgp.bgp c.in_ok-main.main c.in_ok-base.ensures (c.in_ok-sessions.ensures base) (c.in_ok-bgp.ensures base c.in_ok-sessions.sessions) c.in_ok-main.ensures
