@@ -1,6 +1,6 @@
 -- From which facts a fact follows, and how.
-use Rattle.std.specs.Prelude.{ℕ, ◌+◌, ◌-◌, Bool, List, [], ◌∷◌, ◌++◌, map, filter, take, Option, Some, None, option_and_then, position, slice_get}
-use Rattle.std.specs.Option.{option_map, option_map_or}
+use Rattle.std.specs.Prelude.{ℕ, ◌+◌, ◌-◌, List, [], ◌∷◌, ◌++◌, map, filter, take, Option, option_and_then, position, slice_get}
+use Rattle.std.specs.Option.{option_map_or}
 use Rattle.nc_types.specs.Network.{element_count, has_address}
 use Rattle.nc_types.specs.declared.addr.Addr.{Addr}
 use Rattle.nc_types.specs.declared.config.RouterId.{RouterId}

@@ -1,0 +1,10 @@
+pub mod Members
+pub mod Numbers
+pub mod ElementFacts
+pub mod Ranges
+pub mod BaseRows
+pub mod MainRows
+pub mod Tables
+pub mod Holding
+pub mod Hops
+pub mod FlowLaws

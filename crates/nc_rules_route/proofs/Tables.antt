@@ -1,0 +1,65 @@
+-- The tables of a state by router.
+use Rattle.std.proofs.Common.{◌≡◌, ℕ, ◌+◌, ◌<◌, List, [], length, map, Option, Some, None, refl, sym, ap, subst, ◌∙◌, arith, inl, inr}
+use Rattle.std.specs.List.{range_with_len, slice_get, slice_index_or}
+use Rattle.std.specs.Option.{option_map, unwrap_or}
+use Rattle.std.proofs.lemmas.Option.{slice_get-map, get_or_from_slice_get, unwrap_or-slice_get}
+use Rattle.std.proofs.lemmas.Bool.{cases_lt}
+use Rattle.nc_types.specs.Config.{ConfigView}
+use Rattle.nc_tables.specs.declared.base.BaseRow.{BaseRow}
+use Rattle.nc_tables.specs.declared.bgp.MainRow.{MainRow}
+use Rattle.nc_tables.specs.Base.{base_table, base_tables}
+use Rattle.nc_tables.specs.Sessions.{sessions}
+use Rattle.nc_tables.specs.Main.{main_table}
+use Rattle.nc_tables.specs.State.{StateView, state_at, IsState}
+use Rattle.nc_fact.specs.Facts.{base_place, base_rows, main_rows}
+use Rattle.nc_rules_route.proofs.Members.{In, get_by_range, get_past}
+use Rattle.nc_rules_route.proofs.MainRows.{main_of_row}
+
+module _ (s : StateView) (is : IsState s) where
+  base_is : s.base ≡ base_tables s.routers
+  unfolding state_at
+  base_is = ap (λ (t : StateView). t.base) is.tables
+
+  pub base_rows_at : (router : ℕ) (c : ConfigView) → slice_get s.routers router ≡ Some c → base_rows s router ≡ base_table c
+  base_rows_at router c at = ap (λ (t : List (List BaseRow)). slice_index_or t router []) base_is ∙ get_or_from_slice_get (map base_table s.routers) router (base_table c) [] (slice_get-map base_table s.routers router ∙ ap (option_map base_table) at)
+
+  base_rows_none : (router : ℕ) → slice_get s.routers router ≡ None → base_rows s router ≡ []
+  base_rows_none router none =
+      ap (λ (t : List (List BaseRow)). slice_index_or t router []) base_is ∙ sym (unwrap_or-slice_get (map base_table s.routers) router [])
+      ∙ ap (λ (o : Option (List BaseRow)). unwrap_or o []) (slice_get-map base_table s.routers router ∙ ap (option_map base_table) none)
+
+  -- a router that has a base row is one of the network
+  pub router_of_row : (router : ℕ) (row : BaseRow) → In row (base_rows s router) → (c : ConfigView) × (slice_get s.routers router ≡ Some c) × (In row (base_table c))
+  router_of_row router row i = by_router (slice_get s.routers router) refl
+    where
+      by_router : (o : Option ConfigView) → slice_get s.routers router ≡ o → (c : ConfigView) × (slice_get s.routers router ≡ Some c) × (In row (base_table c))
+      by_router None at = absurd (subst (In row) (base_rows_none router at) i)
+      by_router (Some c) at = (c, at, subst (In row) (base_rows_at router c at) i)
+
+  -- the main table of a router is as it is defined
+  abbrev Mains : ℕ → List MainRow
+  Mains router = main_table s.routers (base_tables s.routers) (sessions s.routers (base_tables s.routers)) s.bgp router
+
+  main_is : s.main ≡ map Mains (range_with_len 0 (length s.routers))
+  unfolding state_at
+  main_is = ap (λ (t : StateView). t.main) is.tables
+
+  in_main : (router : ℕ) (m : MainRow) → In m (main_rows s router) → In m (Mains router)
+  in_main router m i = elim (cases_lt router (length s.routers)) [
+    | inl lt ↦ let e : 0 + router ≡ router = omega arith in subst (In m) (table_is router (get_by_range Mains 0 (length s.routers) router lt) ∙ ap Mains e) i
+    | inr le ↦ absurd (subst (In m) (none router (get_past Mains 0 (length s.routers) router le)) i)
+  ]
+    where
+      table_is : (router : ℕ) {rows : List MainRow} → slice_get (map Mains (range_with_len 0 (length s.routers))) router ≡ Some rows → main_rows s router ≡ rows
+      table_is router {rows} at = ap (λ (t : List (List MainRow)). slice_index_or t router []) main_is ∙ get_or_from_slice_get (map Mains (range_with_len 0 (length s.routers))) router rows [] at
+
+      none : (router : ℕ) → slice_get (map Mains (range_with_len 0 (length s.routers))) router ≡ None → main_rows s router ≡ []
+      none router at =
+          ap (λ (t : List (List MainRow)). slice_index_or t router []) main_is ∙ sym (unwrap_or-slice_get (map Mains (range_with_len 0 (length s.routers))) router [])
+          ∙ ap (λ (o : Option (List MainRow)). unwrap_or o []) at
+
+  -- the base row that a main row is of exists
+  pub base_of_main : (router : ℕ) (m : MainRow) → In m (main_rows s router) → (place : ℕ) → base_place m.from ≡ Some place → place < length (base_rows s router)
+  base_of_main router m i place of =
+      let lt = main_of_row s.routers (base_tables s.routers) (sessions s.routers (base_tables s.routers)) s.bgp router m (in_main router m i) place of in
+      subst (λ (t : List (List BaseRow)). place < length (slice_index_or t router [])) (sym base_is) lt

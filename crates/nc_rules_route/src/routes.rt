@@ -1,0 +1,113 @@
+//! What interfaces, static routes and the rows of tables follow from.
+
+ghost use Rattle.std.specs.Prelude.{◌≡◌, ◌++◌, [], ◌∷◌, length, take, slice_get, OnOk};
+ghost use Rattle.std.specs.Option.{option_map_or};
+ghost use Rattle.nc_tables.specs.State.{StateView};
+ghost use Rattle.nc_fact.specs.declared.fact.Fact.TheVariants as fact;
+ghost use Rattle.nc_fact.specs.Facts.{base_rows, static_at};
+ghost use Rattle.nc_rules_route.specs.Parents.{connected_by, route_of, parents};
+
+use crate::elements::{interface_element, static_element};
+use nc_fact::{Fact, base_of, base_rows, static_row};
+use nc_tables::{BaseFrom, BaseRow, Stable};
+use nc_types::{IfaceId, RouterId};
+use std::alloc::AllocError;
+
+/// Appends what an interface follows from: its element.
+#[tactic(auto, unfolding(crate::specs::Parents::parents))]
+pub(crate) fn push_connected(
+    state: &Stable,
+    router: RouterId,
+    iface: IfaceId,
+    into: &mut Vec<Fact>,
+) -> Result<(), AllocError>
+    ensures ok { OnOk result (into.new.items ≡ into.old.items ++ parents state.now (fact.Connected router iface)) }
+    ensures kept { take (length into.old.items) into.new.items ≡ into.old.items }
+{
+    if let Some(element) = interface_element(state, router, iface) {
+        into.push(Fact::Element(element))?;
+    }
+    Ok(())
+}
+
+// The interface through which the next hop of a static route is reached; none of one that discards.
+fn interface_of(state: &Stable, router: RouterId, place: u32) -> Option<IfaceId>
+    ensures { option_map_or (λ iface. fact.Connected router iface ∷ []) result []
+        ≡ option_map_or (λ row. connected_by state.now router row.from) (static_at state.now router.0 place) [] }
+{
+    match static_row(state, router, place)?.from {
+        BaseFrom::Static(_, iface) => Some(iface),
+        BaseFrom::Connected(_) | BaseFrom::Null(_) => None,
+    }
+}
+
+/// Appends what a static route follows from: its element, and the interface through which it leads.
+#[tactic(auto, unfolding(crate::specs::Parents::parents))]
+pub(crate) fn push_static(
+    state: &Stable,
+    router: RouterId,
+    place: u32,
+    into: &mut Vec<Fact>,
+) -> Result<(), AllocError>
+    ensures ok { OnOk result (into.new.items ≡ into.old.items ++ parents state.now (fact.Static router place)) }
+    ensures kept { take (length into.old.items) into.new.items ≡ into.old.items }
+{
+    if let Some(element) = static_element(state, router, place) {
+        into.push(Fact::Element(element))?;
+    }
+    if let Some(iface) = interface_of(state, router, place) {
+        into.push(Fact::Connected(router, iface))?;
+    }
+    Ok(())
+}
+
+// The route that a row of a base table is of.
+fn route_of(router: RouterId, from: BaseFrom) -> Fact
+    ensures { (state : StateView) → result ≡ route_of state router from }
+{
+    match from {
+        BaseFrom::Connected(iface) => Fact::Connected(router, iface),
+        BaseFrom::Static(place, _) | BaseFrom::Null(place) => Fact::Static(router, place),
+    }
+}
+
+// The row at a place of a router's base table.
+fn row_at(state: &Stable, router: RouterId, place: u32) -> Option<BaseRow>
+    ensures { result ≡ slice_get (base_rows state.now router.0) place }
+{
+    base_rows(state, router).get(place as usize).copied()
+}
+
+/// Appends what a base row follows from: the route that it is of.
+#[tactic(auto, unfolding(crate::specs::Parents::parents))]
+pub(crate) fn push_base(
+    state: &Stable,
+    router: RouterId,
+    row: u32,
+    into: &mut Vec<Fact>,
+) -> Result<(), AllocError>
+    ensures ok { OnOk result (into.new.items ≡ into.old.items ++ parents state.now (fact.Base router row)) }
+    ensures kept { take (length into.old.items) into.new.items ≡ into.old.items }
+{
+    if let Some(row) = row_at(state, router, row) {
+        into.push(route_of(router, row.from))?;
+    }
+    Ok(())
+}
+
+/// Appends what a main row of the base table follows from: the base row.
+#[tactic(auto, unfolding(crate::specs::Parents::parents))]
+pub(crate) fn push_main(
+    state: &Stable,
+    router: RouterId,
+    row: u32,
+    into: &mut Vec<Fact>,
+) -> Result<(), AllocError>
+    ensures ok { OnOk result (into.new.items ≡ into.old.items ++ parents state.now (fact.Main router row)) }
+    ensures kept { take (length into.old.items) into.new.items ≡ into.old.items }
+{
+    if let Some(place) = base_of(state, router, row) {
+        into.push(Fact::Base(router, place))?;
+    }
+    Ok(())
+}
