@@ -24,5 +24,3 @@ same_fact f g = false
 -- the flow graph of a state
 unfoldable pub flow_of : StateView → Flow Fact
 flow_of s = record { same = same_fact; holds = holds s; kind = kind; parents = parents s; rank = rank }
-
--- NOTE: see the note at the end of src/lib.rt (Rules should borrow the state); remove this line when done

@@ -10,3 +10,6 @@
 mod rules;
 
 pub use rules::{Rules, rules_make_a_flow};
+
+#[cfg(test)]
+mod tests;
