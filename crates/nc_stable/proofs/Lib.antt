@@ -1,1 +1,2 @@
 pub mod WithoutBgp
+pub mod Sampling

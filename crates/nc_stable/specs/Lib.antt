@@ -1,1 +1,2 @@
 pub mod MainRows
+pub mod Sample

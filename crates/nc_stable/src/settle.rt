@@ -91,7 +91,8 @@ fn no_routes(alloc: Global, network: &Network) -> Result<BgpTable, AllocError>
 /// Memory that runs out.
 pub fn settle_static(alloc: Global, network: Network) -> Result<Stable, AllocError>
     requires { HaveNoProcess network }
-    ensures { IfOk result (λ state. state ≡ static_state network) }
+    ensures routers { IfOk result (λ state. state.routers ≡ network) }
+    ensures state { IfOk result (λ state. state ≡ static_state network) }
 {
     let base = base_tables(alloc, &network)?;
     let main = main_tables(alloc, &network, &base)?;

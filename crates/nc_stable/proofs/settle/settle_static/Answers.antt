@@ -9,7 +9,7 @@ new-requires c =
     let made = static_is c.args.network base c.in_ok-sessions.sessions c.in_ok-bgp.bgp c.in_ok-main.main c.in_ok-base.ensures (c.in_ok-sessions.ensures base) (c.in_ok-bgp.ensures base c.in_ok-sessions.sessions) c.in_ok-main.ensures in
     subst IsState (sym made) (is_state c.args.network c.requires c.routers-routers.ensures.valid c.routers-routers.ensures.few)
 
-pub returns : goal.returns
-returns c =
+pub returns-clause-state : goal.returns-clause-state
+returns-clause-state c =
     let base = c.in_ok-base.base in
     c.new.ensures ∙ static_is c.args.network base c.in_ok-sessions.sessions c.in_ok-bgp.bgp c.in_ok-main.main c.in_ok-base.ensures (c.in_ok-sessions.ensures base) (c.in_ok-bgp.ensures base c.in_ok-sessions.sessions) c.in_ok-main.ensures
