@@ -4,7 +4,7 @@ use Rattle.nc_types.specs.Config.{ConfigView, config_view}
 use Rattle.nc_types.specs.Network.{element_count}
 use Rattle.nc_tables.specs.declared.base.BaseRow.{BaseRow}
 use Rattle.nc_tables.specs.Base.{static_row}
-use Rattle.nc_fact.proofs.Few.{config_at, few_interfaces}
+use Rattle.nc_fact.proofs.Few.{config_at, interfaces_at}
 use Rattle.nc_fact.proofs.statics.static_row.Goals as goal
 
 pub static_in-requires : goal.static_in-requires
@@ -12,7 +12,7 @@ static_in-requires c =
     let at = c.in_ok-config.ensures.lookup in
     let counted = ap element_count c.network-network.ensures.network in
     let count : element_count c.args.state.now.routers < 2 ^ 32 = omega (arith, counted, c.element_count-count.ensures, c.element_count-count.type_inv) in
-    few_interfaces c.args.state.now c.network-network.ensures.state count c.args.router.0 (config_view c.in_ok-config.config.now)
+    interfaces_at c.args.state.now c.network-network.ensures.state count c.args.router.0 (config_view c.in_ok-config.config.now)
     (config_at c.args.state.now c.routers.result.now c.args.router.0 c.in_ok-config.config.now (c.routers.ensures.routers ∙ c.network-network.ensures.network) at.3.0 at.1)
 
 pub returns : goal.returns
