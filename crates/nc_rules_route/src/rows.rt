@@ -20,8 +20,8 @@ pub(crate) fn push_resolve(
     ensures ok { OnOk result (into.new.items ≡ into.old.items ++ parents state.now (fact.Resolve router addr)) }
     ensures kept { take (length into.old.items) into.new.items ≡ into.old.items }
 {
-    let rows = longest_rows(state, router, addr);
-    'rows: for place in rows.from..rows.to {
+    let longest = longest_rows(state, router, addr);
+    'rows: for place in longest.from..longest.to {
         let row = place as u32;
         if is_hit(state, router, row) {
             into.push(Fact::Base(router, row))?;

@@ -9,7 +9,7 @@ pub rows-preserved : goal.rows-preserved
 rows-preserved c =
     let row = Base c.args.router in
     let hit = is_hit c.args.state.now.routers c.args.state.now.base c.args.router.0 in
-    let from = c.longest_rows-rows.result.from in
+    let from = c.longest_rows-longest.result.from in
     let place = c.rows.place in
     let more = made_more row hit from place c.rows.auto.place in
     elim c.if-is_hit.branch [
