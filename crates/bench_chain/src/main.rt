@@ -14,6 +14,7 @@ use nc_graph::inference::Inference;
 use nc_graph::node::{NodeId, NodeKind};
 use nc_marks::evaluation::marks;
 use nc_marks::mark::{Mark, Marks};
+use nc_types::ElementId;
 use std::alloc::AllocError;
 use std::test::Fail;
 use std::time::Instant;
@@ -104,7 +105,7 @@ fn count(marks: &Marks, elements: u32, mark: Mark) -> u32
 {
     let mut count: u32 = 0;
     'elements: for element in 0..elements {
-        if marks.of_element(element) == mark {
+        if marks.of_element(ElementId(element)) == mark {
             count = count.saturating_add(1);
         }
     }
