@@ -8,6 +8,7 @@ use nc_fact::{Fact, holds};
 use nc_graph::inference::Inference;
 use nc_graph::node::NodeKind;
 use nc_stable::settle_static;
+use nc_tables::Stable;
 use nc_types::{
     Addr, Element, ElementId, IfaceAddr, IfaceId, Interface, Kind, Network, Prefix, RouterConfig,
     RouterId, StaticRoute, Text, Via,
@@ -146,6 +147,7 @@ fn settled(alloc: Global) -> Result<Stable, AllocError> {
 }
 
 // Sees that a fact holds, that it follows as it is to from these facts, and that it is counted.
+#[tactic(auto, unfolding(crate::specs::Rules::flow_of))]
 fn expect(
     rt: &impl Abort,
     alloc: Global,
@@ -168,40 +170,36 @@ const R1: RouterId = RouterId(0);
 
 const R2: RouterId = RouterId(1);
 
+// 10.2.0.1, which r2 has.
+const INNER: Addr = Addr(0x0a02_0001);
+
 #[test]
 fn routes_and_rows(rt: HostRuntime) -> Result<(), Fail> {
     let alloc = rt.alloc();
     let state = settled(alloc)?;
     let mut rules = Rules::new(&state);
-    assert_eq!(rt; rules.asked(), 0);
     let every = NodeKind::Every;
     let number = Fact::Element(ElementId(4));
     expect(&rt, alloc, &mut rules, number, NodeKind::Leaf(4), &[])?;
     let right = Fact::Connected(R1, IfaceId(1));
-    expect(
-        &rt,
-        alloc,
-        &mut rules,
-        right,
-        every,
-        &[Fact::Element(ElementId(1))],
-    )?;
+    let wanted = vec![in alloc; Fact::Element(ElementId(1))]?;
+    expect(&rt, alloc, &mut rules, right, every, &wanted)?;
     // the elements of r2 are numbered behind the five of r1
     let inner = Fact::Connected(R2, IfaceId(2));
-    expect(
-        &rt,
-        alloc,
-        &mut rules,
-        inner,
-        every,
-        &[Fact::Element(ElementId(7))],
-    )?;
+    let wanted = vec![in alloc; Fact::Element(ElementId(7))]?;
+    expect(&rt, alloc, &mut rules, inner, every, &wanted)?;
     let route = Fact::Static(R1, 1);
-    expect(&rt, alloc, &mut rules, route, every, &[number, right])?;
-    let row = Fact::Base(R1, 4);
-    expect(&rt, alloc, &mut rules, row, every, &[route])?;
-    expect(&rt, alloc, &mut rules, Fact::Base(R1, 1), every, &[right])?;
-    expect(&rt, alloc, &mut rules, Fact::Main(R1, 4), every, &[row])?;
+    let wanted = vec![in alloc;
+        Fact::Element(ElementId(4)),
+        Fact::Connected(R1, IfaceId(1)),
+    ]?;
+    expect(&rt, alloc, &mut rules, route, every, &wanted)?;
+    let wanted = vec![in alloc; Fact::Static(R1, 1)]?;
+    expect(&rt, alloc, &mut rules, Fact::Base(R1, 4), every, &wanted)?;
+    let wanted = vec![in alloc; Fact::Connected(R1, IfaceId(1))]?;
+    expect(&rt, alloc, &mut rules, Fact::Base(R1, 1), every, &wanted)?;
+    let wanted = vec![in alloc; Fact::Base(R1, 4)]?;
+    expect(&rt, alloc, &mut rules, Fact::Main(R1, 4), every, &wanted)?;
     assert_eq!(rt; rules.asked(), 7);
     Ok(())
 }
@@ -212,26 +210,27 @@ fn ways_over_two_links(rt: HostRuntime) -> Result<(), Fail> {
     let state = settled(alloc)?;
     let mut rules = Rules::new(&state);
     let any = NodeKind::Any;
-    let addr = Addr(0x0a02_0001);
-    let rows = [Fact::Base(R1, 3), Fact::Base(R1, 4)];
-    expect(&rt, alloc, &mut rules, Fact::Resolve(R1, addr), any, &rows)?;
-    let source = Fact::NetSource(R1, Prefix::around(addr, 24));
+    let rows = vec![in alloc; Fact::Base(R1, 3), Fact::Base(R1, 4)]?;
+    expect(&rt, alloc, &mut rules, Fact::Resolve(R1, INNER), any, &rows)?;
+    let source = Fact::NetSource(R1, Prefix::around(INNER, 24));
     expect(&rt, alloc, &mut rules, source, any, &rows)?;
-    let left = Fact::Hop(R1, addr, 3, 2);
-    let right = Fact::Hop(R1, addr, 4, 2);
+    let hops = vec![in alloc; Fact::Hop(R1, INNER, 3, 2), Fact::Hop(R1, INNER, 4, 2)]?;
     expect(
         &rt,
         alloc,
         &mut rules,
-        Fact::Reach(R1, addr, 2),
+        Fact::Reach(R1, INNER, 2),
         any,
-        &[left, right],
+        &hops,
     )?;
-    let there = Fact::Connected(R2, IfaceId(1));
-    let onward = Fact::Reach(R2, addr, 1);
-    let wanted = [Fact::Base(R1, 4), there, onward];
-    expect(&rt, alloc, &mut rules, right, NodeKind::Every, &wanted)?;
-    let inner = Fact::Connected(R2, IfaceId(2));
-    expect(&rt, alloc, &mut rules, onward, any, &[inner])?;
+    let wanted = vec![in alloc;
+        Fact::Base(R1, 4),
+        Fact::Connected(R2, IfaceId(1)),
+        Fact::Reach(R2, INNER, 1),
+    ]?;
+    let hop = Fact::Hop(R1, INNER, 4, 2);
+    expect(&rt, alloc, &mut rules, hop, NodeKind::Every, &wanted)?;
+    let own = vec![in alloc; Fact::Connected(R2, IfaceId(2))]?;
+    expect(&rt, alloc, &mut rules, Fact::Reach(R2, INNER, 1), any, &own)?;
     Ok(())
 }
