@@ -1,16 +1,17 @@
-pub mod Owning
-pub mod Rows
-pub mod Covering
-pub mod FlowLaws
-pub mod Asking
-pub mod Marking
-pub mod Replying
-pub mod Accepting
-pub mod Turning
-pub mod Running
-pub mod WholeLines
-pub mod Concluding
-pub mod Ends
-pub mod SortedOnce
-pub mod OneOutput
-pub mod Taking
+mod WholeLines
+mod Walks
+mod Options
+mod EachFile
+mod Joined
+mod AllFiles
+mod Concluding
+mod Ends
+mod Running
+mod Taking
+mod SessionEnd
+mod Entering
+mod Closing
+mod Reporting
+mod Working
+mod Replying
+mod Answering

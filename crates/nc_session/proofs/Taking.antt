@@ -1,12 +1,12 @@
 -- How many bytes were taken, over several reads.
-use Rattle.std.specs.Prelude.{Result, Ok, Err, is_err, OnOk, OnErr}
-use Rattle.std.proofs.Common.{◌≡◌, ℕ, ◌+◌, ◌≤◌, true, false, List, [], ◌++◌, length, Option, Some, None, refl, sym, subst, arith, length-append}
+use Rattle.std.specs.Prelude.{option_and_then, Result, Ok, Err, is_err, OnOk, OnErr}
+use Rattle.std.proofs.Common.{◌≡◌, ℕ, ◌+◌, ◌≤◌, true, false, List, [], ◌++◌, length, Option, Some, None, ap, ◌∙◌, subst, arith, length-append}
 use Rattle.std.specs.Io.KnownBytes.{Consumes, Keeps}
 use Rattle.std.proofs.KnownBytes.{Consumes-nil, Consumes-trans, Consumes-kept}
-use Rattle.nc_outside.specs.Named.{Named, Enters}
+use Rattle.nc_outside.specs.Named.{Named, Enters, content_of}
 use Rattle.nc_session.specs.declared.TheConstants.{FILE_LIMIT}
 use Rattle.nc_session.specs.Reading.{TakesAtMost}
-use Rattle.nc_session.specs.Loading.{TakesOfFile, TakesOfNamed}
+use Rattle.nc_session.specs.Loading.{TakesOfEntered}
 
 -- nothing was read
 pub takes_none : (most : ℕ) (a : Option (List ℕ)) → TakesAtMost most a a
@@ -22,24 +22,20 @@ takes_more most rest a b c bytes consumes within takes =
     (bytes ++ takes.0, Consumes-trans a b c bytes takes.0 consumes takes.1, omega (arith, length-append bytes takes.0, takes.2))
 
 -- what is left of a file that was entered
-pub takes_entered : (files : Option (List Named)) (name : List ℕ) (entered left rest : Option (List ℕ)) → Enters files name entered left → TakesAtMost (FILE_LIMIT + 1) left rest → TakesOfFile files name rest
-takes_entered None name entered left rest enters takes = tt
-takes_entered (Some files) name entered left None enters takes = tt
-takes_entered (Some files) name entered left (Some rest) enters takes =
-    (enters.0, enters.1, subst (λ (l : Option (List ℕ)). TakesAtMost (FILE_LIMIT + 1) l (Some rest)) enters.3 takes)
+pub takes_entered : (files : Option (List Named)) (name : List ℕ) (entered now left rest : Option (List ℕ)) → Enters files name entered left → now ≡ entered → TakesAtMost (FILE_LIMIT + 1) left rest → TakesOfEntered files now rest
+takes_entered None name entered now left rest enters same takes = tt
+takes_entered (Some files) name entered None left rest enters same takes = tt
+takes_entered (Some files) name entered (Some now) left None enters same takes = tt
+takes_entered (Some files) name entered (Some now) left (Some rest) enters same takes =
+    let named : Some now ≡ Some name = same ∙ enters.2 in
+    let is : content_of files now ≡ Some enters.0 = ap (λ (o : Option (List ℕ)). option_and_then (content_of files) o) named ∙ enters.1 in
+    (enters.0, is, subst (λ (l : Option (List ℕ)). TakesAtMost (FILE_LIMIT + 1) l (Some rest)) enters.3 takes)
 
 -- no file is entered
-pub takes_no_file : (files : Option (List Named)) (name : List ℕ) (left : Option (List ℕ)) → left ≡ None → TakesOfFile files name left
-takes_no_file None name left none = tt
-takes_no_file (Some files) name None none = tt
-takes_no_file (Some files) name (Some left) none = absurd cc
-
--- of the file that the words name
-pub takes_named : (named : Option (List ℕ)) (name : List ℕ) (files : Option (List Named)) (old new : Option (List ℕ)) → named ≡ Some name → TakesOfFile files name new → TakesOfNamed named files old new
-takes_named named name files old new is takes = subst (λ (o : Option (List ℕ)). TakesOfNamed o files old new) (sym is) takes
-
-pub takes_not_named : (named : Option (List ℕ)) (files : Option (List Named)) (left : Option (List ℕ)) → named ≡ None → TakesOfNamed named files left left
-takes_not_named named files left is = subst (λ (o : Option (List ℕ)). TakesOfNamed o files left left) (sym is) refl
+pub takes_no_file : (files : Option (List Named)) (entered left : Option (List ℕ)) → entered ≡ None → TakesOfEntered files entered left
+takes_no_file None entered left none = tt
+takes_no_file (Some files) None left none = tt
+takes_no_file (Some files) (Some name) left none = absurd cc
 
 -- what is ensured of a call that failed, and of one that didn't
 pub on_failed : {T E : Type 0} (r : Result T E) (P : Type 0) → is_err r ≡ true → OnErr r P → P

@@ -1,18 +1,18 @@
 -- How a run ends, step by step.
-use Rattle.std.specs.Prelude.{◌≡◌, ◌⊎◌, ℕ, ◌<◌, ◌≤◌, nat_le, List, [], ◌++◌, length, take, Option, None, Some, IfSome}
+use Rattle.std.specs.Prelude.{◌≡◌, ◌⊎◌, ℕ, ◌<◌, ◌≤◌, true, false, List, [], ◌++◌, length, Option, None, Some, IfSome}
 use Rattle.std.specs.Io.KnownBytes.{Appends, Keeps, IsAtEnd}
-use Rattle.nc_types.specs.Config.{ConfigView}
 use Rattle.nc_outside.specs.Named.{Named}
 use Rattle.nc_outside.specs.Counts.{Rose}
-use Rattle.nc_lines.specs.Lines.{lines_of}
-use Rattle.nc_session.specs.declared.TheConstants.{SESSION_LIMIT}
+use Rattle.nc_tables.specs.State.{StateView}
+use Rattle.nc_session.specs.declared.TheConstants.{ROUTER_LIMIT, SESSION_LIMIT}
 use Rattle.nc_session.specs.declared.reading.Stop.{Stop}
 use Rattle.nc_session.specs.declared.reading.Stop.TheVariants as stop
-use Rattle.nc_session.specs.declared.load.LoadFault.{LoadFault}
-use Rattle.nc_session.specs.declared.load.LoadFault.TheVariants as load
+use Rattle.nc_session.specs.declared.refusal.LoadFault.{LoadFault}
+use Rattle.nc_session.specs.declared.refusal.LoadFault.TheVariants as load
 use Rattle.nc_session.specs.declared.status.Status.{Status}
 use Rattle.nc_session.specs.declared.status.Status.TheVariants.{Done, Config, Usage, InputFault, OutputFault, FileFault, Memory, Limit}
-use Rattle.nc_session.specs.Output.{AreReplies, Writes, Serves, Settles, Output, load, file_of, usage_text, IsAbsent, IsOverLimit, whole_lines_of, long_file_text, many_lines_text, long_session_text, fault_text}
+use Rattle.nc_session.specs.Session.{AreReplies}
+use Rattle.nc_session.specs.Output.{Writes, Serves, Settles, Output, load, files_of, file_named, usage_text, IsAbsent, IsOverLimit, is_within, served_lines, long_session_text, limit_text, fault_text, TookQuit}
 
 -- a text was written and the status told, or the sink failed
 abbrev pub Says : Status → List ℕ → Option (List ℕ) → Option (List ℕ) → ℕ → ℕ → Status → Type 0
@@ -23,44 +23,47 @@ Says status text old new before now result =
 abbrev pub Silent : Status → Option (List ℕ) → Option (List ℕ) → ℕ → ℕ → Status → Type 0
 Silent status old new before now result = (result ≡ status) × (now ≡ before) × Keeps old new
 
--- what is answered where the file gives no router
-abbrev pub Refuses : LoadFault → List ℕ → Option (List ℕ) → Option (List ℕ) → ℕ → ℕ → Status → Type 0
-Refuses load.Outside name old new before now result = Silent FileFault old new before now result
-Refuses load.Memory name old new before now result = Silent Memory old new before now result
-Refuses load.Long name old new before now result = Says Limit long_file_text old new before now result
-Refuses load.Many name old new before now result = Says Limit many_lines_text old new before now result
-Refuses (load.Bad line cause) name old new before now result =
-    Says Config (fault_text name (record { line = line; cause = cause })) old new before now result ⊎ Silent Memory old new before now result
+-- what is answered where the files give no network; a text is made first, for which there may be no memory
+abbrev pub Refuses : List (List ℕ) → LoadFault → Option (List ℕ) → Option (List ℕ) → ℕ → ℕ → Status → Type 0
+Refuses names load.Outside old new before now result = Silent FileFault old new before now result
+Refuses names load.Memory old new before now result = Silent Memory old new before now result
+Refuses names (load.Over quantity) old new before now result = Says Limit (limit_text quantity) old new before now result ⊎ Silent Memory old new before now result
+Refuses names (load.Bad file line reason) old new before now result =
+    Says Config (fault_text (file_named names file) line reason) old new before now result ⊎ Silent Memory old new before now result
 
 abbrev pub stopped_as : Stop → Status
 stopped_as stop.Outside = OutputFault
 stopped_as stop.Memory = Memory
 
 -- the replies to lines went to the sink, and a text behind them
-pub record Answered (c : ConfigView) (lines : List (List ℕ)) (text : List ℕ) (old new : Option (List ℕ)) : Type 0 where
+pub record Replies (s : StateView) (lines : List (List ℕ)) (text : List ℕ) (old new : Option (List ℕ)) : Type 0 where
   pub replies : List ℕ
-  pub are : AreReplies c lines replies
+  pub are : AreReplies s lines replies
   pub written : Appends old new (replies ++ text)
 
+-- a session whose lines were answered ends: nothing more is said within the limit, and past it a refusal
+abbrev pub Closes : List ℕ → Option (List ℕ) → Option (List ℕ) → ℕ → ℕ → Status → Type 0
+Closes session old new before now result =
+    ((length session ≤ SESSION_LIMIT) × (result ≡ Done) × (now ≡ before) × (new ≡ old)) ⊎ ((SESSION_LIMIT < length session) × Says Limit long_session_text old new before now result)
+
 -- the answers to what was read of a session
-abbrev pub AnswersSession : ConfigView → List ℕ → Option (List ℕ) → Option (List ℕ) → ℕ → ℕ → Status → Type 0
-AnswersSession c session old new before now Done = (now ≡ before) × (length session ≤ SESSION_LIMIT) × Answered c (lines_of session) [] old new
-AnswersSession c session old new before now Limit = (now ≡ before) × (SESSION_LIMIT < length session) × Answered c (whole_lines_of (take SESSION_LIMIT session)) long_session_text old new
-AnswersSession c session old new before now OutputFault = Rose before now
-AnswersSession c session old new before now Memory = now ≡ before
-AnswersSession c session old new before now status = ⊥
+abbrev pub AnswersSession : StateView → List ℕ → Option (List ℕ) → Option (List ℕ) → ℕ → ℕ → Status → Type 0
+AnswersSession s session old new before now Done = (now ≡ before) × (is_within session ≡ true) × Replies s (served_lines session) [] old new
+AnswersSession s session old new before now Limit = (now ≡ before) × (is_within session ≡ false) × Replies s (served_lines session) long_session_text old new
+AnswersSession s session old new before now OutputFault = Rose before now
+AnswersSession s session old new before now Memory = now ≡ before
+AnswersSession s session old new before now status = ⊥
 
 -- the answers to a session that a source gives
-abbrev pub ServesTo : ConfigView → Option (List ℕ) → Option (List ℕ) → Option (List ℕ) → Option (List ℕ) → ℕ → ℕ → ℕ → ℕ → Status → Type 0
-ServesTo c rest left old new asked_before asked_now before now Done =
-    (asked_now ≡ asked_before) × (now ≡ before) × IsAtEnd left × IfSome rest (λ session. Writes old new (λ bytes. Serves c session (nat_le (length session) SESSION_LIMIT) Done bytes))
-ServesTo c rest left old new asked_before asked_now before now Limit =
-    (asked_now ≡ asked_before) × (now ≡ before)
-    × IfSome rest (λ session. (SESSION_LIMIT < length session) × Writes old new (λ bytes. Serves c session (nat_le (length session) SESSION_LIMIT) Limit bytes))
-ServesTo c rest left old new asked_before asked_now before now InputFault = Rose asked_before asked_now × (now ≡ before) × Keeps old new
-ServesTo c rest left old new asked_before asked_now before now OutputFault = (asked_now ≡ asked_before) × Rose before now
-ServesTo c rest left old new asked_before asked_now before now Memory = (asked_now ≡ asked_before) × (now ≡ before)
-ServesTo c rest left old new asked_before asked_now before now status = ⊥
+abbrev pub ServesTo : StateView → Option (List ℕ) → Option (List ℕ) → Option (List ℕ) → Option (List ℕ) → ℕ → ℕ → ℕ → ℕ → Status → Type 0
+ServesTo s rest left old new asked_before asked_now before now Done =
+    (asked_now ≡ asked_before) × (now ≡ before) × (IsAtEnd left ⊎ TookQuit rest left) × IfSome rest (λ session. (is_within session ≡ true) × Writes old new (λ bytes. Serves s session Done bytes))
+ServesTo s rest left old new asked_before asked_now before now Limit =
+    (asked_now ≡ asked_before) × (now ≡ before) × IfSome rest (λ session. (is_within session ≡ false) × Writes old new (λ bytes. Serves s session Limit bytes))
+ServesTo s rest left old new asked_before asked_now before now InputFault = Rose asked_before asked_now × (now ≡ before) × Keeps old new
+ServesTo s rest left old new asked_before asked_now before now OutputFault = (asked_now ≡ asked_before) × Rose before now
+ServesTo s rest left old new asked_before asked_now before now Memory = (asked_now ≡ asked_before) × (now ≡ before)
+ServesTo s rest left old new asked_before asked_now before now status = ⊥
 
 -- what is seen of the three objects: what they tell, and their counts of faults
 pub record Seen : Type 0 where
@@ -77,9 +80,12 @@ pub record NoFault (before now : Seen) : Type 0 where
   pub input : now.input_faults ≡ before.input_faults
   pub output : now.output_faults ≡ before.output_faults
 
--- the words name a file
+-- the words name files, and no more than a network may have routers
 abbrev pub IsNaming : List (List ℕ) → Type 0
-IsNaming words = (name : List ℕ) × (file_of words ≡ Some name)
+IsNaming words = (names : List (List ℕ)) × (files_of words ≡ Some names)
+
+abbrev pub IsNamingFew : List (List ℕ) → Type 0
+IsNamingFew words = (names : List (List ℕ)) × (files_of words ≡ Some names) × (length names ≤ ROUTER_LIMIT)
 
 -- the status is that of the load, and the bytes are the output, where they are told
 abbrev pub IsTold : List (List ℕ) → Seen → Seen → Status → Type 0
@@ -92,18 +98,14 @@ IsLimited words before = IfSome before.files (λ files. IfSome before.rest (λ s
 
 -- how a run ends, by its status
 abbrev pub EndsAs : List (List ℕ) → Seen → Seen → Status → Type 0
-EndsAs words before now Done = NoFault before now × IsTold words before now Done × IsNaming words × IsAtEnd now.rest
+EndsAs words before now Done = NoFault before now × IsTold words before now Done × IsNaming words × (IsAtEnd now.rest ⊎ TookQuit before.rest now.rest)
 EndsAs words before now Config = NoFault before now × IsTold words before now Config × IsNaming words
 EndsAs words before now Limit = NoFault before now × IsTold words before now Limit × IsNaming words × IsLimited words before
-EndsAs words before now Usage = NoFault before now × IsTold words before now Usage × (file_of words ≡ None) × Appends before.written now.written usage_text
+EndsAs words before now Usage = NoFault before now × IsTold words before now Usage × (files_of words ≡ None) × Appends before.written now.written usage_text
 EndsAs words before now InputFault = (now.file_faults ≡ before.file_faults) × Rose before.input_faults now.input_faults × (now.output_faults ≡ before.output_faults)
     × IfSome before.files (λ files. Settles (load words files) InputFault) × IsNaming words × Keeps before.written now.written
 EndsAs words before now OutputFault = (now.file_faults ≡ before.file_faults) × (now.input_faults ≡ before.input_faults) × Rose before.output_faults now.output_faults
 EndsAs words before now FileFault = (Rose before.file_faults now.file_faults ⊎ IsAbsent words before.files) × (now.input_faults ≡ before.input_faults) × (now.output_faults ≡ before.output_faults)
-    × IsNaming words × Keeps before.written now.written
+    × IsNamingFew words × Keeps before.written now.written
 EndsAs words before now Memory = NoFault before now × IsNaming words
 EndsAs words before now status = ⊥
-
--- the file that was entered last is as before, or it is the one that the words name
-abbrev pub EntersNamed : List (List ℕ) → Option (List ℕ) → Option (List ℕ) → Type 0
-EntersNamed words before now = (now ≡ before) ⊎ IfSome now (λ name. file_of words ≡ Some name)

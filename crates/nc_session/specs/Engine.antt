@@ -1,60 +1,46 @@
--- What an engine holds, and of which state of a session it is.
-use Rattle.std.specs.Prelude.{◌≡◌, ℕ, ◌<◌, ◌^◌, List, [], ◌∷◌, ◌++◌, length, map, All, count_by}
-use Rattle.std.specs.List.{flat_map}
-use Rattle.nc_types.specs.Config.{ConfigView, IsPlaced, config_view}
-use Rattle.nc_session.specs.declared.engine.Engine.{Engine}
-use Rattle.nc_session.specs.Facts.{IsBaseTable, main_row}
-use Rattle.nc_session.specs.Owners.{AreOwners}
-use Rattle.nc_session.specs.Coverage.{Covers}
-use Rattle.nc_session.specs.Session.{State, Command, IsReply, Answers}
+-- What an engine has, and how it answers a line.
+use Rattle.std.specs.Prelude.{◌≡◌, ◌≢◌, ℕ, ◌+◌, ◌-◌, ◌≤◌, List, ◌++◌, length, Option, Some, if◌then◌else◌, codes}
+use Rattle.nc_graph.specs.Flow.{raised}
+use Rattle.nc_graph.specs.Closure.{IsClosure}
+use Rattle.nc_tables.specs.State.{StateView}
+use Rattle.nc_rules.specs.Rules.{flow_of}
+use Rattle.nc_fact.specs.declared.fact.Fact.{Fact}
+use Rattle.nc_command.specs.Command.{Line}
+use Rattle.nc_session.specs.declared.TheConstants.{FACT_LIMIT}
+use Rattle.nc_session.specs.declared.engine.Flow.{Flow}
+use Rattle.nc_session.specs.declared.engine.Flow.TheVariants.{Go, Stop}
+use Rattle.nc_session.specs.Texts.{line_of}
+use Rattle.nc_session.specs.Session.{State, Step, tested_in, ends}
 
--- the configuration of the engine's router
-abbrev pub config_in : Engine → ConfigView
-config_in e = config_view e.router
+-- an engine that isn't spent: the state of its network, what is kept of the session, and how many facts were inferred
+pub record Progress : Type 0 where
+  pub state : StateView
+  pub session : State
+  pub asked : ℕ
 
--- the table and the owners are those of the router
-pub record IsEngine (e : Engine) : Type 0 where
-  pub placed : IsPlaced (config_in e)
-  pub table : IsBaseTable (config_in e) e.rows.items
-  pub few : length e.rows.items < 2 ^ 32
-  pub ifaces : All (λ row. row.iface.0 < length e.router.elements.items) e.rows.items
-  pub owners : AreOwners e.router.line_count (config_in e).elements e.owners.items
-  pub asked_len : length e.coverage.asked.items ≡ length e.rows.items
-  pub strong_len : length e.coverage.strong.items ≡ length e.router.elements.items
-  pub asked_rows : e.coverage.asked_rows ≡ count_by (λ b. b) e.coverage.asked.items
+-- whether the session goes on behind a line
+abbrev pub flow_behind : Line → Flow
+flow_behind line = if ends line then Stop else Go
 
--- the places of the rows of all tests
-abbrev pub places_in : List (List ℕ) → List ℕ
-places_in places = flat_map (λ ks. ks) places
+-- facts are inferred once: for a test that is accepted as many as are new; for one that is refused for its facts one more than there may be at most; else none
+pub record Asks (old new : Progress) (reply : List ℕ) : Type 0 where
+  pub accepted : (xs ys : List Fact) → length new.session.tests ≡ length old.session.tests + 1 → IsClosure (flow_of old.state) (tested_in old.session.tests) xs
+      → IsClosure (flow_of old.state) (tested_in new.session.tests) ys → new.asked ≡ raised old.asked (length ys - length xs)
+  pub refused : reply ≡ line_of (codes "refused limit facts") → (old.asked ≤ new.asked) × (new.asked ≤ raised old.asked (FACT_LIMIT + 1))
+  pub unasked : new.session ≡ old.session → reply ≢ line_of (codes "refused limit facts") → new.asked ≡ old.asked
 
--- the engine keeps this state: each test is of rows that are there, and they are covered
-pub record Keeps (e : Engine) (s : State) : Type 0 where
-  pub places : List (List ℕ)
-  pub tests : s.tests ≡ map (map main_row) places
-  pub count : length e.tests.items ≡ length places
-  pub within : All (λ k. k < length e.rows.items) (places_in places)
-  pub covers : Covers e.rows.items (length e.router.elements.items) (places_in places) e.coverage
-
--- the engine has the same router and table
-pub record IsSameRouter (old new : Engine) : Type 0 where
-  pub config : config_in new ≡ config_in old
-  pub rows : new.rows.items ≡ old.rows.items
-
--- new is old with the reply to the tests of a state
-pub record Replies (e : Engine) (s : State) (old new : List ℕ) : Type 0 where
+-- a line is answered: the reply goes to the end of the bytes
+pub record Answered (old new : Progress) (line before after : List ℕ) : Type 0 where
   pub reply : List ℕ
-  pub is_reply : IsReply (config_in e) e.rows.items s.tests reply
-  pub text : new ≡ old ++ reply
-
--- a test of the rows of these places is accepted: the new engine keeps it, and its reply goes to the end of the bytes
-pub record Accepts (old new : Engine) (s : State) (places : List ℕ) (before after : List ℕ) : Type 0 where
-  pub keeps : Keeps new (record { tests = s.tests ++ map main_row places ∷ [] })
-  pub replies : Replies new (record { tests = s.tests ++ map main_row places ∷ [] }) before after
-
--- a command is answered: the new engine keeps what the state has become, and the reply goes to the end of the bytes
-pub record Turns (old new : Engine) (s : State) (command : Command) (before after : List ℕ) : Type 0 where
-  pub reply : List ℕ
-  pub state : State
-  pub answers : Answers (config_in old) old.rows.items s command reply state
-  pub keeps : Keeps new state
+  pub step : Step old.state old.session line reply new.session
   pub text : after ≡ before ++ reply
+  pub state : new.state ≡ old.state
+  pub asks : Asks old new reply
+
+-- the same of engines of which neither is spent
+pub record Turns (old new : Option Progress) (line before after : List ℕ) : Type 0 where
+  pub from : Progress
+  pub from_is : old ≡ Some from
+  pub to : Progress
+  pub to_is : new ≡ Some to
+  pub answered : Answered from to line before after

@@ -1,34 +1,30 @@
--- How each line is marked for the tested facts.
-use Rattle.std.specs.Prelude.{◌≡◌, ℕ, ◌+◌, List, [], ◌∷◌, length, Option, Some, None, Any, nat_eq, if◌then◌else◌}
-use Rattle.std.specs.List.{list_any}
-use Rattle.nc_types.specs.Config.{ElementView, ConfigView}
+-- How each line of a network's files is marked for the tested facts.
+use Rattle.std.specs.Prelude.{◌≡◌, ℕ, ◌+◌, ◌<◌, List, length, map, Some, slice_get, slice_index_or}
+use Rattle.nc_types.specs.Config.{ConfigView}
+use Rattle.nc_types.specs.Network.{owner_at}
 use Rattle.nc_graph.specs.Flow.{Flow}
-use Rattle.nc_graph.specs.Derivation.{IsStrong, IsInSome}
-use Rattle.nc_session.specs.declared.fact.Fact.{Fact}
-use Rattle.nc_session.specs.declared.mark.Mark.{Mark}
-use Rattle.nc_session.specs.declared.mark.Mark.TheVariants.{Strong, Weak, Uncovered, Outside}
+use Rattle.nc_marks.specs.Marks.{IsMark}
+use Rattle.nc_marks.specs.declared.mark.Mark.{Mark}
+use Rattle.nc_marks.specs.declared.mark.Mark.TheVariants.{Outside}
+use Rattle.nc_fact.specs.declared.fact.Fact.{Fact}
+use Rattle.nc_session.specs.Texts.{Sheet, letter, report_of}
 
--- the element that has a line, among elements the first of which has this place
-abbrev pub owner_from : ℕ → List ElementView → ℕ → Option ℕ
-owner_from place [] line = None
-owner_from place (e ∷ es) line = if list_any (nat_eq line) e.lines then Some place else owner_from (place + 1) es line
+module _ (g : Flow Fact) (tested : List Fact) (routers : List ConfigView) where
+  -- the marks of the lines of a router's file, each by its owner
+  pub record AreLineMarks (router lines : ℕ) (marks : List Mark) : Type 0 where
+    pub count : length marks ≡ lines
+    pub each : (k : ℕ) → k < lines → IsMark g tested (owner_at routers router (k + 1)) (slice_index_or marks k Outside)
 
-module _ (g : Flow Fact) (tested : List Fact) where
-  -- the mark of a line by its owner: strong where the element stands in every derivation of some tested fact, else weak
-  -- where it stands in some derivation of one, else uncovered; a line without an owner is outside
-  abbrev pub IsMark : Option ℕ → Mark → Type 0
-  IsMark (Some e) Strong = Any (IsStrong g e) tested
-  IsMark (Some e) Weak = ¬ Any (IsStrong g e) tested × Any (IsInSome g e) tested
-  IsMark (Some e) Uncovered = ¬ Any (IsStrong g e) tested × ¬ Any (IsInSome g e) tested
-  IsMark (Some e) Outside = ⊥
-  IsMark None Outside = Unit {0}
-  IsMark None mark = ⊥
+  -- a router's sheet has its name and the letters of the marks of its lines
+  pub record IsSheet (router : ℕ) (c : ConfigView) (s : Sheet) : Type 0 where
+    pub name : s.name ≡ c.name
+    pub marks : List Mark
+    pub are_marks : AreLineMarks router c.line_count marks
+    pub letters : s.letters ≡ map letter marks
 
-  -- the marks of the lines from this one on
-  abbrev pub AreMarksFrom : ConfigView → ℕ → List Mark → Type 0
-  AreMarksFrom c line [] = Unit {0}
-  AreMarksFrom c line (mark ∷ marks) = IsMark (owner_from 0 c.elements line) mark × AreMarksFrom c (line + 1) marks
-
-  -- the marks of all lines of a file
-  abbrev pub AreMarks : ConfigView → List Mark → Type 0
-  AreMarks c marks = (length marks ≡ c.line_count) × AreMarksFrom c 1 marks
+  -- the report on all routers, in order
+  pub record IsReport (report : List ℕ) : Type 0 where
+    pub sheets : List Sheet
+    pub count : length sheets ≡ length routers
+    pub each : (router : ℕ) (c : ConfigView) (s : Sheet) → slice_get routers router ≡ Some c → slice_get sheets router ≡ Some s → IsSheet router c s
+    pub text : report ≡ report_of sheets

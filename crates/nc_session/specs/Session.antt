@@ -1,79 +1,28 @@
--- A session: what a line of it asks, what the reply is, and what is kept.
-use Rattle.std.specs.Prelude.{◌≡◌, ℕ, Bool, true, false, ◌==◌, List, [], ◌∷◌, ◌++◌, length, map, if◌then◌else◌, codes, count_by}
+-- A session: what a line of it is replied, and what is kept.
+use Rattle.std.specs.Prelude.{◌≡◌, ◌⊎◌, ℕ, Bool, true, false, nat_lt, List, [], ◌∷◌, ◌++◌, length, Option, Some, None, if◌then◌else◌, codes}
 use Rattle.std.specs.List.{flat_map}
-use Rattle.std.specs.Option.{option_map_or}
-use Rattle.std.specs.Str.{bytes_eq}
-use Rattle.std.specs.Fmt.{decimal}
-use Rattle.nc_types.specs.Cidr.{Cidr}
-use Rattle.nc_types.specs.Config.{ConfigView}
-use Rattle.nc_graph.specs.Closure.{IsClosure}
-use Rattle.nc_lines.specs.Lines.{words_of}
-use Rattle.nc_lines.specs.Numbers.{prefix_of}
-use Rattle.nc_session.specs.declared.table.BaseRow.{BaseRow}
-use Rattle.nc_session.specs.declared.fact.Fact.{Fact}
-use Rattle.nc_session.specs.declared.mark.Mark.{Mark}
-use Rattle.nc_session.specs.declared.mark.Mark.TheVariants.{Strong, Weak, Uncovered, Outside}
-use Rattle.nc_session.specs.Facts.{flow_of, places_from, main_row}
-use Rattle.nc_session.specs.Marks.{AreMarks}
+use Rattle.nc_types.specs.Network.{router_named}
+use Rattle.nc_types.specs.declared.command.TestCommand.{TestCommand}
+use Rattle.nc_types.specs.declared.command.TestCommand.TheVariants.{Rib, Bgp, Session, Reach, Every, Element}
+use Rattle.nc_graph.specs.Closure.{IsClosure, ReachesMoreThan}
+use Rattle.nc_tables.specs.State.{StateView}
+use Rattle.nc_fact.specs.declared.fact.Fact.{Fact}
+use Rattle.nc_fact.specs.Tested.{tested_facts}
+use Rattle.nc_rules.specs.Rules.{flow_of}
+use Rattle.nc_command.specs.declared.command.Command.TheVariants.{Test, Quit}
+use Rattle.nc_command.specs.Command.{Line, Passed, TooLong, Unread, Asks, command_of, text_of}
+use Rattle.nc_session.specs.declared.TheConstants.{TEST_LIMIT, FACT_LIMIT}
+use Rattle.nc_session.specs.Texts.{line_of, accepted_of}
+use Rattle.nc_session.specs.Marks.{IsReport}
 
--- ---- commands
-
--- what a line of the session asks
-pub data Command : Type 0 where
-  -- nothing: the line is passed over
-  Pass : Command
-  -- what isn't understood
-  Unread : Command
-  -- whether the router of this name has main rows of the prefix, with the word that writes it
-  Rib : List ℕ → Cidr → List ℕ → Command
-
--- a word that begins with a number sign
-abbrev pub begins_note : List ℕ → Bool
-begins_note [] = false
-begins_note (b ∷ bs) = b == 35
-
--- `rib` and what follows it
-abbrev pub rib_of : List (List ℕ) → Command
-rib_of (name ∷ word ∷ []) = option_map_or (λ prefix. Rib name prefix word) (prefix_of word) Unread
-rib_of further = Unread
-
--- what the words of a line ask
-unfoldable pub command_of : List (List ℕ) → Command
-command_of [] = Pass
-command_of (word ∷ words) = if begins_note word then Pass else (if bytes_eq word (codes "rib") then rib_of words else Unread)
-
--- ---- texts
-
--- a text with a line feed behind it
-abbrev pub line_of : List ℕ → List ℕ
-line_of text = text ++ 10 ∷ []
-
--- the letter of a mark
-abbrev pub letter : Mark → ℕ
-letter Strong = 83
-letter Weak = 87
-letter Uncovered = 85
-letter Outside = 46
-
--- how many lines have a letter
-abbrev pub count_of : ℕ → List ℕ → ℕ
-count_of sign letters = count_by (λ b. b == sign) letters
-
--- how many lines have each mark
-abbrev pub summary_of : List ℕ → List ℕ
-summary_of letters =
-    codes "strong " ++ (decimal (count_of 83 letters) ++ (codes " weak " ++ (decimal (count_of 87 letters)
-    ++ (codes " uncovered " ++ (decimal (count_of 85 letters) ++ (codes " outside " ++ decimal (count_of 46 letters)))))))
-
--- the report of a router: the counts, then its name and a letter a line
-abbrev pub report_of : List ℕ → List ℕ → List ℕ
-report_of name letters = line_of (summary_of letters) ++ line_of (name ++ (32 ∷ letters))
-
--- the first line of a test's reply: its number, and how many facts were asked
-abbrev pub accepted_of : ℕ → ℕ → List ℕ
-accepted_of number facts = line_of (codes "test " ++ (decimal number ++ (codes " facts " ++ decimal facts)))
-
--- ---- steps
+-- the name of the router that a test is of
+abbrev pub router_of : TestCommand → List ℕ
+router_of (Rib name prefix via) = name
+router_of (Bgp name prefix from) = name
+router_of (Session name addr) = name
+router_of (Reach name addr) = name
+router_of (Every name addr) = name
+router_of (Element name line) = name
 
 -- the facts of each accepted test, in order
 pub record State : Type 0 where
@@ -87,41 +36,75 @@ no_tests = record { tests = [] }
 abbrev pub tested_in : List (List Fact) → List Fact
 tested_in tests = flat_map (λ facts. facts) tests
 
-module _ (c : ConfigView) (rows : List BaseRow) where
-  -- the facts that a test of a prefix tests: the main rows of the prefix
-  abbrev pub facts_of : Cidr → List Fact
-  facts_of prefix = map main_row (places_from 0 prefix rows)
+-- a reply of one line that changes nothing
+abbrev pub Refuses : State → List ℕ → List ℕ → State → Type 0
+Refuses old text reply new = (reply ≡ line_of text) × (new ≡ old)
 
+module _ (s : StateView) where
   -- the reply to a test that makes these tests: its number, how many facts were asked, and the report
   pub record IsReply (tests : List (List Fact)) (reply : List ℕ) : Type 0 where
     pub asked : List Fact
-    pub closure : IsClosure (flow_of c rows) (tested_in tests) asked
-    pub marks : List Mark
-    pub are_marks : AreMarks (flow_of c rows) (tested_in tests) c marks
-    pub text : reply ≡ accepted_of (length tests) (length asked) ++ report_of c.name (map letter marks)
+    pub closure : IsClosure (flow_of s) (tested_in tests) asked
+    pub report : List ℕ
+    pub is_report : IsReport (flow_of s) (tested_in tests) s.routers report
+    pub text : reply ≡ accepted_of (length tests) (length asked) ++ report
 
-  -- a test whose router is named: it is absent where it tests no fact, and else accepted
+  -- a test with which too many facts would be asked, and one that is accepted
+  abbrev pub Overfills : State → List Fact → List ℕ → State → Type 0
+  Overfills old facts reply new = ReachesMoreThan (flow_of s) FACT_LIMIT (tested_in old.tests ++ facts) × Refuses old (codes "refused limit facts") reply new
+
+  abbrev pub Accepts : State → List Fact → List ℕ → State → Type 0
+  Accepts old facts reply new =
+      ¬ ReachesMoreThan (flow_of s) FACT_LIMIT (tested_in old.tests ++ facts) × (new ≡ record { tests = old.tests ++ facts ∷ [] }) × IsReply new.tests reply
+
+  -- whether there is room for one more test
+  abbrev pub Counts : Bool → State → List Fact → List ℕ → State → Type 0
+  Counts true old facts reply new = Overfills old facts reply new ⊎ Accepts old facts reply new
+  Counts false old facts reply new = Refuses old (codes "refused limit tests") reply new
+
+  -- a test whose router is named: it is absent where it tests no fact
   abbrev pub Tests : State → List Fact → List ℕ → List ℕ → State → Type 0
-  Tests old [] test reply new = (reply ≡ line_of (codes "refused absent " ++ test)) × (new ≡ old)
-  Tests old (fact ∷ facts) test reply new = (new ≡ record { tests = old.tests ++ (fact ∷ facts) ∷ [] }) × IsReply new.tests reply
+  Tests old [] text reply new = Refuses old (codes "refused absent " ++ text) reply new
+  Tests old (fact ∷ facts) text reply new = Counts (nat_lt (length old.tests) TEST_LIMIT) old (fact ∷ facts) reply new
 
-  abbrev pub Named : Bool → State → List ℕ → List Fact → List ℕ → List ℕ → State → Type 0
-  Named true old name facts test reply new = Tests old facts test reply new
-  Named false old name facts test reply new = (reply ≡ line_of (codes "refused router " ++ name)) × (new ≡ old)
+  abbrev pub Named : Option ℕ → State → TestCommand → List ℕ → State → Type 0
+  Named (Some router) old test reply new = Tests old (tested_facts s test) (text_of test) reply new
+  Named None old test reply new = Refuses old (codes "refused router " ++ router_of test) reply new
 
-  -- what a command is replied, and what is kept
-  abbrev pub Answers : State → Command → List ℕ → State → Type 0
-  Answers old Pass reply new = (reply ≡ []) × (new ≡ old)
-  Answers old Unread reply new = (reply ≡ line_of (codes "refused syntax")) × (new ≡ old)
-  Answers old (Rib name prefix word) reply new =
-      Named (bytes_eq name c.name) old name (facts_of prefix) (codes "rib " ++ (name ++ (32 ∷ word))) reply new
+  -- what a line is replied, and what is kept
+  abbrev pub Answers : State → Line → List ℕ → State → Type 0
+  Answers old Passed reply new = (reply ≡ []) × (new ≡ old)
+  Answers old TooLong reply new = Refuses old (codes "refused long") reply new
+  Answers old Unread reply new = Refuses old (codes "refused syntax") reply new
+  Answers old (Asks Quit) reply new = (reply ≡ []) × (new ≡ old)
+  Answers old (Asks (Test test)) reply new = Named (router_named s.routers (router_of test)) old test reply new
 
   -- one line of the session
   abbrev pub Step : State → List ℕ → List ℕ → State → Type 0
-  Step old line reply new = Answers old (command_of (words_of line)) reply new
+  Step old line reply new = Answers old (command_of line) reply new
 
   -- lines in order: the replies, joined, and what is kept in the end
   abbrev pub Run : State → List (List ℕ) → List ℕ → State → Type 0
   Run old [] replies new = (replies ≡ []) × (new ≡ old)
   Run old (line ∷ lines) replies new =
       (reply : List ℕ) × (mid : State) × (more : List ℕ) × Step old line reply mid × Run mid lines more new × (replies ≡ reply ++ more)
+
+-- ---- the end of a session
+
+-- a line that ends the session
+abbrev pub ends : Line → Bool
+ends (Asks Quit) = true
+ends line = false
+
+abbrev pub is_quit : List ℕ → Bool
+is_quit line = ends (command_of line)
+
+-- the lines before the first that ends the session
+abbrev pub until_quit : List (List ℕ) → List (List ℕ)
+until_quit [] = []
+until_quit (line ∷ lines) = if is_quit line then [] else line ∷ until_quit lines
+
+-- the replies to lines in order, up to the end of the session, from no test on
+pub record AreReplies (s : StateView) (lines : List (List ℕ)) (replies : List ℕ) : Type 0 where
+  pub last : State
+  pub run : Run s no_tests (until_quit lines) replies last

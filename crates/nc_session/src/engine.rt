@@ -1,171 +1,84 @@
-//! The engine: a router with what a session needs of it, and the answers to the lines of a session.
+//! The engine: the state of a network, and the answers to the lines of a session.
 
-ghost use Rattle.std.specs.Prelude.{◌≡◌, ◌++◌, ◌∷◌, ◌*◌, ◌<◌, ◌≤◌, ◌-◌, List, IfOk, OnOk, length, codes};
-ghost use Rattle.nc_types.specs.Config.{IsPlaced, config_view};
-ghost use Rattle.std.specs.List.{range_with_len};
-ghost use Rattle.std.specs.Str.{bytes_eq};
-ghost use Rattle.nc_session.specs.Session.{State, Rib, no_tests, command_of, accepted_of, line_of};
-ghost use Rattle.nc_lines.specs.Lines.{words_of};
+ghost use Rattle.std.specs.Prelude.{◌≡◌, None, Some, IfOk, OnOk, OnErr};
+ghost use Rattle.nc_command.specs.Command.{command_of};
+ghost use Rattle.nc_session.specs.Session.{no_tests};
+ghost use Rattle.nc_session.specs.Engine.{Turns, flow_behind};
 
-use crate::command::{Command, RibTest, read_command};
-use crate::coverage::Coverage;
-use crate::owners::owners;
-use crate::report::{push_line, push_report};
-use crate::standing::rows_stand_on_interfaces;
-use crate::table::{BaseRow, Range, base_rows, rows_of};
-use nc_types::RouterConfig;
+use crate::load::LoadedFile;
+use crate::work::Work;
+use nc_tables::Stable;
 use std::alloc::{AllocError, Global};
+use std::marker::Model;
 
-/// A router, its base table, the owners of its lines, and what the accepted tests cover.
+/// Whether the session goes on behind a line.
+#[derive(Clone, Copy, Debug, PartialEq, Eq)]
+pub enum Flow {
+    Go,
+    /// The line ends the session.
+    Stop,
+}
+
+/// A network in its state, with what a session keeps: the tests that were accepted, and the facts that they
+/// rest on. An engine for which memory ran out is spent.
 #[derive(Drop)]
-pub(crate) struct Engine {
-    pub(crate) router: RouterConfig,
-    pub(crate) rows: Vec<BaseRow>,
-    pub(crate) owners: Vec<Option<u32>>,
-    pub(crate) tests: Vec<Range>,
-    pub(crate) coverage: Coverage,
+pub struct Engine {
+    work: Option<Work>,
+    files: Vec<LoadedFile>,
 }
 
-// Appends the first line of a test's reply.
-fn push_accepted(
-    alloc: Global,
-    out: &mut Vec<u8>,
-    number: usize,
-    facts: u64,
-) -> Result<(), AllocError>
-    ensures { OnOk result (out.new.items ≡ out.old.items ++ accepted_of number facts) }
-{
-    let text = format!(in alloc; "test {number} facts {facts}")?;
-    push_line(out, text.as_bytes())
-}
+impl Model for Engine {
+    ghost use Rattle.std.specs.Prelude.{Option};
+    ghost use Rattle.std.specs.Option.{option_map, ForSome};
+    ghost use Rattle.nc_session.specs.Engine.{Progress};
+    ghost use Rattle.nc_session.specs.Work.{progress_of, IsWork};
 
-// Appends the refusal of a router that isn't there.
-fn push_unknown(out: &mut Vec<u8>, router: &[u8]) -> Result<(), AllocError>
-    ensures { OnOk result (out.new.items ≡ out.old.items ++ line_of (codes "refused router " ++ router.now)) }
-{
-    out.extend_from_slice(b"refused router ")?;
-    push_line(out, router)?;
-    Ok(())
-}
+    ghost Value = { Option Progress };
 
-// Appends the refusal of a test of main rows of which there are none.
-fn push_absent(out: &mut Vec<u8>, router: &[u8], word: &[u8]) -> Result<(), AllocError>
-    ensures { OnOk result (out.new.items ≡ out.old.items
-        ++ line_of (codes "refused absent " ++ (codes "rib " ++ (router.now ++ (32 ∷ word.now))))) }
-{
-    out.extend_from_slice(b"refused absent rib ")?;
-    out.extend_from_slice(router)?;
-    out.push(b' ')?;
-    push_line(out, word)?;
-    Ok(())
+    ghost view = { λ e. option_map progress_of e.work };
+
+    ghost invariant = { λ e. ForSome e.work IsWork };
 }
 
 impl Engine {
-    ghost use Rattle.nc_session.specs.Engine.{IsEngine, Keeps, Replies, IsSameRouter, Accepts, Turns};
-
-    /// An engine for a router, without tests.
-    pub(crate) fn begin(alloc: Global, router: RouterConfig) -> Result<Engine, AllocError>
-        requires { IsPlaced (config_view router) }
-        ensures router { IfOk result (λ engine. config_view engine.router ≡ config_view router) }
-        ensures engine { IfOk result IsEngine }
-        ensures empty { IfOk result (λ engine. Keeps engine no_tests) }
+    /// An engine of a network's state, with the files of its routers, in order: without tests, and no fact
+    /// was asked.
+    ///
+    /// # Errors
+    ///
+    /// Memory that runs out.
+    pub fn begin(alloc: Global, state: Stable, files: Vec<LoadedFile>) -> Result<Engine, AllocError>
+        ensures { IfOk result (λ engine. engine ≡ Some (record { state = state; session = no_tests; asked = 0 })) }
     {
-        let rows = base_rows(alloc, &router.interfaces)?;
-        let owners = owners(alloc, router.line_count, &router.elements)?;
-        let coverage = Coverage::new(alloc, rows.len(), router.elements.len())?;
+        let work = Work::begin(alloc, state)?;
         Ok(Engine {
-            router,
-            rows,
-            owners,
-            tests: Vec::new(alloc),
-            coverage,
+            work: Some(work),
+            files,
         })
     }
 
-    // Whether this is the router's name.
-    fn is_named(&self, router: &[u8]) -> bool
-        ensures { result ≡ bytes_eq router.now self.now.router.name }
-    {
-        router == self.router.name.bytes()
-    }
-
-    // Appends the reply to the last test.
-    fn reply(&self, alloc: Global, out: &mut Vec<u8>) -> Result<(), AllocError>
-        requires { IsEngine self.now }
-        ensures { OnOk result ((s : State) → Keeps self.now s → Replies self.now s out.old.items out.new.items) }
-    {
-        rows_stand_on_interfaces();
-        let facts = 4 * self.coverage.asked_rows as u64;
-        push_accepted(alloc, out, self.tests.len(), facts)?;
-        let marks = self.coverage.marks(alloc, &self.owners)?;
-        push_report(alloc, out, self.router.name.bytes(), &marks)?;
-        Ok(())
-    }
-
-    // Accepts a test of rows, of which there are some, and appends its reply.
-    fn accept(&mut self, alloc: Global, range: Range, out: &mut Vec<u8>) -> Result<(), AllocError>
-        requires engine { IsEngine self.old }
-        requires some { range.from < range.to }
-        requires within { range.to ≤ length self.old.rows.items }
-        ensures engine { OnOk result (IsEngine self.new) }
-        ensures router { OnOk result (IsSameRouter self.old self.new) }
-        ensures accepts { OnOk result ((s : State) → Keeps self.old s → Accepts self.old self.new s (range_with_len range.from (range.to - range.from)) out.old.items out.new.items) }
-    {
-        self.tests.push(range)?;
-        self.coverage.cover_all(&self.rows, range);
-        self.reply(alloc, out)?;
-        Ok(())
-    }
-
-    // Answers a test of the main rows of a prefix.
-    fn rib(
-        &mut self,
-        alloc: Global,
-        test: &RibTest<'_>,
-        out: &mut Vec<u8>,
-    ) -> Result<(), AllocError>
-        requires { IsEngine self.old }
-        ensures engine { OnOk result (IsEngine self.new) }
-        ensures router { OnOk result (IsSameRouter self.old self.new) }
-        ensures turns { OnOk result ((s : State) → Keeps self.old s
-            → Turns self.old self.new s (Rib test.now.router.now test.now.prefix test.now.word.now) out.old.items out.new.items) }
-    {
-        if !self.is_named(test.router) {
-            push_unknown(out, test.router)?;
-            return Ok(());
-        }
-        let range = rows_of(&self.rows, test.prefix);
-        if range.from == range.to {
-            push_absent(out, test.router, test.word)?;
-            return Ok(());
-        }
-        self.accept(alloc, range, out)?;
-        Ok(())
-    }
-
-    /// Answers a line of the session: its reply goes to the end of `out`.
-    pub(crate) fn answer(
+    /// Answers a line of the session, given without its line end: its reply goes to the end of `out`.
+    ///
+    /// # Errors
+    ///
+    /// Memory that runs out. `out` is then as before, and the engine is spent: each later call answers the same.
+    pub fn answer(
         &mut self,
         alloc: Global,
         line: &[u8],
         out: &mut Vec<u8>,
-    ) -> Result<(), AllocError>
-        requires { IsEngine self.old }
-        ensures engine { OnOk result (IsEngine self.new) }
-        ensures router { OnOk result (IsSameRouter self.old self.new) }
-        ensures turns { OnOk result ((s : State) → Keeps self.old s
-            → Turns self.old self.new s (command_of (words_of line.now)) out.old.items out.new.items) }
+    ) -> Result<Flow, AllocError>
+        ensures turns { OnOk result (Turns self.old self.new line.now out.old.items out.new.items) }
+        ensures flow { IfOk result (λ flow. flow ≡ flow_behind (command_of line.now)) }
+        ensures spent { OnErr result ((self.new ≡ None) × (out.new.items ≡ out.old.items)) }
     {
-        match read_command(line) {
-            Command::Pass => Ok(()),
-            Command::Unread => {
-                push_line(out, b"refused syntax")?;
-                Ok(())
-            }
-            Command::Rib(test) => {
-                self.rib(alloc, &test, out)?;
-                Ok(())
-            }
-        }
+        let Some(mut work) = self.work.take() else {
+            return Err(AllocError);
+        };
+        let mut reply = Vec::new(alloc);
+        let flow = work.answer(alloc, line, &mut reply)?;
+        out.extend_from_slice(&reply)?;
+        self.work = Some(work);
+        Ok(flow)
     }
 }

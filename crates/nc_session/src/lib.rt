@@ -8,28 +8,27 @@
 //! are public: `Facts`, `Marks`, `Standing`, `Session` and `Output`, in the order to read them.
 #![tactic(auto)]
 
-mod command;
-mod coverage;
 mod engine;
-mod fact;
-pub mod laws;
 mod load;
-mod mark;
-mod owners;
 mod reading;
+mod refusal;
 mod report;
 mod runs;
 mod serving;
-mod standing;
 mod status;
-mod table;
+#[cfg(test)]
+mod tests;
+mod work;
 mod writing;
 
-pub use fact::Fact;
-pub use mark::Mark;
+pub use engine::{Engine, Flow};
+pub use load::LoadedFile;
+pub use refusal::{Quantity, Reason};
 pub use runs::run;
 pub use status::Status;
-pub use table::BaseRow;
+
+/// How many files are read: the routers of a network.
+pub const ROUTER_LIMIT: usize = 256;
 
 /// How many bytes of a file are read.
 pub const FILE_LIMIT: usize = 4_194_304;
@@ -40,5 +39,8 @@ pub const LINE_LIMIT: u32 = 65_535;
 /// How many bytes of a session are read.
 pub const SESSION_LIMIT: usize = 16_777_216;
 
-#[cfg(test)]
-mod tests;
+/// How many tests are accepted.
+pub const TEST_LIMIT: usize = 4096;
+
+/// How many facts are asked in a session.
+pub const FACT_LIMIT: u32 = 1_048_576;

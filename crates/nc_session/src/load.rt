@@ -1,67 +1,56 @@
-//! Loading: the words, and the configuration of the file that they name.
+//! Loading: from the names of files to the network that they configure, and its state.
 
-ghost use Rattle.std.specs.Prelude.{◌≡◌, ◌≤◌, Some, None, MatchOption, IfSome, IfOk, IsErrOf, length};
-ghost use Rattle.nc_types.specs.Config.{IsPlaced, config_view};
-ghost use Rattle.nc_types.specs.WellFormed.{first_line};
+ghost use Rattle.std.specs.Prelude.{◌≡◌, ◌+◌, ◌≤◌, ◌<◌, ℕ, List, Some, None, length, map, All, IfSome, IfOk, OnOk, IsErrOf, MatchOption, MatchResult};
+ghost use Rattle.std.specs.List.{list_any};
+ghost use Rattle.nc_types.specs.Config.{config_view};
 ghost use Rattle.nc_lines.specs.Lines.{lines_of};
-ghost use Rattle.nc_session.specs.Output.{file_of, load_content, load_lines, route_line, is_option};
-ghost use Rattle.nc_session.specs.declared.load.LoadFault.TheVariants as LoadFault;
-ghost use Rattle.nc_session.specs.declared.TheConstants.{FILE_LIMIT};
-ghost use Rattle.nc_types.specs.Config.{element_view};
 ghost use Rattle.nc_outside.specs.Named.{content_of};
-ghost use Rattle.nc_session.specs.Loading.{IsLoad, HasLoadCause, TakesOfFile, texts, load_stop, load_fault};
+ghost use Rattle.nc_tables.specs.State.{static_state};
+ghost use Rattle.nc_session.specs.declared.TheConstants.{FILE_LIMIT, ROUTER_LIMIT};
+ghost use Rattle.nc_session.specs.declared.refusal.LoadFault.TheVariants as LoadFault;
+ghost use Rattle.nc_session.specs.declared.refusal.Quantity.TheVariants as Quantity;
+ghost use Rattle.nc_session.specs.Output.{files_of, is_option, file_named, load_content, load_lines, load_each, load_names};
+ghost use Rattle.nc_session.specs.Loading.{IsOne, AddsOne, IsEach, IsJoined, IsLoad, IsRead, joining_fault, HasCauseOf, TakesOfEntered, IsTaken, IsInTurn, texts};
 
-use crate::reading::{Stop, read_file};
-use crate::{FILE_LIMIT, LINE_LIMIT};
+use crate::reading::read_file;
+use crate::refusal::{LoadFault, Quantity, Reason};
+use crate::{FILE_LIMIT, LINE_LIMIT, ROUTER_LIMIT};
+use nc_lines::Lines;
 use nc_lines::split::split_lines;
+use nc_network::{JoinFault, join};
 use nc_outside::Files;
 use nc_reader::read_config;
-use nc_types::{Cause, ConfigFault, Element, RouterConfig};
+use nc_stable::settle_static;
+use nc_tables::Stable;
+use nc_types::{ConfigFault, RouterConfig, RouterId, Text};
 use std::alloc::{AllocError, Global};
 
-/// Why the file gives no router.
-#[derive(Clone, Copy, Debug, PartialEq, Eq)]
-pub(crate) enum LoadFault {
-    /// The file couldn't be entered or read.
-    Outside,
-    /// It has more bytes than are read.
-    Long,
-    /// It has more lines than are read.
-    Many,
-    /// Its configuration has a fault.
-    Bad { line: u32, cause: Cause },
-    /// Memory ran out.
-    Memory,
+/// A file that was read: its name, as the words give it, and its lines.
+#[derive(Drop)]
+pub struct LoadedFile {
+    pub name: Text,
+    pub lines: Lines,
 }
 
-impl From<Stop> for LoadFault {
-    ghost from_gives = { λ stop e. e ≡ load_stop stop };
-
-    fn from(stop: Stop) -> LoadFault {
-        match stop {
-            Stop::Outside => LoadFault::Outside,
-            Stop::Memory => LoadFault::Memory,
-        }
-    }
+// A file that was read, with its configuration.
+#[derive(Drop)]
+pub(crate) struct FileRead {
+    pub(crate) file: LoadedFile,
+    pub(crate) config: RouterConfig,
 }
 
-impl From<AllocError> for LoadFault {
-    ghost from_gives = { λ _ e. e ≡ LoadFault.Memory };
-
-    fn from(_error: AllocError) -> LoadFault {
-        LoadFault::Memory
-    }
+// Files that were read, with their configurations, in order.
+#[derive(Drop)]
+pub(crate) struct FilesRead {
+    pub(crate) files: Vec<LoadedFile>,
+    pub(crate) configs: Vec<RouterConfig>,
 }
 
-impl From<ConfigFault> for LoadFault {
-    ghost from_gives = { λ fault e. e ≡ load_fault fault };
-
-    fn from(fault: ConfigFault) -> LoadFault {
-        match fault {
-            ConfigFault::Bad { line, cause } => LoadFault::Bad { line, cause },
-            ConfigFault::Memory => LoadFault::Memory,
-        }
-    }
+/// The state of the network of all files, and the files.
+#[derive(Drop)]
+pub(crate) struct Loaded {
+    pub(crate) state: Stable,
+    pub(crate) files: Vec<LoadedFile>,
 }
 
 // Whether a word isn't taken as a file: several bytes, of which the first is a dash.
@@ -72,72 +61,223 @@ fn is_option(word: &str) -> bool
     bytes.len() > 1 && bytes[0] == b'-'
 }
 
-/// The file that the words name: they are one word, and it is no option.
-pub(crate) fn file_of(words: &[String]) -> Option<&str>
-    ensures { MatchOption result (file_of (texts words.now) ≡ None) (λ name. file_of (texts words.now) ≡ Some name.now) }
+// Whether some word is an option.
+fn has_option(words: &[String]) -> bool
+    ensures { result ≡ list_any is_option (texts words.now) }
 {
-    if words.len() != 1 {
-        return None;
+    'words: for word in words {
+        if is_option(word.as_str()) {
+            return true;
+        }
     }
-    let word = words[0].as_str();
-    if is_option(word) { None } else { Some(word) }
+    false
 }
 
-// The first line of an element.
-fn first_line(element: &Element) -> u32
-    ensures { result ≡ first_line (element_view element.now) }
+/// The files that the words name: there is one at least, and no word is an option.
+pub(crate) fn files_of(words: &[String]) -> Option<&[String]>
+    ensures { MatchOption result (files_of (texts words.now) ≡ None) (λ names. files_of (texts words.now) ≡ Some (texts names.now)) }
 {
-    element.lines.first().copied().unwrap_or(0)
+    if words.is_empty() || has_option(words) {
+        None
+    } else {
+        Some(words)
+    }
 }
 
-// The first line of the first static route.
-fn route_line(router: &RouterConfig) -> Option<u32>
-    ensures { result ≡ route_line (config_view router.now) }
-{
-    let route = router.statics.first()?;
-    let element = router.elements.get(route.element as usize);
-    Some(element.map_or(0, first_line))
-}
-
-// Splits a file and judges its lines.
-fn load_bytes(alloc: Global, name: &str, bytes: Vec<u8>) -> Result<RouterConfig, LoadFault>
-    requires { length bytes.items ≤ FILE_LIMIT }
-    ensures loaded { IsLoad result name.now (load_lines name.now (lines_of bytes.items)) }
-    ensures placed { IfOk result (λ c. IsPlaced (config_view c)) }
+// Splits the file at a place and reads its configuration.
+fn read_lines(
+    alloc: Global,
+    names: &[String],
+    place: usize,
+    bytes: Vec<u8>,
+) -> Result<FileRead, LoadFault>
+    requires place { place < length names.now }
+    requires short { length bytes.items ≤ FILE_LIMIT }
+    ensures loaded { IsOne (texts names.now) result (load_lines (file_named (texts names.now) place) (lines_of bytes.items)) }
+    ensures read { IfOk result (λ one. IsRead (config_view one.config)) }
     ensures inside { IsErrOf result LoadFault.Outside → ⊥ }
 {
     let lines = split_lines(alloc, bytes)?;
     if lines.count() > LINE_LIMIT {
-        return Err(LoadFault::Many);
+        return Err(LoadFault::Over(Quantity::Lines));
     }
-    let router = read_config(alloc, &lines)?;
-    match route_line(&router) {
-        Some(line) => Err(LoadFault::Bad {
-            line,
-            cause: Cause::Unsupported,
+    let name = Text::new(alloc, names[place].as_bytes())?;
+    match read_config(alloc, &lines) {
+        Ok(config) => Ok(FileRead {
+            file: LoadedFile { name, lines },
+            config,
         }),
-        None => Ok(router),
+        Err(ConfigFault::Bad { line, cause }) => Err(LoadFault::Bad {
+            file: place,
+            line,
+            reason: Reason::from(cause),
+        }),
+        Err(ConfigFault::Memory) => Err(LoadFault::Memory),
     }
 }
 
-/// Enters the file, reads it and judges it.
-pub(crate) fn load<F: Files>(
+// Enters the file at a place, reads it and judges it.
+fn load_file<F: Files>(
     alloc: Global,
-    name: &str,
+    names: &[String],
+    place: usize,
     files: &mut F,
-) -> Result<RouterConfig, LoadFault>
-    ensures loaded { IfSome (F.files files.old) (λ fs. IsLoad result name.now (load_content name.now (content_of fs name.now))) }
-    ensures placed { IfOk result (λ c. IsPlaced (config_view c)) }
-    ensures cause { HasLoadCause (F.files files.old) name.now (F.faults files.old) (F.faults files.new) result }
-    ensures entered { IfSome (F.entered files.new) (λ entered. entered ≡ name.now) }
-    ensures takes { TakesOfFile (F.files files.old) name.now (F.left files.new) }
+) -> Result<FileRead, LoadFault>
+    requires { place < length names.now }
+    ensures files { F.files files.new ≡ F.files files.old }
+    ensures loaded { IfSome (F.files files.old) (λ fs. IsOne (texts names.now) result
+        (load_content (file_named (texts names.now) place) (content_of fs (file_named (texts names.now) place)))) }
+    ensures read { IfOk result (λ one. IsRead (config_view one.config)) }
+    ensures cause { HasCauseOf (F.files files.old) (λ fs. load_content (file_named (texts names.now) place) (content_of fs (file_named (texts names.now) place)))
+        (F.faults files.old) (F.faults files.new) result }
+    ensures entered { IfSome (F.entered files.new) (λ entered. entered ≡ file_named (texts names.now) place) }
+    ensures takes { TakesOfEntered (F.files files.old) (F.entered files.new) (F.left files.new) }
 {
-    if files.enter(name).is_err() {
+    if files.enter(names[place].as_str()).is_err() {
         return Err(LoadFault::Outside);
     }
     let bytes = read_file(alloc, files)?;
     if bytes.len() > FILE_LIMIT {
-        return Err(LoadFault::Long);
+        return Err(LoadFault::Over(Quantity::Bytes));
     }
-    load_bytes(alloc, name, bytes)
+    read_lines(alloc, names, place, bytes)
+}
+
+// Loads the file at a place, and puts it behind those that were read.
+fn add_file<F: Files>(
+    alloc: Global,
+    names: &[String],
+    place: usize,
+    files: &mut F,
+    each: &mut FilesRead,
+) -> Result<(), LoadFault>
+    requires { place < length names.now }
+    ensures files { F.files files.new ≡ F.files files.old }
+    ensures loaded { IfSome (F.files files.old) (λ fs. AddsOne (texts names.now) result each.old each.new
+        (load_content (file_named (texts names.now) place) (content_of fs (file_named (texts names.now) place)))) }
+    ensures read { OnOk result (All (λ c. IsRead (config_view c)) each.old.configs.items → All (λ c. IsRead (config_view c)) each.new.configs.items) }
+    ensures count { OnOk result (length each.new.configs.items ≡ length each.old.configs.items + 1) }
+    ensures cause { HasCauseOf (F.files files.old) (λ fs. load_content (file_named (texts names.now) place) (content_of fs (file_named (texts names.now) place)))
+        (F.faults files.old) (F.faults files.new) result }
+    ensures entered { IfSome (F.entered files.new) (λ entered. entered ≡ file_named (texts names.now) place) }
+    ensures takes { TakesOfEntered (F.files files.old) (F.entered files.new) (F.left files.new) }
+{
+    let one = load_file(alloc, names, place, files)?;
+    each.files.push(one.file)?;
+    each.configs.push(one.config)?;
+    Ok(())
+}
+
+// Loads the files one after another, and ends at the first refusal.
+fn load_each<F: Files>(
+    alloc: Global,
+    names: &[String],
+    files: &mut F,
+) -> Result<FilesRead, LoadFault>
+    ensures files { F.files files.new ≡ F.files files.old }
+    ensures loaded { IfSome (F.files files.old) (λ fs. IsEach (texts names.now) result (load_each fs (texts names.now))) }
+    ensures read { IfOk result (λ each. All (λ c. IsRead (config_view c)) each.configs.items) }
+    ensures count { IfOk result (λ each. length each.configs.items ≡ length names.now) }
+    ensures cause { HasCauseOf (F.files files.old) (λ fs. load_each fs (texts names.now)) (F.faults files.old) (F.faults files.new) result }
+    ensures entered { IsInTurn (texts names.now) (F.files files.old) (F.entered files.old) (F.entered files.new) }
+    ensures taken { IsTaken (F.files files.old) (F.entered files.old) (F.left files.old) (F.entered files.new) (F.left files.new) }
+{
+    let mut each = FilesRead {
+        files: Vec::new(alloc),
+        configs: Vec::new(alloc),
+    };
+    'names: for place in 0..names.len() {
+        match add_file(alloc, names, place, files, &mut each) {
+            Ok(()) => {}
+            Err(fault) => return Err(fault),
+        }
+    }
+    Ok(each)
+}
+
+// The lines that name the routers.
+fn name_lines(alloc: Global, configs: &[RouterConfig]) -> Result<Vec<u32>, AllocError>
+    ensures { IfOk result (λ lines. lines.items ≡ map (λ c. c.name_line) configs.now) }
+{
+    let mut lines = Vec::new(alloc);
+    'configs: for config in configs {
+        lines.push(config.name_line)?;
+    }
+    Ok(lines)
+}
+
+// What is wrong with a line of a router's file.
+fn bad(router: RouterId, line: u32, reason: Reason) -> LoadFault
+    ensures { result ≡ LoadFault.Bad router.0 line reason }
+{
+    LoadFault::Bad {
+        file: router.0 as usize,
+        line,
+        reason,
+    }
+}
+
+// What is told of configurations that don't go together, given the lines that name the routers.
+fn join_fault(name_lines: &[u32], fault: JoinFault) -> LoadFault
+    ensures { result ≡ joining_fault name_lines.now fault }
+{
+    match fault {
+        JoinFault::SameName { second, .. } => {
+            let line = name_lines.get(second.0 as usize).copied().unwrap_or(0);
+            bad(second, line, Reason::SameName)
+        }
+        JoinFault::Overlap { router, second, .. } => bad(router, second, Reason::Overlap),
+        JoinFault::SameAddress {
+            second,
+            second_line,
+            ..
+        } => bad(second, second_line, Reason::SameAddress),
+        JoinFault::Undefined { router, line } => bad(router, line, Reason::Undefined),
+        JoinFault::Limit { which } => LoadFault::Over(Quantity::from(which)),
+        JoinFault::Memory => LoadFault::Memory,
+    }
+}
+
+// Joins configurations, and settles their network.
+fn join_all(alloc: Global, configs: Vec<RouterConfig>) -> Result<Stable, LoadFault>
+    requires few { length configs.items ≤ ROUTER_LIMIT }
+    requires read { All (λ c. IsRead (config_view c)) configs.items }
+    ensures joined { (names : List (List ℕ)) → IsJoined names result (map config_view configs.items) }
+    ensures state { IfOk result (λ state. state ≡ static_state state.routers) }
+    ensures inside { IsErrOf result LoadFault.Outside → ⊥ }
+{
+    let name_lines = name_lines(alloc, &configs)?;
+    match join(alloc, configs) {
+        Ok(network) => Ok(settle_static(alloc, network)?),
+        Err(fault) => Err(join_fault(&name_lines, fault)),
+    }
+}
+
+/// Loads the files of these names, one after another, joins their configurations and settles the network.
+pub(crate) fn load<F: Files>(
+    alloc: Global,
+    names: &[String],
+    files: &mut F,
+) -> Result<Loaded, LoadFault>
+    ensures loaded { IfSome (F.files files.old) (λ fs. IsLoad (texts names.now) result (load_names (texts names.now) fs)) }
+    ensures state { IfOk result (λ loaded. loaded.state ≡ static_state loaded.state.routers) }
+    ensures cause { HasCauseOf (F.files files.old) (load_names (texts names.now)) (F.faults files.old) (F.faults files.new) result }
+    ensures entered { IsInTurn (texts names.now) (F.files files.old) (F.entered files.old) (F.entered files.new) }
+    ensures taken { IsTaken (F.files files.old) (F.entered files.old) (F.left files.old) (F.entered files.new) (F.left files.new) }
+    ensures many { ROUTER_LIMIT < length names.now → MatchResult result (λ _. ⊥) (λ fault. fault ≡ LoadFault.Over Quantity.Routers) × (F.entered files.new ≡ F.entered files.old) × (F.left files.new ≡ F.left files.old) }
+{
+    if names.len() > ROUTER_LIMIT {
+        return Err(LoadFault::Over(Quantity::Routers));
+    }
+    let each = match load_each(alloc, names, files) {
+        Ok(each) => each,
+        Err(fault) => return Err(fault),
+    };
+    match join_all(alloc, each.configs) {
+        Ok(state) => Ok(Loaded {
+            state,
+            files: each.files,
+        }),
+        Err(fault) => Err(fault),
+    }
 }

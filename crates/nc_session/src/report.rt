@@ -1,10 +1,23 @@
-//! The report: how the lines are marked, as text.
+//! The report: how the lines of all files are marked, as text.
 
-ghost use Rattle.std.specs.Prelude.{◌≡◌, ◌++◌, ◌+◌, map, OnOk, IfOk, string_bytes};
-ghost use Rattle.nc_session.specs.Session.{letter, count_of, summary_of, report_of, line_of};
+ghost use Rattle.std.specs.Prelude.{◌≡◌, ◌++◌, map, OnOk, IfOk, string_bytes};
+ghost use Rattle.std.specs.List.{flat_map};
+ghost use Rattle.nc_types.specs.Config.{config_view};
+ghost use Rattle.nc_types.specs.Network.{element_count};
+ghost use Rattle.nc_marks.specs.Marks.{marked_elements};
+ghost use Rattle.nc_session.specs.Texts.{letter, count_of, summary_of, sheet_of, report_of, line_of};
+ghost use Rattle.nc_session.specs.Sheets.{sheet_view, letters_from, sheet_at, sheets_from};
 
-use crate::mark::Mark;
+use nc_marks::mark::{Mark, Marks};
+use nc_types::{Network, RouterConfig, RouterId};
 use std::alloc::{AllocError, Global};
+
+// A router in a report: its name, and a letter a line of its file.
+#[derive(Drop)]
+pub(crate) struct Sheet {
+    pub(crate) name: Vec<u8>,
+    pub(crate) letters: Vec<u8>,
+}
 
 // The letter of a mark.
 fn letter(mark: Mark) -> u8
@@ -18,11 +31,63 @@ fn letter(mark: Mark) -> u8
     }
 }
 
-// The letters of marks, in order.
-fn letters(alloc: Global, marks: &[Mark]) -> Result<Vec<u8>, AllocError>
-    ensures { IfOk result (λ letters. letters.items ≡ map letter marks.now) }
+// The letters of the lines of a router's file.
+fn letters(
+    alloc: Global,
+    network: &Network,
+    marks: &Marks,
+    router: RouterId,
+    lines: u32,
+) -> Result<Vec<u8>, AllocError>
+    requires { marked_elements marks.now ≡ element_count network.now }
+    ensures { IfOk result (λ letters. letters.items ≡ letters_from network.now marks.now router.0 0 lines) }
 {
-    marks.iter().map(|mark| letter(*mark)).collect(alloc)
+    let mut letters = Vec::with_capacity(alloc, lines as usize)?;
+    'lines: for line in 0..lines {
+        letters.push(letter(marks.of_line(network, router, line + 1)))?;
+    }
+    Ok(letters)
+}
+
+// The sheet of a router.
+fn router_sheet(
+    alloc: Global,
+    network: &Network,
+    marks: &Marks,
+    router: RouterId,
+    config: &RouterConfig,
+) -> Result<Sheet, AllocError>
+    requires { marked_elements marks.now ≡ element_count network.now }
+    ensures { IfOk result (λ sheet. sheet_view sheet ≡ sheet_at network.now marks.now router.0 (config_view config.now)) }
+{
+    Ok(Sheet {
+        name: config.name.bytes().to_vec(alloc)?,
+        letters: letters(alloc, network, marks, router, config.line_count)?,
+    })
+}
+
+// The sheets of all routers.
+fn sheets(alloc: Global, network: &Network, marks: &Marks) -> Result<Vec<Sheet>, AllocError>
+    requires { marked_elements marks.now ≡ element_count network.now }
+    ensures { IfOk result (λ sheets. map sheet_view sheets.items ≡ sheets_from network.now marks.now 0 network.now) }
+{
+    let routers = network.routers();
+    let mut sheets = Vec::new(alloc);
+    'routers: for (place, config) in routers.iter().enumerate() {
+        sheets.push(router_sheet(alloc, network, marks, RouterId(place as u32), config)?)?;
+    }
+    Ok(sheets)
+}
+
+// The letters of all sheets.
+fn all_letters(alloc: Global, sheets: &[Sheet]) -> Result<Vec<u8>, AllocError>
+    ensures { IfOk result (λ letters. letters.items ≡ flat_map (λ s. s.letters) (map sheet_view sheets.now)) }
+{
+    let mut letters = Vec::new(alloc);
+    'sheets: for sheet in sheets {
+        letters.extend_from_slice(&sheet.letters)?;
+    }
+    Ok(letters)
 }
 
 // How many letters are this one.
@@ -52,19 +117,39 @@ fn summary(alloc: Global, letters: &[u8]) -> Result<String, AllocError>
     format!(in alloc; "strong {strong} weak {weak} uncovered {uncovered} outside {outside}")
 }
 
-/// Appends the report of a router: the counts of the marks, then its name and a letter a line.
+// Appends the line of a router.
+fn push_sheet(out: &mut Vec<u8>, sheet: &Sheet) -> Result<(), AllocError>
+    ensures { OnOk result (out.new.items ≡ out.old.items ++ sheet_of (sheet_view sheet.now)) }
+{
+    out.extend_from_slice(&sheet.name)?;
+    out.push(b' ')?;
+    push_line(out, &sheet.letters)
+}
+
+// Appends the lines of all routers.
+fn push_sheets(out: &mut Vec<u8>, sheets: &[Sheet]) -> Result<(), AllocError>
+    ensures { OnOk result (out.new.items ≡ out.old.items ++ flat_map sheet_of (map sheet_view sheets.now)) }
+{
+    'sheets: for sheet in sheets {
+        push_sheet(out, sheet)?;
+    }
+    Ok(())
+}
+
+/// Appends the report on a network: the counts of the marks of all lines, then of each router its name and
+/// a letter a line.
 pub(crate) fn push_report(
     alloc: Global,
     out: &mut Vec<u8>,
-    name: &[u8],
-    marks: &[Mark],
+    network: &Network,
+    marks: &Marks,
 ) -> Result<(), AllocError>
-    ensures { OnOk result (out.new.items ≡ out.old.items ++ report_of name.now (map letter marks.now)) }
+    requires { marked_elements marks.now ≡ element_count network.now }
+    ensures { OnOk result (out.new.items ≡ out.old.items ++ report_of (sheets_from network.now marks.now 0 network.now)) }
 {
-    let letters = letters(alloc, marks)?;
+    let sheets = sheets(alloc, network, marks)?;
+    let letters = all_letters(alloc, &sheets)?;
     let summary = summary(alloc, &letters)?;
     push_line(out, summary.as_bytes())?;
-    out.extend_from_slice(name)?;
-    out.push(b' ')?;
-    push_line(out, &letters)
+    push_sheets(out, &sheets)
 }

@@ -1,13 +1,13 @@
 //! Serving a session: every line is answered, and its reply written before the next is looked at.
 
-ghost use Rattle.std.specs.Prelude.{OnOk};
+ghost use Rattle.std.specs.Prelude.{◌≡◌, Some, OnOk, IfOk};
 ghost use Rattle.nc_lines.specs.Lines.{lines_of};
-ghost use Rattle.nc_session.specs.Session.{State};
-ghost use Rattle.nc_session.specs.Engine.{IsEngine, IsSameRouter, Keeps};
+ghost use Rattle.nc_command.specs.Command.{command_of};
 ghost use Rattle.nc_session.specs.Reading.{HasStopCause};
+ghost use Rattle.nc_session.specs.Engine.{Progress, flow_behind};
 ghost use Rattle.nc_session.specs.Serving.{Replied, TurnsTo};
 
-use crate::engine::Engine;
+use crate::engine::{Engine, Flow};
 use crate::reading::Stop;
 use crate::writing::write_all;
 use nc_lines::cut::cut_line;
@@ -20,36 +20,34 @@ fn answer_line<K: Sink>(
     engine: &mut Engine,
     line: &[u8],
     output: &mut K,
-) -> Result<(), Stop>
-    requires { IsEngine engine.old }
-    ensures engine { OnOk result (IsEngine engine.new) }
-    ensures router { OnOk result (IsSameRouter engine.old engine.new) }
-    ensures turns { OnOk result ((s : State) → Keeps engine.old s
-        → TurnsTo engine.old engine.new s line.now (K.written output.old) (K.written output.new)) }
+) -> Result<Flow, Stop>
+    ensures turns { OnOk result (TurnsTo engine.old engine.new line.now (K.written output.old) (K.written output.new)) }
+    ensures flow { IfOk result (λ flow. flow ≡ flow_behind (command_of line.now)) }
     ensures cause { HasStopCause (K.faults output.old) (K.faults output.new) result }
 {
     let mut reply = Vec::new(alloc);
-    engine.answer(alloc, line, &mut reply)?;
+    let flow = engine.answer(alloc, line, &mut reply)?;
     write_all(output, &reply)?;
-    Ok(())
+    Ok(flow)
 }
 
-/// Answers the lines of a text, in order.
+/// Answers the lines of a text, in order, up to one that ends the session, and says whether there is one.
 pub(crate) fn answer_lines<K: Sink>(
     alloc: Global,
     engine: &mut Engine,
     text: &[u8],
     output: &mut K,
-) -> Result<(), Stop>
-    requires { IsEngine engine.old }
-    ensures replied { OnOk result ((s : State) → Keeps engine.old s
-        → Replied engine.old s (lines_of text.now) (K.written output.old) (K.written output.new)) }
+) -> Result<Flow, Stop>
+    ensures replied { IfOk result (λ flow. (from : Progress) → engine.old ≡ Some from
+        → Replied from (lines_of text.now) flow (K.written output.old) (K.written output.new)) }
     ensures cause { HasStopCause (K.faults output.old) (K.faults output.new) result }
 {
     let mut rest = text;
     'lines: while let Some((line, behind)) = cut_line(rest) {
-        answer_line(alloc, engine, line, output)?;
-        rest = behind;
+        match answer_line(alloc, engine, line, output)? {
+            Flow::Go => rest = behind,
+            Flow::Stop => return Ok(Flow::Stop),
+        }
     }
-    Ok(())
+    Ok(Flow::Go)
 }

@@ -1,19 +1,36 @@
-use Rattle.std.proofs.Common.{◌∙◌, sym}
-use Rattle.nc_session.proofs.Taking.{takes_entered, takes_no_file, on_failed, on_done}
+use Rattle.std.proofs.Common.{◌≤◌, ◌<◌, length, map, arith}
+use Rattle.std.proofs.lemmas.List.{length-map}
+use Rattle.std.specs.String.{string_bytes}
+use Rattle.nc_types.specs.Config.{config_view}
+use Rattle.nc_session.specs.declared.TheConstants.{ROUTER_LIMIT}
+use Rattle.nc_session.specs.Loading.{texts}
+use Rattle.nc_session.proofs.AllFiles.{too_many, fault_each, cause_each, fault_together, fine_together}
 use Rattle.nc_session.proofs.load.load.Goals as goal
 
-pub returns-then-is_err-clause-takes : goal.returns-then-is_err-clause-takes
-returns-then-is_err-clause-takes g c =
-    takes_no_file _ c.args.name.now _ (on_failed c.enter.result _ (sym c.is_err.ensures.value ∙ c.if-is_err.true) c.enter.ensures.failed).1
+pub returns-then-names-gt-ROUTER_LIMIT-clause-loaded : goal.returns-then-names-gt-ROUTER_LIMIT-clause-loaded
+returns-then-names-gt-ROUTER_LIMIT-clause-loaded g c =
+    let many : ROUTER_LIMIT < length (texts c.args.names.now) = omega (arith, length-map c.args.names.now string_bytes, c.if-names-gt-ROUTER_LIMIT.true) in
+    too_many (texts c.args.names.now) (g.F.Files.files c.args.files.now) many
 
-pub returns-in_err-bytes-clause-takes : goal.returns-in_err-bytes-clause-takes
-returns-in_err-bytes-clause-takes g c =
-    takes_entered _ c.args.name.now _ _ _ (on_done c.enter.result _ (sym c.is_err.ensures.value ∙ c.if-is_err.false) c.enter.ensures.entered) c.read_file.ensures.takes
+pub returns-in-Err-clause-loaded : goal.returns-in-Err-clause-loaded
+returns-in-Err-clause-loaded g c =
+    let few : length (texts c.args.names.now) ≤ ROUTER_LIMIT = omega (arith, length-map c.args.names.now string_bytes, c.if-names-gt-ROUTER_LIMIT.false) in
+    fault_each (texts c.args.names.now) few (g.F.Files.files c.args.files.now) c.in-Err.fault c.in-Err.ensures.loaded
 
-pub returns-then-len-gt-FILE_LIMIT-clause-takes : goal.returns-then-len-gt-FILE_LIMIT-clause-takes
-returns-then-len-gt-FILE_LIMIT-clause-takes g c =
-    takes_entered _ c.args.name.now _ _ _ (on_done c.enter.result _ (sym c.is_err.ensures.value ∙ c.if-is_err.false) c.enter.ensures.entered) c.read_file.ensures.takes
+pub returns-in-Err-clause-cause : goal.returns-in-Err-clause-cause
+returns-in-Err-clause-cause g c =
+    let few : length (texts c.args.names.now) ≤ ROUTER_LIMIT = omega (arith, length-map c.args.names.now string_bytes, c.if-names-gt-ROUTER_LIMIT.false) in
+    cause_each (texts c.args.names.now) few (g.F.Files.files c.args.files.now) c.in-Err.fault _ _ c.in-Err.ensures.cause
 
-pub returns-clause-takes : goal.returns-clause-takes
-returns-clause-takes g c =
-    takes_entered _ c.args.name.now _ _ _ (on_done c.enter.result _ (sym c.is_err.ensures.value ∙ c.if-is_err.false) c.enter.ensures.entered) c.read_file.ensures.takes
+pub returns-in-Ok-join_all-clause-loaded : goal.returns-in-Ok-join_all-clause-loaded
+returns-in-Ok-join_all-clause-loaded g c =
+    let names = texts c.args.names.now in
+    let few : length names ≤ ROUTER_LIMIT = omega (arith, length-map c.args.names.now string_bytes, c.if-names-gt-ROUTER_LIMIT.false) in
+    let joined = c.in-Ok-join_all.ensures.joined names in
+    fine_together names few (g.F.Files.files c.args.files.now) (map config_view c.in-Ok.each.configs.items) c.in-Ok.ensures.loaded c.in-Ok-join_all.state.routers joined.0 joined.1
+
+pub returns-in-Err-join_all-clause-loaded : goal.returns-in-Err-join_all-clause-loaded
+returns-in-Err-join_all-clause-loaded g c =
+    let names = texts c.args.names.now in
+    let few : length names ≤ ROUTER_LIMIT = omega (arith, length-map c.args.names.now string_bytes, c.if-names-gt-ROUTER_LIMIT.false) in
+    fault_together names few (g.F.Files.files c.args.files.now) (map config_view c.in-Ok.each.configs.items) c.in-Ok.ensures.loaded c.in-Err-join_all.fault (c.in-Err-join_all.ensures.joined names)

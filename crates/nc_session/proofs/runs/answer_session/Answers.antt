@@ -1,11 +1,19 @@
-use Rattle.std.proofs.Common.{◌∙◌, ap, arith}
-use Rattle.nc_session.specs.Session.{no_tests}
-use Rattle.nc_session.specs.Output.{whole_lines_of}
-use Rattle.nc_session.proofs.Concluding.{limit_said}
+use Rattle.std.proofs.Common.{subst}
+use Rattle.nc_session.specs.declared.engine.Flow.{Flow}
+use Rattle.nc_session.specs.Serving.{Replied}
+use Rattle.nc_lines.specs.Lines.{lines_of}
+use Rattle.nc_session.proofs.SessionEnd.{start, stopped_done, closed}
 use Rattle.nc_session.proofs.runs.answer_session.Goals as goal
 
-pub returns-in-Ok-answer_lines-2 : goal.returns-in-Ok-answer_lines-2
-returns-in-Ok-answer_lines-2 g c =
-    let whole = c.whole_part-whole.ensures ∙ ap whole_lines_of c.split_at.ensures.front in
-    limit_said c.in-Ok.engine _ c.args.session.now _ _ _ _ _ _ _ c.say.result c.in-Ok.ensures.router c.in-Ok.ensures.engine
-    (omega (arith, c.if-session-le-SESSION_LIMIT.false)) whole (c.in-Ok-answer_lines-2.ensures.replied no_tests c.in-Ok.ensures.empty) c.in-Ok-answer_lines-2.ensures.cause c.say.ensures
+pub returns-in-Stop : goal.returns-in-Stop
+returns-in-Stop g c =
+    let lines = lines_of c.served_part.result.now in
+    let replied = subst (λ (flow : Flow). Replied (start c.args.loaded.state) lines flow (g.K.Sink.written c.args.output.now) (g.K.Sink.written c.answer_part.new.output)) c.in-Stop.is c.in-Ok.ensures.replied in
+    stopped_done c.args.loaded.state c.args.session.now lines c.served_part.ensures (g.K.Sink.written c.args.output.now) (g.K.Sink.written c.answer_part.new.output) replied _ _ c.in-Ok.ensures.cause
+
+pub returns-in-Go : goal.returns-in-Go
+returns-in-Go g c =
+    let lines = lines_of c.served_part.result.now in
+    let replied = subst (λ (flow : Flow). Replied (start c.args.loaded.state) lines flow (g.K.Sink.written c.args.output.now) (g.K.Sink.written c.answer_part.new.output)) c.in-Go.is c.in-Ok.ensures.replied in
+    closed c.args.loaded.state c.args.session.now lines c.served_part.ensures (g.K.Sink.written c.args.output.now) (g.K.Sink.written c.answer_part.new.output) (g.K.Sink.written c.close.new.output)
+    (g.K.Sink.faults c.args.output.now) (g.K.Sink.faults c.answer_part.new.output) (g.K.Sink.faults c.close.new.output) c.close.result replied c.in-Ok.ensures.cause c.close.ensures

@@ -1,0 +1,9 @@
+use Rattle.std.proofs.Common.{arith}
+use Rattle.nc_types.specs.Config.{config_view}
+use Rattle.nc_session.proofs.Joined.{configured}
+use Rattle.nc_session.proofs.load.read_lines.Goals as goal
+
+pub returns-in-Ok-clause-read : goal.returns-in-Ok-clause-read
+returns-in-Ok-clause-read c =
+    let facts = configured c.in_ok-lines.lines (config_view c.in-Ok.config) c.in-Ok.ensures.read in
+    record { formed = c.in-Ok.ensures.well_formed; process = facts.0; lines = omega (arith, facts.1, c.count.ensures, c.if-count-gt-LINE_LIMIT.false) }

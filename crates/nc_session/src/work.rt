@@ -1,0 +1,246 @@
+//! What the engine works with: the state of the network, the graph of the facts that were asked, their marks,
+//! and the tests.
+
+ghost use Rattle.std.specs.Prelude.{◌≡◌, ◌++◌, ◌<◌, ◌≤◌, ◌+◌, ◌-◌, true, length, All, IfOk, OnOk, OnErr, IsErrOf, codes};
+ghost use Rattle.nc_graph.specs.Closure.{IsClosure, ReachesMoreThan};
+ghost use Rattle.nc_graph.specs.Flow.{raised};
+ghost use Rattle.nc_graph.specs.Nodes.{Mirrors, IsGraph, Extends, AreNodesOf};
+ghost use Rattle.nc_graph.specs.declared.fault.GraphFault.TheVariants as GraphFault;
+ghost use Rattle.nc_rules.specs.Rules.{flow_of};
+ghost use Rattle.nc_command.specs.Command.{command_of, text_of};
+ghost use Rattle.nc_session.specs.declared.TheConstants.{TEST_LIMIT, FACT_LIMIT};
+ghost use Rattle.nc_session.specs.Session.{no_tests, router_of};
+ghost use Rattle.nc_session.specs.Texts.{accepted_of, line_of};
+ghost use Rattle.nc_session.specs.Engine.{Answered, flow_behind};
+ghost use Rattle.nc_session.specs.Work.{IsWork, Takes, Replies, Counted, Tested, progress_of};
+
+use crate::engine::Flow;
+use crate::report::{push_line, push_report};
+use crate::{FACT_LIMIT, TEST_LIMIT};
+use nc_command::{Command, CommandFault, read_command, test_text};
+use nc_fact::{Fact, facts_of};
+use nc_graph::fault::GraphFault;
+use nc_graph::graph::Graph;
+use nc_graph::laws::closures_have_one_length;
+use nc_graph::node::NodeId;
+use nc_marks::kept::KeptMarks;
+use nc_marks::laws::{kept_of_an_extended_graph, marks_of_nodes_are_of_facts};
+use nc_rules::{Rules, rules_make_a_flow};
+use nc_tables::Stable;
+use nc_types::{TestCommand, Text};
+use std::alloc::{AllocError, Global};
+
+/// What the engine works with.
+#[derive(Drop)]
+pub(crate) struct Work {
+    pub(crate) state: Stable,
+    /// How many facts were inferred.
+    pub(crate) asked: u64,
+    pub(crate) graph: Graph<Fact>,
+    pub(crate) marks: KeptMarks,
+    /// The facts of each accepted test, in order.
+    pub(crate) tests: Vec<Vec<Fact>>,
+}
+
+// The name of the router that a test is of.
+fn router_of(test: &TestCommand) -> &Text
+    ensures { result.now ≡ router_of test.now }
+{
+    match test {
+        TestCommand::Rib(name, _, _) => name,
+        TestCommand::Bgp(name, _, _) => name,
+        TestCommand::Session(name, _) => name,
+        TestCommand::Reach(name, _) => name,
+        TestCommand::Every(name, _) => name,
+        TestCommand::Element(name, _) => name,
+    }
+}
+
+// Appends the first line of a test's reply.
+fn push_accepted(
+    alloc: Global,
+    out: &mut Vec<u8>,
+    number: usize,
+    facts: u32,
+) -> Result<(), AllocError>
+    ensures { OnOk result (out.new.items ≡ out.old.items ++ accepted_of number facts) }
+{
+    let text = format!(in alloc; "test {number} facts {facts}")?;
+    push_line(out, text.as_bytes())
+}
+
+// Appends the refusal of a router that isn't there.
+fn push_unknown(out: &mut Vec<u8>, router: &[u8]) -> Result<(), AllocError>
+    ensures { OnOk result (out.new.items ≡ out.old.items ++ line_of (codes "refused router " ++ router.now)) }
+{
+    out.extend_from_slice(b"refused router ")?;
+    push_line(out, router)?;
+    Ok(())
+}
+
+// Appends the refusal of a test that tests nothing.
+fn push_absent(alloc: Global, out: &mut Vec<u8>, test: &TestCommand) -> Result<(), AllocError>
+    ensures { OnOk result (out.new.items ≡ out.old.items ++ line_of (codes "refused absent " ++ text_of test.now)) }
+{
+    let text = test_text(alloc, test)?;
+    out.extend_from_slice(b"refused absent ")?;
+    push_line(out, &text)?;
+    Ok(())
+}
+
+// Adds facts with all that they follow from to the graph, and counts those that are inferred.
+fn ask(
+    state: &Stable,
+    asked: &mut u64,
+    graph: &mut Graph<Fact>,
+    facts: &[Fact],
+) -> Result<Vec<NodeId>, GraphFault>
+    requires holds { All (λ f. (flow_of state.now).holds f ≡ true) facts.now }
+    requires mirrors { Mirrors (flow_of state.now) graph.old }
+    ensures graph { (IsGraph graph.old) × (IsGraph graph.new) }
+    ensures closure { OnOk result (IsClosure (flow_of state.now) (graph.old.facts ++ facts.now) graph.new.facts) }
+    ensures kept { OnOk result (Extends graph.old graph.new) }
+    ensures mirrors { Mirrors (flow_of state.now) graph.new }
+    ensures nodes { IfOk result (λ nodes. AreNodesOf graph.new nodes.items facts.now) }
+    ensures asked { OnOk result (asked.new ≡ raised asked.old (length graph.new.facts - length graph.old.facts)) }
+    ensures asked_least { asked.old ≤ asked.new }
+    ensures asked_most { asked.new ≤ raised asked.old (graph.old.limit + 1) }
+    ensures full { IsErrOf result GraphFault.Full → ReachesMoreThan (flow_of state.now) graph.old.limit (graph.old.facts ++ facts.now) }
+    ensures fits { OnOk result (ReachesMoreThan (flow_of state.now) graph.old.limit (graph.old.facts ++ facts.now) → ⊥) }
+    ensures unchanged { OnErr result (graph.new ≡ graph.old) }
+{
+    let _before = graph.len();
+    let mut rules = Rules::resume(state, *asked);
+    let nodes = graph.add(&mut rules, facts);
+    *asked = rules.asked();
+    let _behind = graph.len();
+    nodes
+}
+
+impl Work {
+    /// For a network's state, without tests.
+    pub(crate) fn begin(alloc: Global, state: Stable) -> Result<Work, AllocError>
+        ensures work { IfOk result IsWork }
+        ensures progress { IfOk result (λ work. progress_of work ≡ record { state = state; session = no_tests; asked = 0 }) }
+    {
+        let elements = state.network().element_count();
+        let marks = KeptMarks::new(alloc, elements)?;
+        Ok(Work {
+            state,
+            asked: 0,
+            graph: Graph::new(alloc, FACT_LIMIT),
+            marks,
+            tests: Vec::new(alloc),
+        })
+    }
+
+    // Takes up a test of these facts, unless too many facts would be asked with it: then nothing changes but
+    // the count of facts inferred.
+    fn accept(&mut self, facts: Vec<Fact>) -> Result<bool, AllocError>
+        requires work { IsWork self.old }
+        requires hold { All (λ f. (flow_of self.old.state).holds f ≡ true) facts.items }
+        requires room { length self.old.tests.items < TEST_LIMIT }
+        ensures work { OnOk result (IsWork self.new) }
+        ensures state { self.new.state ≡ self.old.state }
+        ensures taken { IfOk result (λ fits. Takes fits self.old self.new facts.items) }
+    {
+        let nodes = match ask(&self.state, &mut self.asked, &mut self.graph, &facts) {
+            Ok(nodes) => nodes,
+            Err(GraphFault::Full) => return Ok(false),
+            Err(GraphFault::Memory) => return Err(AllocError),
+        };
+        self.marks.add(&self.graph, &nodes)?;
+        self.tests.push(facts)?;
+        rules_make_a_flow();
+        kept_of_an_extended_graph::<Fact>();
+        marks_of_nodes_are_of_facts::<Fact>();
+        Ok(true)
+    }
+
+    // Appends the reply to the last test.
+    fn reply(&self, alloc: Global, out: &mut Vec<u8>) -> Result<(), AllocError>
+        requires { IsWork self.now }
+        ensures { OnOk result (Replies self.now out.old.items out.new.items) }
+    {
+        rules_make_a_flow();
+        marks_of_nodes_are_of_facts::<Fact>();
+        push_accepted(alloc, out, self.tests.len(), self.graph.len())?;
+        push_report(alloc, out, self.state.network(), self.marks.marks())?;
+        Ok(())
+    }
+
+    // Answers a test of facts, of which there are some.
+    fn count(
+        &mut self,
+        alloc: Global,
+        facts: Vec<Fact>,
+        out: &mut Vec<u8>,
+    ) -> Result<(), AllocError>
+        requires work { IsWork self.old }
+        requires some { 0 < length facts.items }
+        requires hold { All (λ f. (flow_of self.old.state).holds f ≡ true) facts.items }
+        ensures work { OnOk result (IsWork self.new) }
+        ensures counts { OnOk result (Counted self.old self.new facts.items out.old.items out.new.items) }
+    {
+        if self.tests.len() >= TEST_LIMIT {
+            push_line(out, b"refused limit tests")?;
+            return Ok(());
+        }
+        if !self.accept(facts)? {
+            push_line(out, b"refused limit facts")?;
+            return Ok(());
+        }
+        self.reply(alloc, out)?;
+        rules_make_a_flow();
+        closures_have_one_length::<Fact>();
+        Ok(())
+    }
+
+    // Answers a test.
+    fn test(
+        &mut self,
+        alloc: Global,
+        test: &TestCommand,
+        out: &mut Vec<u8>,
+    ) -> Result<(), AllocError>
+        requires { IsWork self.old }
+        ensures work { OnOk result (IsWork self.new) }
+        ensures tests { OnOk result (Tested self.old self.new test.now out.old.items out.new.items) }
+    {
+        let name = router_of(test).bytes();
+        if self.state.network().router_named(name).is_none() {
+            push_unknown(out, name)?;
+            return Ok(());
+        }
+        let facts = facts_of(alloc, &self.state, test)?;
+        if facts.is_empty() {
+            push_absent(alloc, out, test)?;
+            return Ok(());
+        }
+        self.count(alloc, facts, out)?;
+        Ok(())
+    }
+
+    /// Answers a line: its reply goes to the end of `out`.
+    pub(crate) fn answer(
+        &mut self,
+        alloc: Global,
+        line: &[u8],
+        out: &mut Vec<u8>,
+    ) -> Result<Flow, AllocError>
+        requires { IsWork self.old }
+        ensures work { OnOk result (IsWork self.new) }
+        ensures answered { OnOk result (Answered (progress_of self.old) (progress_of self.new) line.now out.old.items out.new.items) }
+        ensures flow { IfOk result (λ flow. flow ≡ flow_behind (command_of line.now)) }
+    {
+        match read_command(alloc, line) {
+            Ok(None) => {}
+            Ok(Some(Command::Quit)) => return Ok(Flow::Stop),
+            Ok(Some(Command::Test(test))) => self.test(alloc, &test, out)?,
+            Err(CommandFault::Long) => push_line(out, b"refused long")?,
+            Err(CommandFault::Syntax) => push_line(out, b"refused syntax")?,
+            Err(CommandFault::Memory) => return Err(AllocError),
+        }
+        Ok(Flow::Go)
+    }
+}
