@@ -166,9 +166,9 @@ fn expect(
     Ok(())
 }
 
-const R1: RouterId = RouterId(0);
+const FIRST: RouterId = RouterId(0);
 
-const R2: RouterId = RouterId(1);
+const SECOND: RouterId = RouterId(1);
 
 // 10.2.0.1, which r2 has.
 const INNER: Addr = Addr(0x0a02_0001);
@@ -181,25 +181,25 @@ fn routes_and_rows(rt: HostRuntime) -> Result<(), Fail> {
     let every = NodeKind::Every;
     let number = Fact::Element(ElementId(4));
     expect(&rt, alloc, &mut rules, number, NodeKind::Leaf(4), &[])?;
-    let right = Fact::Connected(R1, IfaceId(1));
+    let right = Fact::Connected(FIRST, IfaceId(1));
     let wanted = vec![in alloc; Fact::Element(ElementId(1))]?;
     expect(&rt, alloc, &mut rules, right, every, &wanted)?;
     // the elements of r2 are numbered behind the five of r1
-    let inner = Fact::Connected(R2, IfaceId(2));
+    let inner = Fact::Connected(SECOND, IfaceId(2));
     let wanted = vec![in alloc; Fact::Element(ElementId(7))]?;
     expect(&rt, alloc, &mut rules, inner, every, &wanted)?;
-    let route = Fact::Static(R1, 1);
+    let route = Fact::Static(FIRST, 1);
     let wanted = vec![in alloc;
         Fact::Element(ElementId(4)),
-        Fact::Connected(R1, IfaceId(1)),
+        Fact::Connected(FIRST, IfaceId(1)),
     ]?;
     expect(&rt, alloc, &mut rules, route, every, &wanted)?;
-    let wanted = vec![in alloc; Fact::Static(R1, 1)]?;
-    expect(&rt, alloc, &mut rules, Fact::Base(R1, 4), every, &wanted)?;
-    let wanted = vec![in alloc; Fact::Connected(R1, IfaceId(1))]?;
-    expect(&rt, alloc, &mut rules, Fact::Base(R1, 1), every, &wanted)?;
-    let wanted = vec![in alloc; Fact::Base(R1, 4)]?;
-    expect(&rt, alloc, &mut rules, Fact::Main(R1, 4), every, &wanted)?;
+    let wanted = vec![in alloc; Fact::Static(FIRST, 1)]?;
+    expect(&rt, alloc, &mut rules, Fact::Base(FIRST, 4), every, &wanted)?;
+    let wanted = vec![in alloc; Fact::Connected(FIRST, IfaceId(1))]?;
+    expect(&rt, alloc, &mut rules, Fact::Base(FIRST, 1), every, &wanted)?;
+    let wanted = vec![in alloc; Fact::Base(FIRST, 4)]?;
+    expect(&rt, alloc, &mut rules, Fact::Main(FIRST, 4), every, &wanted)?;
     assert_eq!(rt; rules.asked(), 7);
     Ok(())
 }
@@ -210,27 +210,44 @@ fn ways_over_two_links(rt: HostRuntime) -> Result<(), Fail> {
     let state = settled(alloc)?;
     let mut rules = Rules::new(&state);
     let any = NodeKind::Any;
-    let rows = vec![in alloc; Fact::Base(R1, 3), Fact::Base(R1, 4)]?;
-    expect(&rt, alloc, &mut rules, Fact::Resolve(R1, INNER), any, &rows)?;
-    let source = Fact::NetSource(R1, Prefix::around(INNER, 24));
-    expect(&rt, alloc, &mut rules, source, any, &rows)?;
-    let hops = vec![in alloc; Fact::Hop(R1, INNER, 3, 2), Fact::Hop(R1, INNER, 4, 2)]?;
+    let rows = vec![in alloc; Fact::Base(FIRST, 3), Fact::Base(FIRST, 4)]?;
     expect(
         &rt,
         alloc,
         &mut rules,
-        Fact::Reach(R1, INNER, 2),
+        Fact::Resolve(FIRST, INNER),
+        any,
+        &rows,
+    )?;
+    let source = Fact::NetSource(FIRST, Prefix::around(INNER, 24));
+    expect(&rt, alloc, &mut rules, source, any, &rows)?;
+    let hops = vec![in alloc;
+        Fact::Hop(FIRST, INNER, 3, 2),
+        Fact::Hop(FIRST, INNER, 4, 2),
+    ]?;
+    expect(
+        &rt,
+        alloc,
+        &mut rules,
+        Fact::Reach(FIRST, INNER, 2),
         any,
         &hops,
     )?;
     let wanted = vec![in alloc;
-        Fact::Base(R1, 4),
-        Fact::Connected(R2, IfaceId(1)),
-        Fact::Reach(R2, INNER, 1),
+        Fact::Base(FIRST, 4),
+        Fact::Connected(SECOND, IfaceId(1)),
+        Fact::Reach(SECOND, INNER, 1),
     ]?;
-    let hop = Fact::Hop(R1, INNER, 4, 2);
+    let hop = Fact::Hop(FIRST, INNER, 4, 2);
     expect(&rt, alloc, &mut rules, hop, NodeKind::Every, &wanted)?;
-    let own = vec![in alloc; Fact::Connected(R2, IfaceId(2))]?;
-    expect(&rt, alloc, &mut rules, Fact::Reach(R2, INNER, 1), any, &own)?;
+    let own = vec![in alloc; Fact::Connected(SECOND, IfaceId(2))]?;
+    expect(
+        &rt,
+        alloc,
+        &mut rules,
+        Fact::Reach(SECOND, INNER, 1),
+        any,
+        &own,
+    )?;
     Ok(())
 }
