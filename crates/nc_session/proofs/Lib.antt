@@ -15,3 +15,5 @@ mod Reporting
 mod Working
 mod Replying
 mod Answering
+mod ValidLoads
+mod OneOutput

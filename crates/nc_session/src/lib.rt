@@ -9,6 +9,7 @@
 #![tactic(auto)]
 
 mod engine;
+pub mod laws;
 mod load;
 mod reading;
 mod refusal;

@@ -1,0 +1,163 @@
+-- The definitions allow one output and one status for the same words, files and session.
+use Rattle.std.proofs.Common.{◌≡◌, ◌⊎◌, ℕ, zero, suc, ◌+◌, ◌<◌, Bool, true, false, List, [], ◌∷◌, ◌++◌, length, map, Option, Some, None, Result, Ok, Err, Any, inl, inr, refl, sym, ap, ◌∙◌, subst, arith}
+use Rattle.std.specs.Prelude.{slice_get, slice_index_or, nat_lt}
+use Rattle.nc_types.specs.Config.{ConfigView}
+use Rattle.nc_types.specs.Network.{owner_at, router_named}
+use Rattle.nc_types.specs.declared.command.TestCommand.{TestCommand}
+use Rattle.nc_types.specs.WellFormed.{IsWellFormed}
+use Rattle.nc_outside.specs.Named.{Named}
+use Rattle.nc_graph.specs.Closure.{IsClosure}
+use Rattle.nc_graph.specs.Flow.{Flow, IsFlow}
+use Rattle.nc_marks.specs.Marks.{IsMark}
+use Rattle.nc_marks.specs.declared.mark.Mark.{Mark}
+use Rattle.nc_marks.specs.declared.mark.Mark.TheVariants.{Strong, Weak, Uncovered, Outside}
+use Rattle.nc_reader.specs.Configuration.{configuration}
+use Rattle.nc_tables.specs.State.{StateView, IsState, static_state}
+use Rattle.nc_fact.specs.declared.fact.Fact.{Fact}
+use Rattle.nc_fact.specs.Tested.{tested_facts}
+use Rattle.nc_rules.specs.Rules.{flow_of}
+use Rattle.nc_command.specs.declared.command.Command.TheVariants.{Test, Quit}
+use Rattle.nc_command.specs.Command.{Line, Passed, TooLong, Unread, Asks, command_of, text_of}
+use Rattle.nc_session.specs.declared.TheConstants.{TEST_LIMIT}
+use Rattle.nc_session.specs.declared.status.Status.{Status}
+use Rattle.nc_session.specs.Texts.{Sheet, letter, accepted_of, report_of}
+use Rattle.nc_session.specs.Marks.{AreLineMarks, IsSheet, IsReport}
+use Rattle.nc_session.specs.Session.{State, no_tests, tested_in, router_of, until_quit, IsReply, Counts, Tests, Named as IsNamed, Answers, Run, AreReplies}
+use Rattle.nc_session.specs.Output.{Refusal, Replied, Concludes, Output, load, is_within, served_lines, long_session_text}
+use Rattle.nc_session.proofs.ValidLoads.{loaded_state}
+
+-- ---- one mark
+
+module _ (g : Flow Fact) (tested : List Fact) where
+  mark_once : (o : Option ℕ) (m n : Mark) → IsMark g tested o m → IsMark g tested o n → m ≡ n
+  mark_once None Outside Outside p q = refl
+  mark_once None Outside Strong p q = absurd q
+  mark_once None Outside Weak p q = absurd q
+  mark_once None Outside Uncovered p q = absurd q
+  mark_once None Strong n p q = absurd p
+  mark_once None Weak n p q = absurd p
+  mark_once None Uncovered n p q = absurd p
+  mark_once (Some e) Strong Strong p q = refl
+  mark_once (Some e) Strong Weak p q = absurd (q.0 p)
+  mark_once (Some e) Strong Uncovered p q = absurd (q.0 p)
+  mark_once (Some e) Strong Outside p q = absurd q
+  mark_once (Some e) Weak Strong p q = absurd (p.0 q)
+  mark_once (Some e) Weak Weak p q = refl
+  mark_once (Some e) Weak Uncovered p q = absurd (q.1 p.1)
+  mark_once (Some e) Weak Outside p q = absurd q
+  mark_once (Some e) Uncovered Strong p q = absurd (p.0 q)
+  mark_once (Some e) Uncovered Weak p q = absurd (p.1 q.1)
+  mark_once (Some e) Uncovered Uncovered p q = refl
+  mark_once (Some e) Uncovered Outside p q = absurd q
+  mark_once (Some e) Outside n p q = absurd p
+
+-- two lists of as many items of which those at each place are the same
+same_lists : {A : Type 0} (d : A) (xs ys : List A) → length xs ≡ length ys → ((k : ℕ) → k < length xs → slice_index_or xs k d ≡ slice_index_or ys k d) → xs ≡ ys
+same_lists d [] [] count each = refl
+same_lists d [] (y ∷ ys) count each = absurd (omega (arith, count))
+same_lists d (x ∷ xs) [] count each = absurd (omega (arith, count))
+same_lists d (x ∷ xs) (y ∷ ys) count each =
+    ap (λ z. z ∷ xs) (each 0 (omega arith)) ∙ ap (λ l. y ∷ l) (same_lists d xs ys (omega (arith, count)) (λ k lt. each (suc k) (omega (arith, lt))))
+
+-- two lists whose items are each the only one for its place
+lists_once : {C S : Type 0} (Is : ℕ → C → S → Type 0) → ((k : ℕ) (c : C) (s t : S) → Is k c s → Is k c t → s ≡ t) → (cs : List C) (xs ys : List S) → length xs ≡ length cs → length ys ≡ length cs
+    → ((k : ℕ) (c : C) (s : S) → slice_get cs k ≡ Some c → slice_get xs k ≡ Some s → Is k c s) → ((k : ℕ) (c : C) (s : S) → slice_get cs k ≡ Some c → slice_get ys k ≡ Some s → Is k c s) → xs ≡ ys
+lists_once Is once [] [] [] m n p q = refl
+lists_once Is once [] (x ∷ xs) ys m n p q = absurd (omega (arith, m))
+lists_once Is once [] [] (y ∷ ys) m n p q = absurd (omega (arith, n))
+lists_once Is once (c ∷ cs) [] ys m n p q = absurd (omega (arith, m))
+lists_once Is once (c ∷ cs) (x ∷ xs) [] m n p q = absurd (omega (arith, n))
+lists_once Is once (c ∷ cs) (x ∷ xs) (y ∷ ys) m n p q =
+    ap (λ z. z ∷ xs) (once 0 c x y (p 0 c x refl refl) (q 0 c y refl refl))
+    ∙ ap (λ l. y ∷ l) (
+        lists_once (λ k d s. Is (suc k) d s) (λ k d s t. once (suc k) d s t) cs xs ys (omega (arith, m)) (omega (arith, n)) (λ k d s at made. p (suc k) d s at made) (λ k d s at made. q (suc k) d s at made))
+
+-- ---- one report
+
+module _ (g : Flow Fact) (tested : List Fact) (routers : List ConfigView) where
+  line_marks_once : (router lines : ℕ) (ms ns : List Mark) → AreLineMarks g tested routers router lines ms → AreLineMarks g tested routers router lines ns → ms ≡ ns
+  line_marks_once router lines ms ns p q =
+      same_lists Outside ms ns (p.count ∙ sym q.count)
+      (λ k lt. let within : k < lines = omega (arith, lt, p.count) in mark_once g tested (owner_at routers router (k + 1)) (slice_index_or ms k Outside) (slice_index_or ns k Outside) (p.each k within) (q.each k within))
+
+  abbrev sheet_by : List ℕ → List ℕ → Sheet
+  sheet_by name letters = record { name = name; letters = letters }
+
+  sheet_once : (router : ℕ) (c : ConfigView) (s t : Sheet) → IsSheet g tested routers router c s → IsSheet g tested routers router c t → s ≡ t
+  sheet_once router c s t p q =
+      let marks : p.marks ≡ q.marks = line_marks_once router c.line_count p.marks q.marks p.are_marks q.are_marks in
+      ap (λ (n : List ℕ). sheet_by n s.letters) (p.name ∙ sym q.name)
+      ∙ ap (sheet_by t.name) (p.letters ∙ ap (map letter) marks ∙ sym q.letters)
+
+  report_once : (r s : List ℕ) → IsReport g tested routers r → IsReport g tested routers s → r ≡ s
+  report_once r s p q =
+      p.text ∙ ap report_of (lists_once (IsSheet g tested routers) sheet_once routers p.sheets q.sheets p.count q.count p.each q.each) ∙ sym q.text
+
+-- ---- one reply
+
+module _ (lengths : (g : Flow Fact) → IsFlow g → (fs xs ys : List Fact) → IsClosure g fs xs → IsClosure g fs ys → length xs ≡ length ys) (s : StateView) (lawful : IsFlow (flow_of s)) where
+  -- the same reply, and the same is kept
+  abbrev Same : List ℕ → List ℕ → State → State → Type 0
+  Same r t m n = (r ≡ t) × (m ≡ n)
+
+  reply_once : (tests : List (List Fact)) (r t : List ℕ) → IsReply s tests r → IsReply s tests t → r ≡ t
+  reply_once tests r t p q =
+      let count : length p.asked ≡ length q.asked = lengths (flow_of s) lawful (tested_in tests) p.asked q.asked p.closure q.closure in
+      let report : p.report ≡ q.report = report_once (flow_of s) (tested_in tests) s.routers p.report q.report p.is_report q.is_report in
+      p.text
+      ∙ ap (λ (n : ℕ). accepted_of (length tests) n ++ p.report) count
+      ∙ ap (λ (l : List ℕ). accepted_of (length tests) (length q.asked) ++ l) report
+      ∙ sym q.text
+
+  counts_once : (room : Bool) (old : State) (facts : List Fact) (r t : List ℕ) (m n : State) → Counts s room old facts r m → Counts s room old facts t n → Same r t m n
+  counts_once false old facts r t m n p q = (p.0 ∙ sym q.0, p.1 ∙ sym q.1)
+  counts_once true old facts r t m n (inl p) (inl q) = (p.1.0 ∙ sym q.1.0, p.1.1 ∙ sym q.1.1)
+  counts_once true old facts r t m n (inl p) (inr q) = absurd (q.0 p.0)
+  counts_once true old facts r t m n (inr p) (inl q) = absurd (p.0 q.0)
+  counts_once true old facts r t m n (inr p) (inr q) =
+      let same : m ≡ n = p.1 ∙ sym q.1 in
+      (reply_once m.tests r t p.2 (subst (λ (kept : State). IsReply s kept.tests t) (sym same) q.2), same)
+
+  tests_once : (old : State) (facts : List Fact) (text r t : List ℕ) (m n : State) → Tests s old facts text r m → Tests s old facts text t n → Same r t m n
+  tests_once old [] text r t m n p q = (p.0 ∙ sym q.0, p.1 ∙ sym q.1)
+  tests_once old (fact ∷ facts) text r t m n p q = counts_once (nat_lt (length old.tests) TEST_LIMIT) old (fact ∷ facts) r t m n p q
+
+  named_once : (router : Option ℕ) (old : State) (test : TestCommand) (r t : List ℕ) (m n : State) → IsNamed s router old test r m → IsNamed s router old test t n → Same r t m n
+  named_once None old test r t m n p q = (p.0 ∙ sym q.0, p.1 ∙ sym q.1)
+  named_once (Some router) old test r t m n p q = tests_once old (tested_facts s test) (text_of test) r t m n p q
+
+  answer_once : (old : State) (line : Line) (r t : List ℕ) (m n : State) → Answers s old line r m → Answers s old line t n → Same r t m n
+  answer_once old Passed r t m n p q = (p.0 ∙ sym q.0, p.1 ∙ sym q.1)
+  answer_once old TooLong r t m n p q = (p.0 ∙ sym q.0, p.1 ∙ sym q.1)
+  answer_once old Unread r t m n p q = (p.0 ∙ sym q.0, p.1 ∙ sym q.1)
+  answer_once old (Asks Quit) r t m n p q = (p.0 ∙ sym q.0, p.1 ∙ sym q.1)
+  answer_once old (Asks (Test test)) r t m n p q = named_once (router_named s.routers (router_of test)) old test r t m n p q
+
+  run_once : (old : State) (lines : List (List ℕ)) (r t : List ℕ) (m n : State) → Run s old lines r m → Run s old lines t n → r ≡ t
+  run_once old [] r t m n p q = p.0 ∙ sym q.0
+  run_once old (line ∷ lines) r t m n p q =
+      let step : Same p.0 q.0 p.1 q.1 = answer_once old (command_of line) p.0 q.0 p.1 q.1 p.3 q.3 in
+      let rest : p.2 ≡ q.2 = run_once p.1 lines p.2 q.2 m n p.4 (subst (λ (kept : State). Run s kept lines q.2 n) (sym step.1) q.4) in
+      p.5 ∙ ap (λ (l : List ℕ). l ++ p.2) step.0 ∙ ap (λ (l : List ℕ). q.0 ++ l) rest ∙ sym q.5
+
+  replies_once : (lines : List (List ℕ)) (r t : List ℕ) → AreReplies s lines r → AreReplies s lines t → r ≡ t
+  replies_once lines r t p q = run_once no_tests (until_quit lines) r t p.last q.last p.run q.run
+
+  replied_once : (session : List ℕ) (within : Bool) (m n : Status) (r t : List ℕ) → Replied s session within m r → Replied s session within n t → (m ≡ n) × (r ≡ t)
+  replied_once session true m n r t p q = (p.0 ∙ sym q.0, replies_once (served_lines session) r t p.1 q.1)
+  replied_once session false m n r t p q =
+      let replies : p.1 ≡ q.1 = replies_once (served_lines session) p.1 q.1 p.2 q.2 in
+      (p.0 ∙ sym q.0, p.3 ∙ ap (λ (l : List ℕ). l ++ long_session_text) replies ∙ sym q.3)
+
+-- ---- one output
+
+module _ (formed : (lines : List (List ℕ)) (c : ConfigView) → configuration lines ≡ Ok c → IsWellFormed c) (flows : (s : StateView) → IsState s → IsFlow (flow_of s))
+    (lengths : (g : Flow Fact) → IsFlow g → (fs xs ys : List Fact) → IsClosure g fs xs → IsClosure g fs ys → length xs ≡ length ys) where
+  concludes_once : (loaded : Result (List ConfigView) Refusal) (session : List ℕ) (m n : Status) (r t : List ℕ) → ((routers : List ConfigView) → loaded ≡ Ok routers → IsState (static_state routers))
+      → Concludes loaded session m r → Concludes loaded session n t → (m ≡ n) × (r ≡ t)
+  concludes_once (Err refusal) session m n r t state p q = (p.0 ∙ sym q.0, p.1 ∙ sym q.1)
+  concludes_once (Ok routers) session m n r t state p q =
+      replied_once lengths (static_state routers) (flows (static_state routers) (state routers refl)) session (is_within session) m n r t p q
+
+  pub one_output : (words : List (List ℕ)) (files : List Named) (session : List ℕ) (m n : Status) (r t : List ℕ) → Output words files session m r → Output words files session n t → (m ≡ n) × (r ≡ t)
+  one_output words files session m n r t p q = concludes_once (load words files) session m n r t (loaded_state formed words files) p q

@@ -1,0 +1,21 @@
+//! What follows from the definitions alone.
+
+ghost use Rattle.std.specs.Prelude.{◌≡◌, ℕ, List};
+ghost use Rattle.nc_outside.specs.Named.{Named};
+ghost use Rattle.nc_session.specs.declared.status.Status.{Status};
+ghost use Rattle.nc_session.specs.Output.{Output};
+
+use nc_fact::Fact;
+use nc_graph::laws::closures_have_one_length;
+use nc_reader::laws::configurations_are_well_formed;
+use nc_rules::rules_make_a_flow;
+
+/// The law of the output: for the same words, files and session the definitions allow one status and one text.
+pub fn output_is_one()
+    ensures { (words : List (List ℕ)) (files : List Named) (session : List ℕ) (m n : Status) (bytes more : List ℕ)
+        → Output words files session m bytes → Output words files session n more → (m ≡ n) × (bytes ≡ more) }
+{
+    configurations_are_well_formed();
+    rules_make_a_flow();
+    closures_have_one_length::<Fact>();
+}
