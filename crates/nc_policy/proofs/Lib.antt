@@ -1,1 +1,2 @@
 pub mod Permitting
+pub mod Deciding

@@ -1,10 +1,11 @@
 //! Which clause of a route map decides.
 
-ghost use Rattle.std.specs.Prelude.{◌≡◌, ◌<◌, length, IfSome, nat_lt, true};
-ghost use Rattle.std.specs.Option.{option_map, option_map_or};
+ghost use Rattle.std.specs.Prelude.{◌≡◌, ◌<◌, ◌&&◌, length, IfSome};
+ghost use Rattle.std.specs.Option.{option_map};
+ghost use Rattle.std.specs.Str.{bytes_eq};
 ghost use Rattle.nc_types.specs.Config.{config_view, clause_view};
 ghost use Rattle.nc_tables.specs.Policy.{is_matching, permitting_list, deciding};
-ghost use Rattle.nc_policy.specs.Views.{candidate_view};
+ghost use Rattle.nc_policy.specs.Views.{candidate_view, is_lower};
 
 use crate::lists::permitting_place;
 use nc_types::{Clause, Prefix, RouterConfig};
@@ -40,14 +41,29 @@ fn is_matching(config: &RouterConfig, prefix: Prefix, clause: &Clause) -> bool
     clause.lists.is_empty() || permitting_list(config, prefix, clause).is_some()
 }
 
-// Whether a clause would decide rather than the best one so far.
+// Whether a clause has a lower number than the best one so far, if there is one.
 fn is_lower(clause: &Clause, best: Option<Candidate<'_>>) -> bool
-    ensures { result ≡ option_map_or (λ b. nat_lt clause.now.number b.clause.now.number) best.entry true }
+    ensures { result ≡ is_lower (clause_view clause.now) (option_map candidate_view best.entry) }
 {
     match best {
         Some(best) => clause.number < best.clause.number,
         None => true,
     }
+}
+
+// Whether a clause is one of the map and matches, and has a lower number than the best one so far. Its lists are
+// tested last.
+fn is_better(
+    config: &RouterConfig,
+    map: &[u8],
+    prefix: Prefix,
+    clause: &Clause,
+    best: Option<Candidate<'_>>,
+) -> bool
+    ensures { result ≡ (is_lower (clause_view clause.now) (option_map candidate_view best.entry)
+        && (bytes_eq map.now clause.now.map && is_matching (config_view config.now) prefix (clause_view clause.now))) }
+{
+    is_lower(clause, best) && map == clause.map.bytes() && is_matching(config, prefix, clause)
 }
 
 /// The matching clause of a map with the least number. The lists of a clause whose number isn't lower than that
@@ -62,10 +78,7 @@ pub(crate) fn deciding<'a>(
 {
     let mut best = None;
     'clauses: for (place, clause) in config.clauses.iter().enumerate() {
-        if is_lower(clause, best)
-            && map == clause.map.bytes()
-            && is_matching(config, prefix, clause)
-        {
+        if is_better(config, map, prefix, clause, best) {
             best = Some(Candidate { place, clause });
         }
     }
