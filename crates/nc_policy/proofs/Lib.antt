@@ -1,2 +1,4 @@
 pub mod Permitting
 pub mod Deciding
+pub mod Few
+pub mod Verdicts

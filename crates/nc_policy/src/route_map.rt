@@ -1,12 +1,12 @@
-ghost use Rattle.std.specs.Prelude.{◌≡◌, ◌++◌, None, Some, if◌then◌else◌, IfOk, nat_lt, length};
+ghost use Rattle.std.specs.Prelude.{◌≡◌, ◌++◌, None, Some, if◌then◌else◌, IfOk, nat_lt, length, ◌<◌, ◌≤◌};
 ghost use Rattle.nc_types.specs.Config.{config_view, clause_view};
 ghost use Rattle.nc_types.specs.WellFormed.{IsWellFormed};
-ghost use Rattle.nc_tables.specs.Policy.{set_by, is_long, verdict};
+ghost use Rattle.nc_tables.specs.Policy.{permitting_list, set_by, is_long, verdict};
 ghost use Rattle.nc_policy.specs.Views.{verdict_view};
 
 use crate::clauses::{deciding, permitting_list};
 use nc_tables::{Path, Route};
-use nc_types::{Clause, RouterConfig};
+use nc_types::{Clause, Prefix, RouterConfig};
 use std::alloc::{AllocError, Global};
 
 /// How many numbers a path has at most.
@@ -60,6 +60,25 @@ fn set_by(alloc: Global, clause: &Clause, route: &Route) -> Result<Option<Route>
     }))
 }
 
+// The place of a clause or a list as a number: there are no more of them than lines.
+fn place_number(config: &RouterConfig, place: usize) -> u32
+    requires { place < config.now.line_count }
+    ensures { result ≡ place }
+{
+    let lines = config.line_count as usize;
+    prove!(place < lines);
+    place as u32
+}
+
+// The place of the list by which a clause matched, as a number.
+fn list_number(config: &RouterConfig, prefix: Prefix, clause: &Clause) -> Option<u32>
+    requires { length config.now.lists.items ≤ config.now.line_count }
+    ensures { result ≡ permitting_list (config_view config.now) prefix (clause_view clause.now) }
+{
+    let place = permitting_list(config, prefix, clause)?;
+    Some(place_number(config, place))
+}
+
 /// What a router's route map of this name makes of a route: the matching clause with the least number permits it,
 /// with what the clause sets, or denies it. Where there is no such map, where no clause matches, and where the
 /// path would have more than 250 numbers, the route is denied. The only error is want of memory.
@@ -81,10 +100,9 @@ pub fn apply(
     let Some(changed) = set_by(alloc, found.clause, route)? else {
         return Ok(Verdict::Deny);
     };
-    let list = permitting_list(config, route.prefix, found.clause);
     Ok(Verdict::Permit {
         route: changed,
-        clause: found.place as u32,
-        list: list.map(|place| place as u32),
+        clause: place_number(config, found.place),
+        list: list_number(config, route.prefix, found.clause),
     })
 }
