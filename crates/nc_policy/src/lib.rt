@@ -10,3 +10,6 @@ mod lists;
 mod route_map;
 
 pub use route_map::{Verdict, apply};
+
+#[cfg(test)]
+mod tests;
