@@ -2,3 +2,4 @@ pub mod Permitting
 pub mod Deciding
 pub mod Few
 pub mod Verdicts
+pub mod Sampling
