@@ -1,7 +1,7 @@
 -- What is found in the lists of a configuration.
 use Rattle.std.proofs.Common.{◌≡◌, ℕ, ◌+◌, Bool, true, false, cond, nat_lt, not, ◌||◌, List, [], ◌∷◌, length, map, Option, Some, None, refl, sym, ap, ◌∙◌}
 use Rattle.std.specs.Prelude.{position, option_and_then, slice_get}
-use Rattle.std.specs.List.{find, list_any, prefix_len, position_or_len}
+use Rattle.std.specs.List.{find, list_any, position_or_len}
 use Rattle.std.specs.Option.{is_some, option_map_or}
 use Rattle.std.proofs.lemmas.List.{length-map}
 use Rattle.nc_types.specs.Cidr.{Cidr}

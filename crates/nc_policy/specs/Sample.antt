@@ -1,6 +1,5 @@
 -- A router with two route maps and two prefix lists, which tests make.
 use Rattle.std.specs.Prelude.{ℕ, Bool, true, false, List, [], ◌∷◌, Some, None, codes}
-use Rattle.nc_types.specs.Cidr.{Cidr}
 use Rattle.nc_types.specs.Masks.{network_of}
 use Rattle.nc_types.specs.Config.{ElementView, ClauseView, PrefixListView, ConfigView}
 use Rattle.nc_types.specs.declared.config.Kind.{Kind}

@@ -45,10 +45,10 @@ fn is_matching(config: &RouterConfig, prefix: Prefix, clause: &Clause) -> bool
 fn is_lower(clause: &Clause, best: Option<Candidate<'_>>) -> bool
     ensures { result ≡ is_lower (clause_view clause.now) (option_map candidate_view best.entry) }
 {
-    match best {
-        Some(best) => clause.number < best.clause.number,
-        None => true,
-    }
+    let Some(best) = best else {
+        return true;
+    };
+    clause.number < best.clause.number
 }
 
 // Whether a clause is one of the map and matches, and has a lower number than the best one so far. Its lists are

@@ -1,3 +1,5 @@
+//! What a router's route map makes of a route.
+
 ghost use Rattle.std.specs.Prelude.{◌≡◌, ◌++◌, None, Some, if◌then◌else◌, IfOk, nat_lt, length, ◌<◌, ◌≤◌};
 ghost use Rattle.nc_types.specs.Config.{config_view, clause_view};
 ghost use Rattle.nc_types.specs.WellFormed.{IsWellFormed};

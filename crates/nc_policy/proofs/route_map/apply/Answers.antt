@@ -1,4 +1,4 @@
-use Rattle.std.proofs.Common.{◌≡◌, ℕ, ap, sym, ◌∙◌, arith, Some, None, ◌<◌, length}
+use Rattle.std.proofs.Common.{ℕ, ap, sym, ◌∙◌, arith, Some, None}
 use Rattle.nc_types.specs.Config.{config_view}
 use Rattle.nc_tables.specs.Policy.{Permit}
 use Rattle.nc_policy.specs.Views.{candidate_view}
