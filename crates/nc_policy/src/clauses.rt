@@ -35,6 +35,7 @@ pub(crate) fn permitting_list(
 }
 
 // Whether a clause matches the routes of a prefix.
+#[tactic(auto, using(crate::proofs::Permitting::any_permits))]
 fn is_matching(config: &RouterConfig, prefix: Prefix, clause: &Clause) -> bool
     ensures { result ≡ is_matching (config_view config.now) prefix (clause_view clause.now) }
 {
