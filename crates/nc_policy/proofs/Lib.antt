@@ -1,0 +1,5 @@
+pub mod Permitting
+pub mod Deciding
+pub mod Few
+pub mod Verdicts
+pub mod Sampling
