@@ -1,12 +1,12 @@
 -- The lines of a block one by one: what is left to read gives what the whole gives.
-use Rattle.std.proofs.Common.{◌≡◌, ℕ, Bool, false, List, [], ◌∷◌, ◌++◌, Option, Some, None, Result, Ok, Err, refl, sym, ap, ◌∙◌, append_assoc, map}
+use Rattle.std.proofs.Common.{◌≡◌, ℕ, Bool, false, List, [], ◌∷◌, ◌++◌, Option, Result, Ok, Err, refl, sym, ap, ◌∙◌, append_assoc, map}
 use Rattle.std.specs.Prelude.{unwrap_or}
 use Rattle.std.specs.List.{filter_map, flat_map}
 use Rattle.std.specs.Option.{option_map_or}
 use Rattle.nc_types.specs.declared.fault.Fault.{Fault}
 use Rattle.nc_types.specs.declared.fault.Cause.{Cause}
 use Rattle.nc_types.specs.declared.config.Reference.{Reference}
-use Rattle.nc_lines.specs.Statements.{Reading, Outside, Faulty, Says}
+use Rattle.nc_lines.specs.Statements.{Outside, Faulty, Says}
 use Rattle.nc_lines.specs.Parts.{Numbered, fault_in, statements_in}
 use Rattle.nc_lines.proofs.PartLemmas.{last_from, no_fault, a_fault, not_stated, stated}
 use Rattle.nc_read_policy.specs.Clauses.{ClauseStatement, Opens, Matches, SetsPreference, SetsMetric, Prepends, SetsOrigin, ClauseLine, ClausePart, action_by, lists_by, prepend_by, last_of, line_says, clause_in, name_in, number_in}

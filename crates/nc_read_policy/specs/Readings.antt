@@ -1,5 +1,4 @@
 -- What a header and a statement say, as the code hands them on.
-use Rattle.std.specs.Prelude.{List, ◌≡◌}
 use Rattle.std.specs.List.{filter_map}
 use Rattle.nc_lines.specs.Lines.{words_of}
 use Rattle.nc_lines.specs.Statements.{Reading}

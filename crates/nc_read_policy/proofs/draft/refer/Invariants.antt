@@ -1,6 +1,5 @@
 use Rattle.std.proofs.Common.{◌≡◌, ℕ, List, ◌++◌, map, length}
 use Rattle.nc_lines.specs.Lines.{words_of}
-use Rattle.nc_types.specs.declared.config.Reference.{Reference}
 use Rattle.nc_read_policy.proofs.draft.refer.Given as goal
 
 abbrev pub invariant-names : goal.invariant-names
