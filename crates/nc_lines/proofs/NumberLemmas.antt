@@ -3,7 +3,7 @@ use Rattle.std.proofs.Common.{◌≡◌, ◌≢◌, ℕ, ◌+◌, ◌-◌, ◌*�
 use Rattle.std.specs.Prelude.{nat_lt, nat_le, ◌==◌, MatchOption, if◌then◌else◌}
 use Rattle.std.specs.List.{list_all, slice_split}
 use Rattle.std.proofs.lemmas.Bool.{lt-ltb, le-ltb, le-leb, lt-leb, leb-true, and_parts, and_cases, and_left, and_right, and_from, eq-eqb, ne_eqb}
-use Rattle.nc_lines.specs.Numbers.{is_digit, value_after, is_plain, number_of, address_of, address_of_parts, prefix_of, prefix_of_parts}
+use Rattle.nc_lines.specs.Numbers.{is_digit, value_after, is_plain, number_of, address_of, address_of_parts, prefix_of, prefix_of_parts, around_of, around_of_parts}
 use Rattle.nc_types.specs.Cidr.{Cidr, IsCidr}
 use Rattle.nc_types.specs.Masks.{network_of}
 
@@ -96,3 +96,27 @@ prefix_of-no_address word address len parts e = prefix_of-two word address len p
 
 pub prefix_of-no_len : (word address len : List ℕ) (a : ℕ) → slice_split (λ b. b == 47) word ≡ address ∷ len ∷ [] → address_of address ≡ Some a → number_of 32 len ≡ None → prefix_of word ≡ None
 prefix_of-no_len word address len a parts e f = prefix_of-two word address len parts ∙ rw (e, f) refl
+
+around_of-two : (word address len : List ℕ) → slice_split (λ b. b == 47) word ≡ address ∷ len ∷ [] → around_of word ≡ around_of_parts (address ∷ len ∷ [])
+unfolding around_of
+around_of-two word address len e = ap around_of_parts e
+
+not_around : (parts : List (List ℕ)) → AreNotTwo parts → around_of_parts parts ≡ None
+not_around [] other = refl
+not_around (a ∷ []) other = refl
+not_around (a ∷ b ∷ []) other = absurd (other a b refl)
+not_around (a ∷ b ∷ c ∷ parts) other = refl
+
+pub around_of-not_two : (word : List ℕ) → AreNotTwo (slice_split (λ b. b == 47) word) → around_of word ≡ None
+unfolding around_of
+around_of-not_two word other = not_around _ other
+
+pub around_of-made : (word address len : List ℕ) (a n : ℕ) → slice_split (λ b. b == 47) word ≡ address ∷ len ∷ [] → address_of address ≡ Some a → number_of 32 len ≡ Some n
+    → around_of word ≡ Some (record { base = network_of a n; len = n })
+around_of-made word address len a n parts e f = around_of-two word address len parts ∙ rw (e, f) refl
+
+pub around_of-no_address : (word address len : List ℕ) → slice_split (λ b. b == 47) word ≡ address ∷ len ∷ [] → address_of address ≡ None → around_of word ≡ None
+around_of-no_address word address len parts e = around_of-two word address len parts ∙ rw e refl
+
+pub around_of-no_len : (word address len : List ℕ) (a : ℕ) → slice_split (λ b. b == 47) word ≡ address ∷ len ∷ [] → address_of address ≡ Some a → number_of 32 len ≡ None → around_of word ≡ None
+around_of-no_len word address len a parts e f = around_of-two word address len parts ∙ rw (e, f) refl

@@ -2,3 +2,6 @@ pub mod Lines
 pub mod Blocks
 pub mod Numbers
 pub mod Statements
+pub mod Readings
+pub mod Parts
+pub mod Outcomes

@@ -1,6 +1,7 @@
 -- Decimal numbers, addresses and prefixes as words.
 use Rattle.std.specs.Prelude.{ℕ, ◌+◌, ◌*◌, ◌-◌, Bool, false, ◌&&◌, ◌==◌, nat_lt, nat_le, List, [], ◌∷◌, Option, Some, None, option_and_then, if◌then◌else◌}
 use Rattle.std.specs.List.{slice_split, list_all}
+use Rattle.std.specs.Option.{option_map}
 use Rattle.nc_types.specs.Cidr.{Cidr}
 use Rattle.nc_types.specs.Masks.{network_of}
 
@@ -42,3 +43,13 @@ prefix_of_parts parts = None
 -- the prefix that a word writes
 unfoldable pub prefix_of : List ℕ → Option Cidr
 prefix_of word = prefix_of_parts (slice_split (λ b. b == 47) word)
+
+-- an address and a length with a slash between them: the prefix of this length that has the address in it
+abbrev pub around_of_parts : List (List ℕ) → Option Cidr
+around_of_parts (address ∷ len ∷ []) =
+    option_and_then (λ addr. option_map (λ len. record { base = network_of addr len; len = len }) (number_of 32 len)) (address_of address)
+around_of_parts parts = None
+
+-- the prefix of the address and the length that a word writes
+unfoldable pub around_of : List ℕ → Option Cidr
+around_of word = around_of_parts (slice_split (λ b. b == 47) word)

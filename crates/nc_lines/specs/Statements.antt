@@ -1,7 +1,8 @@
 -- What a statement says, by its words.
-use Rattle.std.specs.Prelude.{ℕ, List, [], ◌∷◌, Option, Some, None, if◌then◌else◌}
+use Rattle.std.specs.Prelude.{ℕ, Bool, List, [], ◌∷◌, Option, Some, None, is_some, if◌then◌else◌}
 use Rattle.std.specs.Str.{bytes_eq}
 use Rattle.nc_types.specs.declared.fault.Cause.{Cause}
+use Rattle.nc_types.specs.declared.fault.Cause.TheVariants.{Syntax}
 
 -- what a statement says: nothing that is read, what is wrong with it, or something of its own kind
 pub data Reading (S : Type 0) : Type 0 where
@@ -19,6 +20,15 @@ abbrev pub after : List (List ℕ) → List (List ℕ) → Option (List (List �
 after [] words = Some words
 after (first ∷ firsts) [] = None
 after (first ∷ firsts) (word ∷ words) = if bytes_eq word first then after firsts words else None
+
+-- words that begin with these
+abbrev pub begins : List (List ℕ) → List (List ℕ) → Bool
+begins firsts words = is_some (after firsts words)
+
+-- what is behind a statement that takes no further words
+abbrev pub alone_says : {S : Type 0} → S → List (List ℕ) → Reading S
+alone_says s [] = Says s
+alone_says s (word ∷ words) = Faulty Syntax
 
 -- what is wrong, if something is
 abbrev pub fault_of : {S : Type 0} → Reading S → Option Cause

@@ -3,7 +3,7 @@
 ghost use Rattle.std.specs.Prelude.{◌≡◌, ◌≤◌, ◌==◌, List, ℕ, [], ◌∷◌, MatchOption, IfSome};
 ghost use Rattle.std.specs.Option.{option_map};
 ghost use Rattle.std.specs.List.{slice_split};
-ghost use Rattle.nc_lines.specs.Numbers.{number_of, address_of, prefix_of, address_of_parts};
+ghost use Rattle.nc_lines.specs.Numbers.{number_of, address_of, prefix_of, around_of, address_of_parts};
 
 use crate::cut::cut_at;
 use nc_types::{Addr, Prefix};
@@ -77,4 +77,15 @@ pub fn read_prefix(word: &[u8]) -> Option<Prefix>
     let address = read_address(address)?;
     let len = read_number(len, 32)?;
     Prefix::new(address, len as u8)
+}
+
+/// The prefix in which an address lies, of the address, a slash and a length up to 32 that a word writes: its
+/// host bits are cleared.
+pub fn read_around(word: &[u8]) -> Option<Prefix>
+    ensures { result ≡ around_of word.now }
+{
+    let (address, len) = cut_once(word, b'/')?;
+    let address = read_address(address)?;
+    let len = read_number(len, 32)?;
+    Some(Prefix::around(address, len as u8))
 }

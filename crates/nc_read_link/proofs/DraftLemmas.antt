@@ -1,30 +1,20 @@
 -- The lines of a block one by one: what is left to read gives what the whole gives.
-use Rattle.std.proofs.Common.{◌≡◌, ℕ, Bool, true, false, cond, not, List, [], ◌∷◌, ◌++◌, Option, Some, None, Result, Ok, Err, refl, sym, ap, ◌∙◌, append_assoc, map, filter}
+use Rattle.std.proofs.Common.{◌≡◌, ℕ, Bool, true, false, cond, not, List, [], ◌∷◌, ◌++◌, Option, None, Result, Ok, Err, refl, sym, ap, ◌∙◌, append_assoc, map, filter}
 use Rattle.std.specs.Prelude.{◌||◌, unwrap_or, is_some}
-use Rattle.std.specs.List.{filter_map, last_or, cons_option}
-use Rattle.std.specs.Option.{option_map, option_map_or}
+use Rattle.std.specs.List.{filter_map}
+use Rattle.std.specs.Option.{option_map_or}
 use Rattle.nc_types.specs.declared.fault.Fault.{Fault}
 use Rattle.nc_types.specs.declared.config.IfaceAddr.{IfaceAddr}
 use Rattle.nc_types.specs.declared.fault.Cause.{Cause}
 use Rattle.nc_lines.specs.Lines.{is_indented, words_of}
-use Rattle.nc_lines.specs.Statements.{Reading, Outside, Faulty, Says, fault_of, said_of}
+use Rattle.nc_lines.specs.Statements.{Reading, Outside, Faulty, Says, said_of}
 use Rattle.nc_read_link.specs.declared.setting.Setting.{Setting}
 use Rattle.nc_read_link.specs.declared.setting.Setting.TheVariants.{Address, NoAddress, Shut}
 use Rattle.nc_read_link.specs.declared.draft.Draft.{Draft}
-use Rattle.nc_read_link.specs.Interfaces.{Numbered, Stated, InterfacePart, line_says, setting_says, fault_in, statements_in, lines_in, name_in, interface_in, address_by, shut_by, first_of}
+use Rattle.nc_lines.specs.Parts.{Numbered}
+use Rattle.nc_lines.proofs.PartLemmas.{last_from, no_fault, a_fault, not_stated, stated}
+use Rattle.nc_read_link.specs.Interfaces.{InterfacePart, InterfaceStatement, line_says, setting_says, interface_fault, interface_statements, lines_in, name_in, interface_in, address_by, shut_by}
 use Rattle.nc_read_link.specs.Drafts.{address_behind, shut_behind, part_of, finished}
-
--- ---- lists
-
-kept : {X Y : Type 0} (h : X → Option Y) (x : X) (y : Y) (xs : List X) → h x ≡ Some y → filter_map h (x ∷ xs) ≡ y ∷ filter_map h xs
-kept {X} {Y} h x y xs e = ap (λ (o : Option Y). cons_option o (filter_map h xs)) e
-
-passed : {X Y : Type 0} (h : X → Option Y) (x : X) (xs : List X) → h x ≡ None → filter_map h (x ∷ xs) ≡ filter_map h xs
-passed {X} {Y} h x xs e = ap (λ (o : Option Y). cons_option o (filter_map h xs)) e
-
-last_from : {X : Type 0} (x : X) (xs : List X) → unwrap_or (last_or (Some x) xs) x ≡ unwrap_or (last_or None xs) x
-last_from x [] = refl
-last_from x (y ∷ ys) = refl
 
 -- ---- what a line says
 
@@ -34,28 +24,9 @@ indented_says l e = ap (λ (b : Bool). cond b (setting_says (words_of l.text)) O
 header_says : (l : Numbered) → is_indented l.text ≡ false → line_says l ≡ Outside
 header_says l e = ap (λ (b : Bool). cond b (setting_says (words_of l.text)) Outside) e
 
--- what is told of a line by what it says, and the statement that it is
-abbrev fault_by : Numbered → Reading Setting → Option Fault
-fault_by l r = option_map (λ (cause : Cause). record { line = l.line; cause = cause }) (fault_of r)
-
-abbrev stated_by : Numbered → Reading Setting → Option Stated
-stated_by l r = option_map (λ (s : Setting). record { line = l.line; setting = s }) (said_of r)
-
 -- whether a line is one of the interface's
 abbrev counts : Numbered → Bool
 counts l = not (is_indented l.text) || is_some (said_of (line_says l))
-
-no_fault : (l : Numbered) (block : List Numbered) (r : Reading Setting) → line_says l ≡ r → fault_by l r ≡ None → fault_in (l ∷ block) ≡ fault_in block
-no_fault l block r e none = ap (λ (fs : List Fault). first_of fs) (passed (λ (l : Numbered). fault_by l (line_says l)) l block (ap (fault_by l) e ∙ none))
-
-a_fault : (l : Numbered) (block : List Numbered) (cause : Cause) → line_says l ≡ Faulty cause → fault_in (l ∷ block) ≡ Some (record { line = l.line; cause = cause })
-a_fault l block cause e = ap (λ (fs : List Fault). first_of fs) (kept (λ (l : Numbered). fault_by l (line_says l)) l (record { line = l.line; cause = cause }) block (ap (fault_by l) e))
-
-not_stated : (l : Numbered) (block : List Numbered) (r : Reading Setting) → line_says l ≡ r → stated_by l r ≡ None → statements_in (l ∷ block) ≡ statements_in block
-not_stated l block r e none = passed (λ (l : Numbered). stated_by l (line_says l)) l block (ap (stated_by l) e ∙ none)
-
-stated : (l : Numbered) (block : List Numbered) (s : Setting) → line_says l ≡ Says s → statements_in (l ∷ block) ≡ record { line = l.line; setting = s } ∷ statements_in block
-stated l block s e = kept (λ (l : Numbered). stated_by l (line_says l)) l (record { line = l.line; setting = s }) block (ap (stated_by l) e)
 
 counted : (l : Numbered) (block : List Numbered) (before : List ℕ) → counts l ≡ true → before ++ lines_in (l ∷ block) ≡ (before ++ l.line ∷ []) ++ lines_in block
 counted l block before e =
@@ -66,12 +37,12 @@ uncounted l block e = ap (λ (b : Bool). map (λ (l : Numbered). l.line) (cond b
 
 -- ---- statements
 
-address_more : (before : Option (ℕ × IfaceAddr)) (line : ℕ) (s : Setting) (ss : List Stated) → address_behind before (record { line = line; setting = s } ∷ ss) ≡ address_behind (unwrap_or (address_by line s) before) ss
+address_more : (before : Option (ℕ × IfaceAddr)) (line : ℕ) (s : Setting) (ss : List InterfaceStatement) → address_behind before (record { line = line; setting = s } ∷ ss) ≡ address_behind (unwrap_or (address_by line s) before) ss
 address_more before line (Address a) ss = refl
 address_more before line NoAddress ss = refl
 address_more before line (Shut b) ss = refl
 
-shut_more : (before : Bool) (line : ℕ) (s : Setting) (ss : List Stated) → shut_behind before (record { line = line; setting = s } ∷ ss) ≡ shut_behind (unwrap_or (shut_by s) before) ss
+shut_more : (before : Bool) (line : ℕ) (s : Setting) (ss : List InterfaceStatement) → shut_behind before (record { line = line; setting = s } ∷ ss) ≡ shut_behind (unwrap_or (shut_by s) before) ss
 shut_more before line (Address a) ss = refl
 shut_more before line NoAddress ss = refl
 shut_more before line (Shut b) ss = refl
@@ -85,9 +56,9 @@ made_same : (name : List ℕ) (f g : Option Fault) (a b : Option (ℕ × IfaceAd
 made_same name f g a b s t ls ms e h i j =
     ap (λ (f : Option Fault). made name f a s ls) e ∙ ap (λ (a : Option (ℕ × IfaceAddr)). made name g a s ls) h ∙ ap (λ (s : Bool). made name g b s ls) i ∙ ap (λ (ls : List ℕ). made name g b t ls) j
 
-goes_on : (name : List ℕ) (old new : Draft) (l : Numbered) (block : List Numbered) → fault_in (l ∷ block) ≡ fault_in block
-    → address_behind old.address (statements_in (l ∷ block)) ≡ address_behind new.address (statements_in block)
-    → shut_behind old.shut (statements_in (l ∷ block)) ≡ shut_behind new.shut (statements_in block)
+goes_on : (name : List ℕ) (old new : Draft) (l : Numbered) (block : List Numbered) → interface_fault (l ∷ block) ≡ interface_fault block
+    → address_behind old.address (interface_statements (l ∷ block)) ≡ address_behind new.address (interface_statements block)
+    → shut_behind old.shut (interface_statements (l ∷ block)) ≡ shut_behind new.shut (interface_statements block)
     → old.lines.items ++ lines_in (l ∷ block) ≡ new.lines.items ++ lines_in block → finished name old (l ∷ block) ≡ finished name new block
 unfolding finished
 goes_on name old new l block e h i j = made_same name _ _ _ _ _ _ _ _ e h i j
@@ -97,10 +68,10 @@ pub takes_header : (name : List ℕ) (old new : Draft) (l : Numbered) (block : L
     → new.address ≡ old.address → new.shut ≡ old.shut → new.lines.items ≡ old.lines.items ++ l.line ∷ [] → finished name old (l ∷ block) ≡ finished name new block
 takes_header name old new l block header address shut lines =
     let says = header_says l header in
-    let same = not_stated l block Outside says refl in
-    goes_on name old new l block (no_fault l block Outside says refl)
-    (ap (address_behind old.address) same ∙ ap (λ (a : Option (ℕ × IfaceAddr)). address_behind a (statements_in block)) (sym address))
-    (ap (shut_behind old.shut) same ∙ ap (λ (b : Bool). shut_behind b (statements_in block)) (sym shut))
+    let same = not_stated line_says l block Outside says refl in
+    goes_on name old new l block (no_fault line_says l block Outside says refl)
+    (ap (address_behind old.address) same ∙ ap (λ (a : Option (ℕ × IfaceAddr)). address_behind a (interface_statements block)) (sym address))
+    (ap (shut_behind old.shut) same ∙ ap (λ (b : Bool). shut_behind b (interface_statements block)) (sym shut))
     (counted l block old.lines.items (ap (λ (b : Bool). not b || is_some (said_of (line_says l))) header) ∙ ap (λ (ls : List ℕ). ls ++ lines_in block) (sym lines))
 
 -- what isn't read adds nothing
@@ -108,8 +79,8 @@ pub passes_line : (name : List ℕ) (d : Draft) (l : Numbered) (block : List Num
     → finished name d (l ∷ block) ≡ finished name d block
 passes_line name d l block inside e =
     let says = indented_says l inside ∙ e in
-    let same = not_stated l block Outside says refl in
-    goes_on name d d l block (no_fault l block Outside says refl) (ap (address_behind d.address) same) (ap (shut_behind d.shut) same)
+    let same = not_stated line_says l block Outside says refl in
+    goes_on name d d l block (no_fault line_says l block Outside says refl) (ap (address_behind d.address) same) (ap (shut_behind d.shut) same)
     (ap (λ (ls : List ℕ). d.lines.items ++ ls) (uncounted l block (ap (λ (b : Bool). not b || is_some (said_of (line_says l))) inside ∙ ap (λ (r : Reading Setting). is_some (said_of r)) says)))
 
 -- a statement sets what it says, and adds its line
@@ -118,10 +89,10 @@ pub takes_statement : (name : List ℕ) (old new : Draft) (l : Numbered) (s : Se
     → finished name old (l ∷ block) ≡ finished name new block
 takes_statement name old new l s block inside e address shut lines =
     let says = indented_says l inside ∙ e in
-    let same = stated l block s says in
-    goes_on name old new l block (no_fault l block (Says s) says refl)
-    (ap (address_behind old.address) same ∙ address_more old.address l.line s (statements_in block) ∙ ap (λ (a : Option (ℕ × IfaceAddr)). address_behind a (statements_in block)) (sym address))
-    (ap (shut_behind old.shut) same ∙ shut_more old.shut l.line s (statements_in block) ∙ ap (λ (b : Bool). shut_behind b (statements_in block)) (sym shut))
+    let same = stated line_says l block s says in
+    goes_on name old new l block (no_fault line_says l block (Says s) says refl)
+    (ap (address_behind old.address) same ∙ address_more old.address l.line s (interface_statements block) ∙ ap (λ (a : Option (ℕ × IfaceAddr)). address_behind a (interface_statements block)) (sym address))
+    (ap (shut_behind old.shut) same ∙ shut_more old.shut l.line s (interface_statements block) ∙ ap (λ (b : Bool). shut_behind b (interface_statements block)) (sym shut))
     (counted l block old.lines.items (ap (λ (b : Bool). not b || is_some (said_of (line_says l))) inside ∙ ap (λ (r : Reading Setting). is_some (said_of r)) says) ∙ ap (λ (ls : List ℕ). ls ++ lines_in block) (sym lines))
 
 -- a faulty line is told of
@@ -129,15 +100,15 @@ pub tells_line : (name : List ℕ) (d : Draft) (l : Numbered) (cause : Cause) (b
     → finished name d (l ∷ block) ≡ Err (record { line = l.line; cause = cause })
 unfolding finished
 tells_line name d l cause block inside e =
-    ap (λ (f : Option Fault). made name f (address_behind d.address (statements_in (l ∷ block))) (shut_behind d.shut (statements_in (l ∷ block))) (d.lines.items ++ lines_in (l ∷ block))) (a_fault l block cause (indented_says l inside ∙ e))
+    ap (λ (f : Option Fault). made name f (address_behind d.address (interface_statements (l ∷ block))) (shut_behind d.shut (interface_statements (l ∷ block))) (d.lines.items ++ lines_in (l ∷ block))) (a_fault line_says l block cause (indented_says l inside ∙ e))
 
 -- the first line of a block finds nothing set
 pub started : (name : List ℕ) (d : Draft) (block : List Numbered) → d.address ≡ None → d.shut ≡ false → d.lines.items ≡ [] → name ≡ name_in block → finished name d block ≡ interface_in block
 unfolding finished interface_in
 started name d block none opened bare named =
-    let ss = statements_in block in
-    ap (λ (name : List ℕ). made name (fault_in block) (address_behind d.address ss) (shut_behind d.shut ss) (d.lines.items ++ lines_in block)) named
+    let ss = interface_statements block in
+    ap (λ (name : List ℕ). made name (interface_fault block) (address_behind d.address ss) (shut_behind d.shut ss) (d.lines.items ++ lines_in block)) named
     ∙ made_same (name_in block) _ _ _ _ _ _ _ _ refl
-    (ap (λ (a : Option (ℕ × IfaceAddr)). address_behind a ss) none ∙ last_from None (filter_map (λ (s : Stated). address_by s.line s.setting) ss))
-    (ap (λ (b : Bool). shut_behind b ss) opened ∙ last_from false (filter_map (λ (s : Stated). shut_by s.setting) ss))
+    (ap (λ (a : Option (ℕ × IfaceAddr)). address_behind a ss) none ∙ last_from None (filter_map (λ (s : InterfaceStatement). address_by s.line s.setting) ss))
+    (ap (λ (b : Bool). shut_behind b ss) opened ∙ last_from false (filter_map (λ (s : InterfaceStatement). shut_by s.setting) ss))
     (ap (λ (ls : List ℕ). ls ++ lines_in block) bare)

@@ -5,16 +5,17 @@ use Rattle.std.specs.Option.{option_map, option_map_or}
 use Rattle.nc_types.specs.declared.fault.Fault.{Fault}
 use Rattle.nc_types.specs.declared.config.IfaceAddr.{IfaceAddr}
 use Rattle.nc_types.specs.declared.fault.ConfigFault.{ConfigFault}
-use Rattle.nc_read_link.specs.Interfaces.{Numbered, Stated, InterfacePart, fault_in, statements_in, lines_in, address_by, shut_by}
-use Rattle.nc_read_link.specs.Outcomes.{IsFault}
+use Rattle.nc_lines.specs.Parts.{Numbered}
+use Rattle.nc_lines.specs.Outcomes.{IsFault}
+use Rattle.nc_read_link.specs.Interfaces.{InterfacePart, InterfaceStatement, interface_fault, interface_statements, lines_in, address_by, shut_by}
 use Rattle.nc_read_link.specs.declared.draft.Draft.{Draft}
 
 -- the address that statements leave where this was in force
-abbrev pub address_behind : Option (ℕ × IfaceAddr) → List Stated → Option (ℕ × IfaceAddr)
+abbrev pub address_behind : Option (ℕ × IfaceAddr) → List InterfaceStatement → Option (ℕ × IfaceAddr)
 address_behind before ss = unwrap_or (last_or (Some before) (filter_map (λ s. address_by s.line s.setting) ss)) None
 
 -- whether the interface is shut behind statements
-abbrev pub shut_behind : Bool → List Stated → Bool
+abbrev pub shut_behind : Bool → List InterfaceStatement → Bool
 shut_behind before ss = unwrap_or (last_or (Some before) (filter_map (λ s. shut_by s.setting) ss)) false
 
 -- an interface with its lines, by its name, its address with the address's line, and whether it is shut
@@ -34,7 +35,8 @@ part_of name address shut lines =
 -- the interface of this name that lines make behind those before them, or the fault of the first faulty one
 unfoldable pub finished : List ℕ → Draft → List Numbered → Result InterfacePart Fault
 finished name d block =
-    option_map_or Err (fault_in block) (Ok (part_of name (address_behind d.address (statements_in block)) (shut_behind d.shut (statements_in block)) (d.lines.items ++ lines_in block)))
+    option_map_or Err (interface_fault block)
+    (Ok (part_of name (address_behind d.address (interface_statements block)) (shut_behind d.shut (interface_statements block)) (d.lines.items ++ lines_in block)))
 
 -- what is told of a line, which some lines follow: it was taken, or it is faulty
 abbrev pub Takes : List ℕ → Result (Unit {0}) ConfigFault → Draft → Draft → Numbered → List Numbered → Type 0

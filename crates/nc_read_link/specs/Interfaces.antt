@@ -8,9 +8,10 @@ use Rattle.nc_types.specs.declared.fault.Fault.{Fault}
 use Rattle.nc_types.specs.declared.config.IfaceAddr.{IfaceAddr}
 use Rattle.nc_types.specs.declared.config.Interface.{Interface}
 use Rattle.nc_types.specs.declared.fault.Cause.TheVariants.{Syntax, Unsupported}
-use Rattle.nc_lines.specs.Lines.{words_of, is_indented, line_at}
+use Rattle.nc_lines.specs.Lines.{words_of, is_indented}
 use Rattle.nc_lines.specs.Numbers.{address_of}
-use Rattle.nc_lines.specs.Statements.{Reading, Outside, Faulty, Says, after, fault_of, said_of}
+use Rattle.nc_lines.specs.Statements.{Reading, Outside, Faulty, Says, after, begins, alone_says, said_of}
+use Rattle.nc_lines.specs.Parts.{Numbered, Stated, first_of, fault_in, statements_in}
 use Rattle.nc_read_link.specs.declared.setting.Setting.{Setting}
 use Rattle.nc_read_link.specs.declared.setting.Setting.TheVariants.{Address, NoAddress, Shut}
 
@@ -26,10 +27,6 @@ iface_addr_of address mask =
     option_and_then (λ p. if p.1 == 0 then None else Some (record { addr = record { 0 = p.0 }; prefix = record { base = network_of p.0 p.1; len = p.1 } })) (masked_of address mask)
 
 -- ---- statements
-
--- words that begin with these
-abbrev pub begins : List (List ℕ) → List (List ℕ) → Bool
-begins firsts words = is_some (after firsts words)
 
 -- an address, its mask, and the word `secondary`
 abbrev pub is_secondary : List (List ℕ) → Bool
@@ -56,11 +53,6 @@ abbrev pub address_says : List (List ℕ) → Reading Setting
 address_says (address ∷ mask ∷ []) = option_map_or (λ a. Says (Address a)) (iface_addr_of address mask) (Faulty Syntax)
 address_says words = Faulty Syntax
 
--- what is behind a statement that takes no further words
-abbrev pub alone_says : Setting → List (List ℕ) → Reading Setting
-alone_says setting [] = Says setting
-alone_says setting (word ∷ words) = Faulty Syntax
-
 -- the statements of an interface that are read
 unfoldable pub read_says : List (List ℕ) → Reading Setting
 read_says words =
@@ -75,16 +67,6 @@ setting_says words = if is_unsupported words then Faulty Unsupported else read_s
 
 -- ---- blocks
 
--- a line with its number
-pub record Numbered : Type 0 where
-  pub line : ℕ
-  pub text : List ℕ
-
--- a statement of an interface with its line
-pub record Stated : Type 0 where
-  pub line : ℕ
-  pub setting : Setting
-
 -- the interface that its block makes, and the lines of its statements
 pub record InterfacePart : Type 0 where
   pub interface : Interface
@@ -94,17 +76,16 @@ pub record InterfacePart : Type 0 where
 abbrev pub line_says : Numbered → Reading Setting
 line_says l = if is_indented l.text then setting_says (words_of l.text) else Outside
 
--- the first of a list
-abbrev pub first_of : {A : Type 0} → List A → Option A
-first_of [] = None
-first_of (x ∷ xs) = Some x
+-- a statement of an interface with its line
+abbrev pub InterfaceStatement : Type 0
+InterfaceStatement = Stated Setting
 
--- the first faulty line
-abbrev pub fault_in : List Numbered → Option Fault
-fault_in block = first_of (filter_map (λ l. option_map (λ cause. record { line = l.line; cause = cause }) (fault_of (line_says l))) block)
+-- the first faulty line of an interface's block, and its statements
+abbrev pub interface_fault : List Numbered → Option Fault
+interface_fault block = fault_in line_says block
 
-abbrev pub statements_in : List Numbered → List Stated
-statements_in block = filter_map (λ l. option_map (λ s. record { line = l.line; setting = s }) (said_of (line_says l))) block
+abbrev pub interface_statements : List Numbered → List InterfaceStatement
+interface_statements block = statements_in line_says block
 
 -- the lines of the statements, the headers among them
 abbrev pub lines_in : List Numbered → List ℕ
@@ -126,14 +107,14 @@ shut_by (Shut b) = Some b
 shut_by setting = None
 
 -- the address in force, with its line: that of the last statement that speaks of it
-abbrev pub address_in : List Stated → Option (ℕ × IfaceAddr)
+abbrev pub address_in : List InterfaceStatement → Option (ℕ × IfaceAddr)
 address_in ss = unwrap_or (last_or None (filter_map (λ s. address_by s.line s.setting) ss)) None
 
 -- whether the interface is shut in the end
-abbrev pub shut_in : List Stated → Bool
+abbrev pub shut_in : List InterfaceStatement → Bool
 shut_in ss = unwrap_or (last_or None (filter_map (λ s. shut_by s.setting) ss)) false
 
-abbrev pub interface_of : List ℕ → List Stated → Interface
+abbrev pub interface_of : List ℕ → List InterfaceStatement → Interface
 interface_of name ss =
     record {
       name = name;
@@ -146,8 +127,4 @@ interface_of name ss =
 -- the interface of a block, or the fault of its first faulty line
 unfoldable pub interface_in : List Numbered → Result InterfacePart Fault
 interface_in block =
-    option_map_or Err (fault_in block) (Ok (record { interface = interface_of (name_in block) (statements_in block); lines = lines_in block }))
-
--- lines of a file by their numbers
-abbrev pub numbered : List (List ℕ) → List ℕ → List Numbered
-numbered lines ks = map (λ k. record { line = k; text = line_at k lines }) ks
+    option_map_or Err (interface_fault block) (Ok (record { interface = interface_of (name_in block) (interface_statements block); lines = lines_in block }))

@@ -1,5 +1,4 @@
 pub mod Interfaces
 pub mod Statics
 pub mod Outcomes
-pub mod Readings
 pub mod Drafts

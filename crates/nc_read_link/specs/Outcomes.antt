@@ -6,13 +6,8 @@ use Rattle.nc_types.specs.declared.fault.Fault.{Fault}
 use Rattle.nc_types.specs.declared.config.Interface.{Interface}
 use Rattle.nc_types.specs.declared.config.StaticRoute.{StaticRoute}
 use Rattle.nc_types.specs.declared.fault.ConfigFault.{ConfigFault}
-use Rattle.nc_types.specs.declared.fault.ConfigFault.TheVariants.{Bad, Memory}
+use Rattle.nc_lines.specs.Outcomes.{IsFault}
 use Rattle.nc_read_link.specs.Interfaces.{InterfacePart}
-
--- a fault that was returned is this one, unless memory ran out
-abbrev pub IsFault : {A : Type 0} → ConfigFault → Result A Fault → Type 0
-IsFault (Bad line cause) read = read ≡ Err (record { line = line; cause = cause })
-IsFault Memory read = Unit {0}
 
 -- what was returned is this interface with its lines, or this fault, unless memory ran out
 abbrev pub IsInterface : Result (Interface × Vec ℕ Global) ConfigFault → Result InterfacePart Fault → Type 0

@@ -13,6 +13,7 @@ use Rattle.nc_types.specs.declared.fault.Cause.TheVariants.{Syntax, Unsupported}
 use Rattle.nc_lines.specs.Lines.{words_of}
 use Rattle.nc_lines.specs.Numbers.{is_plain, number_of, address_of}
 use Rattle.nc_lines.specs.Statements.{after}
+use Rattle.nc_lines.specs.Outcomes.{at_line}
 use Rattle.nc_read_link.specs.Interfaces.{masked_of}
 
 -- ---- options
@@ -98,11 +99,6 @@ route_says line (address ∷ []) = if bytes_eq address (codes "vrf") then Err Un
 route_says line (address ∷ mask ∷ words) =
     if bytes_eq address (codes "vrf") then Err Unsupported
     else option_map_or (λ prefix. target_says line prefix words) (network_in address mask) (Err Syntax)
-
--- a cause with its line
-abbrev pub at_line : {A : Type 0} → ℕ → Result A Cause → Result A Fault
-at_line line (Ok x) = Ok x
-at_line line (Err cause) = Err (record { line = line; cause = cause })
 
 -- the static route of a line
 abbrev pub static_at : ℕ → List ℕ → Result StaticRoute Fault

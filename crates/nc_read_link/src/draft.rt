@@ -2,7 +2,8 @@
 
 ghost use Rattle.std.specs.Prelude.{◌≡◌, ℕ, List, [], None, Ok, false, unwrap_or};
 ghost use Rattle.std.specs.Option.{option_map, option_map_or};
-ghost use Rattle.nc_read_link.specs.Interfaces.{Numbered, address_by, shut_by};
+ghost use Rattle.nc_lines.specs.Parts.{Numbered};
+ghost use Rattle.nc_read_link.specs.Interfaces.{address_by, shut_by};
 ghost use Rattle.nc_read_link.specs.Drafts.{finished, Takes};
 
 use crate::setting::{Setting, read_setting};

@@ -3,7 +3,8 @@
 ghost use Rattle.std.specs.Prelude.{◌≡◌, ◌<◌, ◌≤◌, ◌∷◌, [], All, length, unwrap_or, option_and_then, codes};
 ghost use Rattle.nc_lines.specs.Lines.{words_of};
 ghost use Rattle.nc_lines.specs.Statements.{after};
-ghost use Rattle.nc_read_link.specs.Interfaces.{interface_in, numbered, name_in, first_of};
+ghost use Rattle.nc_lines.specs.Parts.{numbered, first_of};
+ghost use Rattle.nc_read_link.specs.Interfaces.{interface_in, name_in};
 ghost use Rattle.nc_read_link.specs.Outcomes.{IsInterface};
 
 use crate::draft::Draft;

@@ -14,7 +14,6 @@ mod next_hop;
 mod options;
 mod setting;
 mod statics;
-mod words;
 
 pub use interfaces::read_interface;
 pub use setting::Setting;

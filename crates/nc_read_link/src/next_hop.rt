@@ -6,9 +6,9 @@ ghost use Rattle.nc_types.specs.declared.config.Via.TheVariants.{Through};
 ghost use Rattle.nc_lines.specs.Lines.{words_of};
 ghost use Rattle.nc_read_link.specs.Statics.{through, direct, via_of};
 
-use crate::words::is_word;
 use nc_lines::cut::cut_word;
 use nc_lines::numbers::read_address;
+use nc_lines::statement::is_word;
 use nc_types::{Addr, Reference, Text, Via};
 use std::alloc::{AllocError, Global};
 

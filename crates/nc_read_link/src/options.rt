@@ -6,9 +6,9 @@ ghost use Rattle.nc_lines.specs.Lines.{words_of};
 ghost use Rattle.nc_lines.specs.Numbers.{is_digit, is_plain};
 ghost use Rattle.nc_read_link.specs.Statics.{distance_of, takes_value, is_condition, is_conditional, is_name_option, is_tag_option, are_options};
 
-use crate::words::is_word;
 use nc_lines::cut::cut_word;
 use nc_lines::numbers::read_number;
+use nc_lines::statement::is_word;
 
 /// The distance in front of the options, 1 where none is written, and the options.
 pub(crate) fn distance(text: &[u8]) -> (u8, &[u8])

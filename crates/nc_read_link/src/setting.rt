@@ -4,13 +4,15 @@ ghost use Rattle.std.specs.Prelude.{◌≡◌, ◌∷◌, [], ◌||◌, codes, f
 ghost use Rattle.std.specs.Option.{option_map_or};
 ghost use Rattle.nc_lines.specs.Lines.{words_of};
 ghost use Rattle.nc_lines.specs.Statements.{after};
-ghost use Rattle.nc_read_link.specs.Interfaces.{begins, is_secondary, is_other_address, is_unsupported, address_says, alone_says, read_says, setting_says, line_says};
-ghost use Rattle.nc_read_link.specs.Readings.{reading_of};
+ghost use Rattle.nc_lines.specs.Readings.{reading_of};
+ghost use Rattle.nc_read_link.specs.Interfaces.{is_secondary, is_other_address, is_unsupported, address_says, read_says, setting_says};
 
 use crate::masks::{iface_addr, masked};
-use crate::words::is_word;
-use nc_lines::cut::{cut_word, is_indented};
-use nc_lines::statement::{Reading, after_one, after_three, after_two};
+use nc_lines::cut::cut_word;
+use nc_lines::statement::{
+    Reading, after_one, after_three, after_two, alone, begins_one, begins_three, begins_two,
+    is_word,
+};
 use nc_types::{Cause, IfaceAddr};
 
 /// What a statement of an interface's block sets.
@@ -22,27 +24,6 @@ pub enum Setting {
     NoAddress,
     /// `shutdown` or `no shutdown`
     Shut(bool),
-}
-
-// Whether a line begins with this word.
-fn begins_one(line: &[u8], first: &str) -> bool
-    ensures { result ≡ begins (first.now ∷ []) (words_of line.now) }
-{
-    after_one(line, first).is_some()
-}
-
-// Whether a line begins with these two words.
-fn begins_two(line: &[u8], first: &str, second: &str) -> bool
-    ensures { result ≡ begins (first.now ∷ second.now ∷ []) (words_of line.now) }
-{
-    after_two(line, first, second).is_some()
-}
-
-// Whether a line begins with these three words.
-fn begins_three(line: &[u8], first: &str, second: &str, third: &str) -> bool
-    ensures { result ≡ begins (first.now ∷ second.now ∷ third.now ∷ []) (words_of line.now) }
-{
-    after_three(line, first, second, third).is_some()
 }
 
 // An address, its mask, and the word `secondary`.
@@ -110,16 +91,6 @@ fn address(line: &[u8]) -> Reading<Setting>
     match iface_addr(address, mask) {
         None => Reading::Faulty(Cause::Syntax),
         Some(addr) => Reading::Says(Setting::Address(addr)),
-    }
-}
-
-// What follows a statement that takes no further words.
-fn alone(setting: Setting, line: &[u8]) -> Reading<Setting>
-    ensures { reading_of result ≡ alone_says setting (words_of line.now) }
-{
-    match cut_word(line) {
-        None => Reading::Says(setting),
-        Some(_) => Reading::Faulty(Cause::Syntax),
     }
 }
 

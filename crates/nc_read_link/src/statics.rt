@@ -2,16 +2,16 @@
 
 ghost use Rattle.std.specs.Prelude.{◌≡◌, ◌<◌, ◌≤◌, length};
 ghost use Rattle.nc_lines.specs.Lines.{words_of, line_at};
-ghost use Rattle.nc_read_link.specs.Statics.{network_in, options_say, alone_says, target_says, at_line, route_says, static_at};
+ghost use Rattle.nc_lines.specs.Outcomes.{at_line};
+ghost use Rattle.nc_read_link.specs.Statics.{network_in, options_say, alone_says, target_says, route_says, static_at};
 ghost use Rattle.nc_read_link.specs.Outcomes.{IsStatic};
 
 use crate::masks::masked;
 use crate::next_hop::next_hop;
 use crate::options::{are_options, distance, is_conditional};
-use crate::words::is_word;
 use nc_lines::Lines;
 use nc_lines::cut::cut_word;
-use nc_lines::statement::after_two;
+use nc_lines::statement::{after_two, is_word};
 use nc_types::{Cause, ConfigFault, Prefix, StaticRoute, Via};
 use std::alloc::Global;
 

@@ -11,10 +11,11 @@ use Rattle.nc_types.specs.Cidr.{Covers}
 use Rattle.nc_types.specs.declared.config.IfaceAddr.{IfaceAddr}
 use Rattle.nc_types.specs.declared.fault.Cause.TheVariants.{Syntax, Unsupported}
 use Rattle.nc_lines.specs.Lines.{words_of, is_indented}
-use Rattle.nc_lines.specs.Statements.{Reading, Outside, Faulty, Says, after, said_of}
+use Rattle.nc_lines.specs.Statements.{Reading, Outside, Faulty, Says, after, said_of, alone_says}
+use Rattle.nc_lines.specs.Parts.{Numbered}
 use Rattle.nc_read_link.specs.declared.setting.Setting.{Setting}
 use Rattle.nc_read_link.specs.declared.setting.Setting.TheVariants.{Address, NoAddress, Shut}
-use Rattle.nc_read_link.specs.Interfaces.{Numbered, Stated, masked_of, is_unsupported, address_says, alone_says, read_says, setting_says, line_says, statements_in, address_by, address_in}
+use Rattle.nc_read_link.specs.Interfaces.{InterfaceStatement as Stated, masked_of, is_unsupported, address_says, read_says, setting_says, line_says, interface_statements as statements_in, address_by, address_in}
 use Rattle.nc_reader.proofs.Members.{Has, has_kept}
 
 abbrev pub IsCovered : IfaceAddr → Type 0

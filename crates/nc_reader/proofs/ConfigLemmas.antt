@@ -13,7 +13,8 @@ use Rattle.nc_types.specs.declared.fault.Fault.{Fault}
 use Rattle.nc_types.specs.declared.fault.Cause.TheVariants.{NoName}
 use Rattle.nc_lines.specs.Lines.{line_at}
 use Rattle.nc_lines.specs.declared.block.Block.{Block}
-use Rattle.nc_read_link.specs.Interfaces.{InterfacePart, interface_in, numbered}
+use Rattle.nc_lines.specs.Parts.{numbered}
+use Rattle.nc_read_link.specs.Interfaces.{InterfacePart, interface_in}
 use Rattle.nc_read_link.specs.Statics.{static_at}
 use Rattle.nc_reader.specs.Groups.{Keyed, Group, with_key, keys_from, of_key, groups}
 use Rattle.nc_reader.specs.Roles.{Role, Passed, Wrong, Names, Within, Routes, Placed, roles_from}

@@ -8,7 +8,7 @@ use Rattle.nc_types.specs.Faults.{lower, lowest}
 use Rattle.nc_types.specs.declared.fault.Fault.{Fault}
 use Rattle.nc_types.specs.declared.fault.ConfigFault.{ConfigFault}
 use Rattle.nc_types.specs.declared.fault.ConfigFault.TheVariants.{Bad, Memory}
-use Rattle.nc_read_link.specs.Outcomes.{IsFault}
+use Rattle.nc_lines.specs.Outcomes.{IsFault}
 use Rattle.nc_reader.specs.Configuration.{ok_of, err_of}
 use Rattle.nc_reader.specs.Parts.{IsLowest, Notes}
 use Rattle.nc_reader.proofs.PushLemmas.{filter_map-none, filter_map-some}

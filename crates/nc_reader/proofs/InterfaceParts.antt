@@ -10,7 +10,8 @@ use Rattle.nc_types.specs.declared.fault.Fault.{Fault}
 use Rattle.nc_types.specs.declared.fault.Cause.TheVariants.{Syntax, Unsupported}
 use Rattle.nc_lines.specs.Lines.{words_of, is_indented, line_at}
 use Rattle.nc_lines.specs.Statements.{after, said_of}
-use Rattle.nc_read_link.specs.Interfaces.{InterfacePart, Numbered, line_says, fault_in, statements_in, lines_in, first_of, name_in, interface_of, interface_in, numbered}
+use Rattle.nc_lines.specs.Parts.{Numbered, first_of, numbered}
+use Rattle.nc_read_link.specs.Interfaces.{InterfacePart, line_says, interface_fault as fault_in, interface_statements as statements_in, lines_in, name_in, interface_of, interface_in}
 use Rattle.nc_reader.specs.Groups.{Keyed, Group}
 use Rattle.nc_reader.specs.Roles.{Role, Passed, Wrong, Names, Within, Routes, Placed, hostname_role, interface_role, is_unsupported, read_role, header_role, roles_from}
 use Rattle.nc_reader.specs.Configuration.{blocks_of, interfaces_of, ok_of, first_in}

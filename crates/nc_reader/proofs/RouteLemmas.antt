@@ -11,7 +11,7 @@ use Rattle.nc_types.specs.declared.config.StaticRoute.{StaticRoute}
 use Rattle.nc_types.specs.declared.fault.Fault.{Fault}
 use Rattle.nc_types.specs.declared.fault.ConfigFault.{ConfigFault}
 use Rattle.nc_types.specs.declared.fault.ConfigFault.TheVariants.{Bad, Memory}
-use Rattle.nc_read_link.specs.Outcomes.{IsFault}
+use Rattle.nc_lines.specs.Outcomes.{IsFault}
 use Rattle.nc_reader.specs.declared.routes.RouteKey.{RouteKey}
 use Rattle.nc_reader.specs.contracts.routes.RouteKeyPartialEq.TheImpl.{eq-value}
 use Rattle.nc_reader.specs.Groups.{Keyed, Group, with_key, keys_from, groups}

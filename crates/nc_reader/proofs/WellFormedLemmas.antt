@@ -9,7 +9,8 @@ use Rattle.nc_types.specs.WellFormed.{is_name, places_of, IsElement, first_line,
 use Rattle.nc_types.specs.declared.config.Kind.TheVariants.{Static as StaticKind}
 use Rattle.nc_types.specs.declared.config.Interface.{Interface}
 use Rattle.nc_types.specs.declared.config.StaticRoute.{StaticRoute}
-use Rattle.nc_read_link.specs.Interfaces.{InterfacePart, numbered}
+use Rattle.nc_lines.specs.Parts.{numbered}
+use Rattle.nc_read_link.specs.Interfaces.{InterfacePart}
 use Rattle.nc_reader.specs.Roles.{roles_from}
 use Rattle.nc_reader.specs.Configuration.{RoutePart, pieces_of, in_order, place_of, first_in, with_place, route_with_place, config_of, configuration}
 use Rattle.nc_reader.proofs.Members.{Has, has_contained, all_had, has_map, has_either, Pairs, all_pairs, pairs_weaker, pairs_map, pairs_append, pairs_either, Ascends, ascends_within, increasing}

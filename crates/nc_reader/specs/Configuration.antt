@@ -15,7 +15,8 @@ use Rattle.nc_types.specs.declared.config.Via.TheVariants.{Null, Hop, Through}
 use Rattle.nc_types.specs.declared.config.StaticRoute.{StaticRoute}
 use Rattle.nc_types.specs.declared.fault.Cause.TheVariants.{NoName}
 use Rattle.nc_lines.specs.Lines.{line_at}
-use Rattle.nc_read_link.specs.Interfaces.{InterfacePart, interface_in, numbered}
+use Rattle.nc_lines.specs.Parts.{numbered}
+use Rattle.nc_read_link.specs.Interfaces.{InterfacePart, interface_in}
 use Rattle.nc_read_link.specs.Statics.{static_at}
 use Rattle.nc_reader.specs.Groups.{Keyed, Group, groups}
 use Rattle.nc_reader.specs.Roles.{Role, Wrong, Names, Within, Routes, Placed, roles_from}

@@ -4,7 +4,7 @@ use Rattle.nc_types.specs.Config.{ConfigView, config_view}
 use Rattle.nc_types.specs.declared.fault.Fault.{Fault}
 use Rattle.nc_types.specs.declared.config.RouterConfig.{RouterConfig}
 use Rattle.nc_types.specs.declared.fault.ConfigFault.{ConfigFault}
-use Rattle.nc_read_link.specs.Outcomes.{IsFault}
+use Rattle.nc_lines.specs.Outcomes.{IsFault}
 
 -- what was returned is this configuration or fault, unless memory ran out
 abbrev pub IsConfiguration : Result RouterConfig ConfigFault → Result ConfigView Fault → Type 0

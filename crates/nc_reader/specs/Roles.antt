@@ -8,8 +8,7 @@ use Rattle.nc_types.specs.declared.fault.Cause.{Cause}
 use Rattle.nc_types.specs.declared.fault.Cause.TheVariants.{Syntax, Unsupported}
 use Rattle.nc_lines.specs.Lines.{words_of, is_indented}
 use Rattle.nc_lines.specs.Blocks.{is_idle, begins_banner, has_mark, leaves_open, is_open, header_of}
-use Rattle.nc_lines.specs.Statements.{after}
-use Rattle.nc_read_link.specs.Interfaces.{begins}
+use Rattle.nc_lines.specs.Statements.{after, begins}
 
 -- what a line is
 pub data Role : Type 0 where

@@ -6,8 +6,7 @@ ghost use Rattle.std.specs.Option.{option_map_or};
 ghost use Rattle.std.specs.Str.{bytes_eq};
 ghost use Rattle.nc_types.specs.WellFormed.{is_name};
 ghost use Rattle.nc_lines.specs.Lines.{words_of};
-ghost use Rattle.nc_lines.specs.Statements.{after};
-ghost use Rattle.nc_read_link.specs.Interfaces.{begins};
+ghost use Rattle.nc_lines.specs.Statements.{after, begins};
 ghost use Rattle.nc_reader.specs.Roles.{is_router, is_list_remark, is_unsupported, hostname_role, interface_role, read_role, header_role};
 ghost use Rattle.nc_reader.specs.Readings.{role_of_header};
 

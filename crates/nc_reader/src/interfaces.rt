@@ -3,7 +3,8 @@
 ghost use Rattle.std.specs.Prelude.{◌≡◌, List, Result, ◌++◌, ◌∷◌, [], map, All, OnOk, IfOk};
 ghost use Rattle.nc_types.specs.declared.fault.Fault.{Fault};
 ghost use Rattle.nc_types.specs.Faults.{lowest};
-ghost use Rattle.nc_read_link.specs.Interfaces.{InterfacePart, interface_in, numbered};
+ghost use Rattle.nc_lines.specs.Parts.{numbered};
+ghost use Rattle.nc_read_link.specs.Interfaces.{InterfacePart, interface_in};
 ghost use Rattle.nc_reader.specs.Gathering.{IsLine};
 ghost use Rattle.nc_reader.specs.Parts.{IsLowest, AreInterfaces};
 

@@ -1,4 +1,4 @@
-use Rattle.nc_read_link.specs.Interfaces.{numbered}
+use Rattle.nc_lines.specs.Parts.{numbered}
 use Rattle.nc_read_link.proofs.DraftLemmas.{started}
 use Rattle.nc_read_link.proofs.interfaces.read_interface.Goals as goal
 

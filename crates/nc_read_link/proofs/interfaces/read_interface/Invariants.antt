@@ -1,5 +1,6 @@
 use Rattle.std.proofs.Common.{◌≡◌, drop}
-use Rattle.nc_read_link.specs.Interfaces.{interface_in, numbered}
+use Rattle.nc_lines.specs.Parts.{numbered}
+use Rattle.nc_read_link.specs.Interfaces.{interface_in}
 use Rattle.nc_read_link.specs.Drafts.{finished}
 use Rattle.nc_read_link.proofs.interfaces.read_interface.Given as goal
 

@@ -1,7 +1,8 @@
 use Rattle.std.proofs.Common.{◌≡◌, List, map, take}
 use Rattle.nc_types.specs.declared.fault.Fault.{Fault}
 use Rattle.nc_types.specs.Faults.{lowest}
-use Rattle.nc_read_link.specs.Interfaces.{interface_in, numbered}
+use Rattle.nc_lines.specs.Parts.{numbered}
+use Rattle.nc_read_link.specs.Interfaces.{interface_in}
 use Rattle.nc_reader.specs.Parts.{IsLowest, AreInterfaces}
 use Rattle.nc_reader.proofs.interfaces.read_interfaces.Given as goal
 

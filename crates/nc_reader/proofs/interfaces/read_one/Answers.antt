@@ -1,6 +1,7 @@
 use Rattle.std.proofs.Common.{◌∙◌, List, [], ◌∷◌, ◌++◌, map, ap, sym}
 use Rattle.std.proofs.lemmas.List.{map_push}
-use Rattle.nc_read_link.specs.Interfaces.{InterfacePart, interface_in, numbered}
+use Rattle.nc_lines.specs.Parts.{numbered}
+use Rattle.nc_read_link.specs.Interfaces.{InterfacePart, interface_in}
 use Rattle.nc_reader.specs.Parts.{interface_part}
 use Rattle.nc_reader.proofs.FaultLemmas.{ok-push, ok-noted, told-ok, told-err}
 use Rattle.nc_reader.proofs.interfaces.read_one.Goals as goal

@@ -4,7 +4,8 @@ use Rattle.std.proofs.lemmas.List.{append_assoc, length-map}
 use Rattle.nc_types.specs.Faults.{lowest}
 use Rattle.nc_types.specs.declared.fault.Fault.{Fault}
 use Rattle.nc_lines.specs.Lines.{line_at}
-use Rattle.nc_read_link.specs.Interfaces.{InterfacePart, interface_in, numbered}
+use Rattle.nc_lines.specs.Parts.{numbered}
+use Rattle.nc_read_link.specs.Interfaces.{InterfacePart, interface_in}
 use Rattle.nc_read_link.specs.Statics.{static_at}
 use Rattle.nc_reader.specs.Roles.{roles_from}
 use Rattle.nc_reader.specs.Configuration.{Routed, wrong_at, blocks_of, interfaces_of, routed, routes_of, statics_of, ok_of, err_of}

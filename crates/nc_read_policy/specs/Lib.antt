@@ -1,0 +1,5 @@
+pub mod Clauses
+pub mod Entries
+pub mod Outcomes
+pub mod Readings
+pub mod Drafts

@@ -1,0 +1,138 @@
+//! What one line of a clause's block says, read by its words.
+
+ghost use Rattle.std.specs.Prelude.{◌≡◌, ◌∷◌, [], None, Some, codes, MatchOption};
+ghost use Rattle.std.specs.Option.{option_map};
+ghost use Rattle.nc_lines.specs.Lines.{words_of, is_indented};
+ghost use Rattle.nc_lines.specs.Statements.{after};
+ghost use Rattle.nc_read_policy.specs.Clauses.{SetsPreference, SetsMetric, Opens, or_syntax, lists_say, value_of, prepend_says, header_says, is_unsupported, statement_says, said_as, text_says};
+ghost use Rattle.nc_read_policy.specs.Readings.{statement_reading};
+
+use crate::header::{ClauseHeader, read_clause_header};
+use crate::values::{are_asns, value};
+use nc_lines::cut::{cut_word, is_indented};
+use nc_lines::statement::{Reading, after_one, after_three, after_two, alone, begins_one};
+use nc_types::{Cause, OriginCode};
+
+/// What a line of a clause's block says.
+#[derive(Clone, Copy, Debug, PartialEq, Eq)]
+pub(crate) enum Setting<'a> {
+    /// The header of the clause.
+    Opens(ClauseHeader<'a>),
+    /// `match ip address prefix-list W ..`: the names as they are written.
+    Matches(&'a [u8]),
+    /// `set local-preference N`
+    Preference(u32),
+    /// `set metric N`
+    Metric(u32),
+    /// `set as-path prepend N ..`: the numbers as they are written.
+    Prepend(&'a [u8]),
+    /// `set origin igp` or `set origin incomplete`
+    Origin(OriginCode),
+}
+
+// What follows `match ip address prefix-list`; `None` where a line begins otherwise.
+fn after_match(line: &[u8]) -> Option<&[u8]>
+    ensures { MatchOption result (after (codes "match" ∷ codes "ip" ∷ codes "address" ∷ codes "prefix-list" ∷ []) (words_of line.now) ≡ None)
+        (λ rest. after (codes "match" ∷ codes "ip" ∷ codes "address" ∷ codes "prefix-list" ∷ []) (words_of line.now) ≡ Some (words_of rest.now)) }
+{
+    after_one(after_three(line, "match", "ip", "address")?, "prefix-list")
+}
+
+// What follows `match ip address prefix-list`: names.
+fn lists(line: &[u8]) -> Reading<Setting<'_>>
+    ensures { statement_reading result ≡ lists_say (words_of line.now) }
+{
+    match cut_word(line) {
+        None => Reading::Faulty(Cause::Syntax),
+        Some(_) => Reading::Says(Setting::Matches(line)),
+    }
+}
+
+// What follows `set local-preference`: a number.
+fn preference(line: &[u8]) -> Reading<Setting<'_>>
+    ensures { statement_reading result ≡ or_syntax (option_map (λ n. SetsPreference n) (value_of (words_of line.now))) }
+{
+    match value(line) {
+        None => Reading::Faulty(Cause::Syntax),
+        Some(number) => Reading::Says(Setting::Preference(number)),
+    }
+}
+
+// What follows `set metric`: a number.
+fn metric(line: &[u8]) -> Reading<Setting<'_>>
+    ensures { statement_reading result ≡ or_syntax (option_map (λ n. SetsMetric n) (value_of (words_of line.now))) }
+{
+    match value(line) {
+        None => Reading::Faulty(Cause::Syntax),
+        Some(number) => Reading::Says(Setting::Metric(number)),
+    }
+}
+
+// What follows `set as-path prepend`: numbers of autonomous systems.
+fn prepend(line: &[u8]) -> Reading<Setting<'_>>
+    ensures { statement_reading result ≡ prepend_says (words_of line.now) }
+{
+    if are_asns(line) {
+        Reading::Says(Setting::Prepend(line))
+    } else {
+        Reading::Faulty(Cause::Syntax)
+    }
+}
+
+// A statement that isn't supported.
+fn is_unsupported(line: &[u8]) -> bool
+    ensures { result ≡ is_unsupported (words_of line.now) }
+{
+    begins_one(line, "match") || begins_one(line, "set") || begins_one(line, "continue")
+}
+
+// What an indented line says: the statements that are read, and of the rest what isn't supported.
+#[tactic(auto, unfolding(crate::specs::Clauses::statement_says))]
+fn statement(line: &[u8]) -> Reading<Setting<'_>>
+    ensures { statement_reading result ≡ statement_says (words_of line.now) }
+{
+    if let Some(rest) = after_match(line) {
+        return lists(rest);
+    }
+    if let Some(rest) = after_two(line, "set", "local-preference") {
+        return preference(rest);
+    }
+    if let Some(rest) = after_two(line, "set", "metric") {
+        return metric(rest);
+    }
+    if let Some(rest) = after_three(line, "set", "as-path", "prepend") {
+        return prepend(rest);
+    }
+    if let Some(rest) = after_three(line, "set", "origin", "igp") {
+        return alone(Setting::Origin(OriginCode::Igp), rest);
+    }
+    if let Some(rest) = after_three(line, "set", "origin", "incomplete") {
+        return alone(Setting::Origin(OriginCode::Incomplete), rest);
+    }
+    if is_unsupported(line) {
+        return Reading::Faulty(Cause::Unsupported);
+    }
+    Reading::Outside
+}
+
+// What an unindented line says: it may be a header.
+fn opening(line: &[u8]) -> Reading<Setting<'_>>
+    ensures { statement_reading result ≡ said_as (λ h. Opens h) (header_says (words_of line.now)) }
+{
+    match read_clause_header(line) {
+        Reading::Outside => Reading::Outside,
+        Reading::Faulty(cause) => Reading::Faulty(cause),
+        Reading::Says(header) => Reading::Says(Setting::Opens(header)),
+    }
+}
+
+/// What a line of a clause's block says.
+pub(crate) fn read_setting(text: &[u8]) -> Reading<Setting<'_>>
+    ensures { statement_reading result ≡ text_says text.now }
+{
+    if is_indented(text) {
+        statement(text)
+    } else {
+        opening(text)
+    }
+}
