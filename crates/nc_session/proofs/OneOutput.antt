@@ -1,5 +1,5 @@
 -- The definitions allow one output and one status for the same words, files and session.
-use Rattle.std.proofs.Common.{◌≡◌, ◌⊎◌, ℕ, zero, suc, ◌+◌, ◌<◌, Bool, true, false, List, [], ◌∷◌, ◌++◌, length, map, Option, Some, None, Result, Ok, Err, Any, inl, inr, refl, sym, ap, ◌∙◌, subst, arith}
+use Rattle.std.proofs.Common.{◌≡◌, ℕ, suc, ◌+◌, ◌<◌, Bool, true, false, List, [], ◌∷◌, ◌++◌, length, map, Option, Some, None, Result, Ok, Err, inl, inr, refl, sym, ap, ◌∙◌, subst, arith}
 use Rattle.std.specs.Prelude.{slice_get, slice_index_or, nat_lt}
 use Rattle.nc_types.specs.Config.{ConfigView}
 use Rattle.nc_types.specs.Network.{owner_at, router_named}
@@ -70,7 +70,7 @@ lists_once Is once (c ∷ cs) (x ∷ xs) [] m n p q = absurd (omega (arith, n))
 lists_once Is once (c ∷ cs) (x ∷ xs) (y ∷ ys) m n p q =
     ap (λ z. z ∷ xs) (once 0 c x y (p 0 c x refl refl) (q 0 c y refl refl))
     ∙ ap (λ l. y ∷ l) (
-        lists_once (λ k d s. Is (suc k) d s) (λ k d s t. once (suc k) d s t) cs xs ys (omega (arith, m)) (omega (arith, n)) (λ k d s at made. p (suc k) d s at made) (λ k d s at made. q (suc k) d s at made))
+    lists_once (λ k d s. Is (suc k) d s) (λ k d s t. once (suc k) d s t) cs xs ys (omega (arith, m)) (omega (arith, n)) (λ k d s at made. p (suc k) d s at made) (λ k d s at made. q (suc k) d s at made))
 
 -- ---- one report
 

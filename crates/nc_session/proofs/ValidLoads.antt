@@ -1,22 +1,21 @@
 -- What is loaded is a valid network, and has a state.
-use Rattle.std.proofs.Common.{◌≡◌, ℕ, ◌<◌, ◌≤◌, Bool, true, false, cond, nat_le, List, [], ◌∷◌, length, All, Option, Some, None, Result, Ok, Err, refl, sym, ap, ◌∙◌, subst, arith}
-use Rattle.std.specs.Prelude.{nat_lt, if◌then◌else◌}
+use Rattle.std.proofs.Common.{◌≡◌, ℕ, ◌≤◌, Bool, true, false, cond, nat_le, List, [], ◌∷◌, length, All, Option, Some, None, Result, Ok, Err, refl, ap, ◌∙◌, subst, arith}
 use Rattle.std.specs.Option.{option_map_or}
 use Rattle.std.proofs.lemmas.Bool.{leb-true}
 use Rattle.std.proofs.lemmas.List.Elements.{All-cons}
 use Rattle.nc_types.specs.Config.{ConfigView}
-use Rattle.nc_types.specs.Joining.{Clash, IsValid, earliest, same_names, overlaps, same_addresses, undefined}
+use Rattle.nc_types.specs.Joining.{Clash, IsValid, same_names, overlaps, same_addresses, undefined}
 use Rattle.nc_types.specs.WellFormed.{IsWellFormed}
 use Rattle.nc_types.specs.declared.fault.Fault.{Fault}
 use Rattle.nc_outside.specs.Named.{Named, content_of}
 use Rattle.nc_lines.specs.Lines.{lines_of}
 use Rattle.nc_reader.specs.Configuration.{configuration}
 use Rattle.nc_network.specs.Judged.{ClashKind, Names, Overlaps, Addresses, References, Judgement, Clashing, OverLimit, Fine, or_clash, judged}
-use Rattle.nc_tables.specs.State.{HaveNoProcess, IsState, static_state}
+use Rattle.nc_tables.specs.State.{IsState, static_state}
 use Rattle.nc_stable.proofs.WithoutBgp.{is_state}
 use Rattle.nc_session.specs.declared.TheConstants.{ROUTER_LIMIT, FILE_LIMIT, LINE_LIMIT}
 use Rattle.nc_session.specs.declared.refusal.Quantity.TheVariants.{Routers, Bytes, Lines}
-use Rattle.nc_session.specs.Output.{Refusal, WrongWords, TooMany, Missing, files_of, load, load_result, load_lines, load_content, load_each, and_then, load_judged, load_joined, load_names}
+use Rattle.nc_session.specs.Output.{Refusal, WrongWords, TooMany, files_of, load, load_result, load_lines, load_content, load_each, and_then, load_judged, load_joined, load_names}
 use Rattle.nc_session.proofs.Joined.{configured}
 
 -- ---- joining
@@ -97,7 +96,7 @@ module _ (formed : (lines : List (List ℕ)) (c : ConfigView) → configuration 
       let fine = fine_of names cs routers (judged cs) e in
       let are = loaded cs refl in
       subst (λ (rs : List ConfigView). IsState (static_state rs)) fine.0 (
-          is_state cs (λ k d lt. (are.each k d lt).process) (valid cs (λ k d lt. (are.each k d lt).well) fine.1) (omega (arith, are.count, few)))
+      is_state cs (λ k d lt. (are.each k d lt).process) (valid cs (λ k d lt. (are.each k d lt).well) fine.1) (omega (arith, are.count, few)))
 
   names_state : (names : List (List ℕ)) (files : List Named) (routers : List ConfigView) (few : Bool) → nat_le (length names) ROUTER_LIMIT ≡ few
       → cond few (load_joined names (load_each files names)) (Err (TooMany Routers)) ≡ Ok routers → IsState (static_state routers)
