@@ -1,4 +1,5 @@
 pub mod Lines
+pub mod WholeLines
 pub mod Blocks
 pub mod Numbers
 pub mod Statements

@@ -10,6 +10,8 @@
 pub mod banner;
 mod block;
 pub mod cut;
+pub mod laws;
+pub mod line_end;
 mod lines;
 pub mod numbers;
 pub mod split;
