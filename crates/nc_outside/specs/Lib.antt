@@ -1,4 +1,5 @@
 pub mod Named
 pub mod Counts
+pub mod Ends
 pub mod Memory
 pub mod System

@@ -1,8 +1,12 @@
 -- Objects in memory, as a caller sees them.
-use Rattle.std.specs.Prelude.{ℕ, ◌+◌, ◌-◌, ◌^◌, ◌<◌, ◌≤◌, ◌==◌, min, Bool, false, List, [], Option, Some, None, if◌then◌else◌, drop, length, slice_get, IfSome, IsNone, ◌↔◌, unwrap_or, nat_le, nat_lt, ◌&&◌}
+use Rattle.std.specs.Prelude.{ℕ, ◌-◌, ◌<◌, ◌≤◌, ◌==◌, min, Bool, false, List, [], Option, Some, None, Result, Ok, if◌then◌else◌, drop, length, slice_get, IfSome, IsNone, ◌↔◌, unwrap_or, nat_le, nat_lt, ◌&&◌}
 use Rattle.std.specs.List.{list_any}
 use Rattle.std.specs.Option.{option_map}
+use Rattle.nc_outside.specs.declared.Failed.{Failed}
+use Rattle.nc_outside.specs.declared.end.End.{End}
 use Rattle.nc_outside.specs.Named.{Named, content_of}
+use Rattle.nc_outside.specs.Counts.{Faults, Entries, one_more}
+use Rattle.nc_outside.specs.Ends.{end_after, end_entered}
 
 -- the calls of an object: the numbers of those that fail, how many were made, and how many failed
 pub record CallCounts : Type 0 where
@@ -14,10 +18,6 @@ pub record CallCounts : Type 0 where
 abbrev pub no_calls : List ℕ → CallCounts
 no_calls fails = record { fails = fails; made = 0; faults = 0 }
 
--- a counter after one more, where it isn't at its last value
-abbrev pub one_more : ℕ → ℕ
-one_more n = min (n + 1) (2 ^ 64 - 1)
-
 -- whether the next call's number is among those that fail
 abbrev pub fails_next : CallCounts → Bool
 fails_next calls = list_any (λ n. n == calls.made) calls.fails
@@ -26,16 +26,35 @@ fails_next calls = list_any (λ n. n == calls.made) calls.fails
 abbrev pub faults_after : Bool → ℕ → ℕ
 faults_after failed faults = if failed then one_more faults else faults
 
+-- the faults of an object that fails in no call but those given: it never does where none is given
+abbrev pub faults_of : CallCounts → Faults
+faults_of calls = record { count = calls.faults; is_steady = length calls.fails == 0 }
+
+-- the faults of an object that may refuse a call besides
+abbrev pub faults_beside : CallCounts → Faults
+faults_beside calls = record { count = calls.faults; is_steady = false }
+
 -- after one more call, which failed or didn't
 abbrev pub after_call : Bool → CallCounts → CallCounts
 after_call failed calls =
     record { fails = calls.fails; made = one_more calls.made; faults = faults_after failed calls.faults }
 
--- files, the entered one with what is left of it as its content, and the calls of `enter` and `read`
+-- files, the entered one with what is left of it as its content, the calls of `enter` and `read`, how often files were
+-- entered, and the end
 pub record FilesState : Type 0 where
   pub files : List Named
   pub entered : Option Named
   pub calls : CallCounts
+  pub entries : ℕ
+  pub end : End
+
+-- before the first call
+abbrev pub no_end : End
+no_end = record { is_told = false; late = 0 }
+
+-- the entries that its users see: it tells no names
+abbrev pub entries_of : ℕ → Entries
+entries_of count = record { count = count; names = None }
 
 -- a file less its first bytes
 abbrev pub less_front : ℕ → Named → Named
@@ -65,22 +84,39 @@ bytes_left (Some file) = file.content
 abbrev pub whole : List Named → List ℕ → Option Named
 whole files name = option_map (λ content. record { name = name; content = content }) (content_of files name)
 
+-- the file of that name is made the entered one, where the call doesn't fail
+abbrev pub entering : FilesState → List ℕ → FilesState
+entering state name =
+    let fails = fails_next state.calls in
+    record state { entered = if fails then None else whole state.files name; calls = after_call fails state.calls }
+
 -- after entering the file of that name
 abbrev pub after_enter : FilesState → List ℕ → FilesState
 after_enter state name =
-    let fails = fails_next state.calls in
-    record { files = state.files; entered = if fails then None else whole state.files name; calls = after_call fails state.calls }
+    record (entering state name) { entries = one_more state.entries; end = end_entered state.end }
 
--- after a read of so many bytes
-abbrev pub after_read : FilesState → ℕ → FilesState
-after_read state count =
-    record { files = state.files; entered = option_map (less_front count) state.entered; calls = after_call false state.calls }
+-- so many bytes are given of the entered file
+abbrev pub giving : FilesState → ℕ → FilesState
+giving state count =
+    record state { entered = option_map (less_front count) state.entered; calls = after_call false state.calls }
+
+-- after a read of so many bytes into so much room
+abbrev pub after_read : FilesState → ℕ → ℕ → FilesState
+after_read state room count =
+    let answer : Result ℕ Failed = Ok count in
+    record (giving state count) { end = end_after room answer state.end }
 
 -- a source: the bytes that are left, the most that each of the first reads gives, and the calls
 pub record SourceState : Type 0 where
   pub rest : List ℕ
   pub pieces : List ℕ
   pub calls : CallCounts
+  pub end : End
+
+-- a source that never fails: the bytes that are left
+pub record PlainState : Type 0 where
+  pub rest : List ℕ
+  pub end : End
 
 -- how many bytes the next read gives into so much room: the least of its piece, the room and what is left
 abbrev pub given : SourceState → ℕ → ℕ

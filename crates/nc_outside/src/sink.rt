@@ -1,6 +1,6 @@
 ghost use Rattle.std.specs.Prelude.{◌<◌, ◌≤◌, ℕ, List, Option, length, IfOk};
 ghost use Rattle.std.specs.Io.KnownBytes.{WriteAppends};
-ghost use Rattle.nc_outside.specs.Counts.{HasCause};
+ghost use Rattle.nc_outside.specs.Counts.{Faults, HasCause};
 
 use crate::Failed;
 
@@ -9,8 +9,9 @@ pub trait Sink {
     /// The bytes that were taken so far, where the object tells them.
     ghost written: { Self → Option (List ℕ) };
 
-    /// How often the outside failed. It never falls, and stays once it is at 2^64 - 1.
-    ghost faults: { Self → ℕ };
+    /// How often the outside failed, and whether it never will. The count never falls, and stays once it
+    /// is at 2^64 - 1.
+    ghost faults: { Self → Faults };
 
     /// Takes bytes from the front of `from`, and answers how many: at least one, unless `from` is empty.
     /// After `Failed` none was taken.

@@ -1,6 +1,6 @@
-ghost use Rattle.std.specs.Prelude.{◌≡◌, ◌||◌, is_err};
-ghost use Rattle.nc_outside.specs.Counts.{HasCause};
-ghost use Rattle.nc_outside.specs.Memory.{no_calls, fails_next, after_call};
+ghost use Rattle.std.specs.Prelude.{◌≡◌, is_err, true};
+ghost use Rattle.nc_outside.specs.Counts.{HasCause, Rose};
+ghost use Rattle.nc_outside.specs.Memory.{no_calls, fails_next, after_call, faults_of, faults_beside};
 
 use crate::Failed;
 use std::marker::Model;
@@ -40,18 +40,29 @@ impl Calls {
         self.made
     }
 
-    /// Counts one more call. It fails where the object refuses it, or where its number is among those given.
-    pub fn make(&mut self, is_refused: bool) -> Result<(), Failed>
-        ensures fails { is_err result ≡ (is_refused || fails_next self.old) }
+    /// Counts one more call, which fails where its number is among those given.
+    pub fn make(&mut self) -> Result<(), Failed>
+        ensures fails { is_err result ≡ fails_next self.old }
         ensures after { self.new ≡ after_call (is_err result) self.old }
-        ensures cause { HasCause self.old.faults self.new.faults result }
+        ensures cause { HasCause (faults_of self.old) (faults_of self.new) result }
+        ensures beside { HasCause (faults_beside self.old) (faults_beside self.new) result }
     {
-        let fails = is_refused || self.fails.contains(&self.made);
+        let fails = self.fails.contains(&self.made);
         self.made = self.made.saturating_add(1);
         if fails {
             self.faults = self.faults.saturating_add(1);
             return Err(Failed);
         }
         Ok(())
+    }
+
+    /// Counts one more call, which the object refuses.
+    pub fn refuse(&mut self) -> Failed
+        ensures after { self.new ≡ after_call true self.old }
+        ensures beside { Rose (faults_beside self.old) (faults_beside self.new) }
+    {
+        self.made = self.made.saturating_add(1);
+        self.faults = self.faults.saturating_add(1);
+        Failed
     }
 }

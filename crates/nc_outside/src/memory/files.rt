@@ -2,13 +2,14 @@ ghost use Rattle.std.specs.Prelude.{◌≡◌, ◌≤◌, ◌<◌, ◌^◌, ◌+
 ghost use Rattle.std.specs.Option.{ForSome, option_and_then, option_map};
 ghost use Rattle.std.specs.Io.KnownBytes.{ReadConsumes};
 ghost use Rattle.nc_outside.specs.Named.{Enters, content_of};
-ghost use Rattle.nc_outside.specs.Counts.{HasCause, HasEnterCause};
-ghost use Rattle.nc_outside.specs.Memory.{no_calls, fails_next, after_call, less_front, name_of_entered, left_of_entered, bytes_left, whole, after_enter, after_read};
+ghost use Rattle.nc_outside.specs.Counts.{HasCause, HasEnterCause, one_entry};
+ghost use Rattle.nc_outside.specs.Ends.{end_after, end_entered};
+ghost use Rattle.nc_outside.specs.Memory.{no_calls, fails_next, after_call, faults_of, entries_of, no_end, less_front, name_of_entered, left_of_entered, bytes_left, whole, entering, giving, after_enter, after_read};
 ghost use Rattle.std.specs.Str.{bytes_eq};
 
 use super::calls::Calls;
 use super::source::copy_front;
-use crate::{Failed, Files};
+use crate::{End, Failed, Files};
 use nc_types::Text;
 use std::marker::Model;
 
@@ -75,6 +76,8 @@ pub struct MemFiles {
     files: Vec<MemFile>,
     place: Option<Place>,
     calls: Calls,
+    entries: u64,
+    end: End,
 }
 
 impl Model for MemFiles {
@@ -89,6 +92,8 @@ impl Model for MemFiles {
       files = s.files.items;
       entered = option_and_then (λ p. file_from s.files.items p.file p.at) s.place;
       calls = s.calls;
+      entries = s.entries;
+      end = s.end;
     } };
 
     ghost invariant = { λ s. ForSome s.place (λ p. IsInside s.files.items p.file p.at) };
@@ -98,45 +103,35 @@ impl MemFiles {
     /// These files, of which none is entered. Calls of `enter` and `read` are counted together from 0: one
     /// whose number is in `fails` fails. Where two files have one name the first is entered.
     pub fn new(files: Vec<MemFile>, fails: Vec<u64>) -> MemFiles
-        ensures { result ≡ record { files = files.items; entered = None; calls = no_calls fails.items } }
+        ensures { result ≡ record {
+          files = files.items;
+          entered = None;
+          calls = no_calls fails.items;
+          entries = 0;
+          end = no_end;
+        } }
     {
         MemFiles {
             files,
             place: None,
             calls: Calls::new(fails),
+            entries: 0,
+            end: End::new(),
         }
     }
-}
 
-impl Files for MemFiles {
-    ghost use Rattle.std.specs.Prelude.{Some};
-    ghost use Rattle.nc_outside.specs.Memory.{name_of_entered, left_of_entered, IsNone-name-left};
-
-    ghost files = { λ s. Some s.files };
-
-    ghost entered = { name_of_entered };
-
-    ghost left = { left_of_entered };
-
-    ghost faults = { λ s. s.calls.faults };
-
-    ghost together = { λ s. (IsNone-name-left s, λ none. Prim.cc) };
-
-    fn enter(&mut self, name: &str) -> Result<(), Failed>
-        ensures files { self.new.files ≡ self.old.files }
-        ensures entered { OnOk result
-            (Enters (Some self.old.files) name.now (name_of_entered self.new) (left_of_entered self.new)) }
-        ensures failed { OnErr result
-            ((name_of_entered self.new ≡ None) × (left_of_entered self.new ≡ None)) }
+    // Enters the first file of that name, or fails.
+    fn go_to(&mut self, name: &str) -> Result<(), Failed>
+        ensures entered { OnOk result (Enters (Some self.old.files) name.now
+            (name_of_entered self.new) (left_of_entered self.new)) }
         ensures cause { HasEnterCause (Some self.old.files) name.now
-            self.old.calls.faults self.new.calls.faults result }
-
+            (faults_of self.old.calls) (faults_of self.new.calls) result }
         ensures fails { is_err result
             ≡ (fails_next self.old.calls || is_none (whole self.old.files name.now)) }
-        ensures after { self.new ≡ after_enter self.old name.now }
+        ensures after { self.new ≡ entering self.old name.now }
     {
         self.place = None;
-        self.calls.make(false)?;
+        self.calls.make()?;
         let Some(file) = place_of(&self.files, name.as_bytes()) else {
             return Err(Failed);
         };
@@ -144,25 +139,23 @@ impl Files for MemFiles {
         Ok(())
     }
 
-    fn read(&mut self, into: &mut [u8]) -> Result<usize, Failed>
-        ensures files { self.new.files ≡ self.old.files }
-        ensures entered { name_of_entered self.new ≡ name_of_entered self.old }
-        ensures within { IfOk result (λ n. n ≤ length into.old) }
-        ensures bytes { ReadConsumes (left_of_entered self.old) (left_of_entered self.new) result into.new }
+    // Gives what is left of the entered file, as far as there is room, or fails.
+    fn give(&mut self, into: &mut [u8]) -> Result<usize, Failed>
+        ensures bytes { ReadConsumes (left_of_entered self.old) (left_of_entered self.new)
+            result into.new }
         ensures none_entered { name_of_entered self.old ≡ None → IfOk result (λ n. n ≡ 0) }
-        ensures cause { HasCause self.old.calls.faults self.new.calls.faults result }
-
+        ensures cause { HasCause (faults_of self.old.calls) (faults_of self.new.calls) result }
         ensures fails { is_err result ≡ fails_next self.old.calls }
         ensures count { IfOk result
             (λ n. n ≡ min (length into.old) (length (bytes_left self.old.entered))) }
         ensures moved { IfOk result
             (λ n. into.new ≡ take n (bytes_left self.old.entered) ++ drop n into.old) }
-        ensures after { IfOk result (λ n. self.new ≡ after_read self.old n) }
+        ensures after { IfOk result (λ n. self.new ≡ giving self.old n) }
         ensures failed { OnErr result
             (self.new ≡ record self.old { calls = after_call true self.old.calls }) }
         ensures untouched { OnErr result (into.new ≡ into.old) }
     {
-        self.calls.make(false)?;
+        self.calls.make()?;
         let Some(place) = self.place else {
             return Ok(0);
         };
@@ -174,5 +167,75 @@ impl Files for MemFiles {
             at: place.at + count,
         });
         Ok(count)
+    }
+}
+
+impl Files for MemFiles {
+    ghost use Rattle.std.specs.Prelude.{Some};
+    ghost use Rattle.nc_outside.specs.Memory.{name_of_entered, left_of_entered, faults_of, entries_of, IsNone-name-left};
+
+    ghost files = { λ s. Some s.files };
+
+    ghost entered = { name_of_entered };
+
+    ghost left = { left_of_entered };
+
+    ghost faults = { λ s. faults_of s.calls };
+
+    ghost entries = { λ s. entries_of s.entries };
+
+    ghost end = { λ s. s.end };
+
+    ghost together = { λ s. (IsNone-name-left s, λ none. Prim.cc) };
+
+    fn enter(&mut self, name: &str) -> Result<(), Failed>
+        ensures files { self.new.files ≡ self.old.files }
+        ensures entered { OnOk result (Enters (Some self.old.files) name.now
+            (name_of_entered self.new) (left_of_entered self.new)) }
+        ensures failed { OnErr result
+            ((name_of_entered self.new ≡ None) × (left_of_entered self.new ≡ None)) }
+        ensures cause { HasEnterCause (Some self.old.files) name.now
+            (faults_of self.old.calls) (faults_of self.new.calls) result }
+        ensures entries { entries_of self.new.entries
+            ≡ one_entry name.now (entries_of self.old.entries) }
+        ensures end { self.new.end ≡ end_entered self.old.end }
+
+        ensures fails { is_err result
+            ≡ (fails_next self.old.calls || is_none (whole self.old.files name.now)) }
+        ensures after { self.new ≡ after_enter self.old name.now }
+    {
+        self.entries = self.entries.saturating_add(1);
+        self.end = self.end.entered();
+        self.go_to(name)?;
+        Ok(())
+    }
+
+    fn read(&mut self, into: &mut [u8]) -> Result<usize, Failed>
+        ensures files { self.new.files ≡ self.old.files }
+        ensures entered { name_of_entered self.new ≡ name_of_entered self.old }
+        ensures within { IfOk result (λ n. n ≤ length into.old) }
+        ensures bytes { ReadConsumes (left_of_entered self.old) (left_of_entered self.new)
+            result into.new }
+        ensures none_entered { name_of_entered self.old ≡ None → IfOk result (λ n. n ≡ 0) }
+        ensures cause { HasCause (faults_of self.old.calls) (faults_of self.new.calls) result }
+        ensures entries { entries_of self.new.entries ≡ entries_of self.old.entries }
+        ensures end { self.new.end ≡ end_after (length into.old) result self.old.end }
+
+        ensures fails { is_err result ≡ fails_next self.old.calls }
+        ensures count { IfOk result
+            (λ n. n ≡ min (length into.old) (length (bytes_left self.old.entered))) }
+        ensures moved { IfOk result
+            (λ n. into.new ≡ take n (bytes_left self.old.entered) ++ drop n into.old) }
+        ensures after { IfOk result (λ n. self.new ≡ after_read self.old (length into.old) n) }
+        ensures failed { OnErr result (self.new ≡ record self.old {
+          calls = after_call true self.old.calls;
+          end = end_after (length into.old) result self.old.end;
+        }) }
+        ensures untouched { OnErr result (into.new ≡ into.old) }
+    {
+        let room = into.len();
+        let answer = self.give(into);
+        self.end = self.end.after(room, answer);
+        answer
     }
 }

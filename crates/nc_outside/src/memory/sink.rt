@@ -1,14 +1,15 @@
 ghost use Rattle.std.specs.Prelude.{◌≡◌, ◌≤◌, ◌<◌, ◌+◌, ◌-◌, ◌^◌, ◌++◌, ◌||◌, [], min, length, take, Some, None, IfOk, OnErr, is_err, Ok, true, false};
 ghost use Rattle.std.specs.Io.KnownBytes.{WriteAppends};
 ghost use Rattle.nc_outside.specs.Counts.{HasCause};
-ghost use Rattle.nc_outside.specs.Memory.{no_calls, fails_next, after_call, overflows, taken};
+ghost use Rattle.nc_outside.specs.Memory.{no_calls, fails_next, after_call, overflows, taken, faults_beside};
 
 use super::calls::Calls;
 use crate::{Failed, Sink};
 use std::alloc::{AllocError, Global};
 use std::marker::Model;
 
-/// A sink that keeps what it takes, has room for so many bytes, and fails at given writes.
+/// A sink that keeps what it takes, has room for so many bytes, and fails at given writes. Since it fails once
+/// it is full, it never says that it is steady.
 #[derive(Drop)]
 pub struct MemSink {
     bytes: Vec<u8>,
@@ -52,13 +53,13 @@ impl MemSink {
 impl Sink for MemSink {
     ghost written = { λ s. Some s.written };
 
-    ghost faults = { λ s. s.calls.faults };
+    ghost faults = { λ s. faults_beside s.calls };
 
     fn write(&mut self, from: &[u8]) -> Result<usize, Failed>
         ensures within { IfOk result (λ n. n ≤ length from.now) }
         ensures some { IfOk result (λ n. 0 < length from.now → 0 < n) }
         ensures bytes { WriteAppends (Some self.old.written) (Some self.new.written) result from.now }
-        ensures cause { HasCause self.old.calls.faults self.new.calls.faults result }
+        ensures cause { HasCause (faults_beside self.old.calls) (faults_beside self.new.calls) result }
 
         ensures fails { is_err result ≡ (overflows self.old from.now || fails_next self.old.calls) }
         ensures count { IfOk result (λ n. n ≡ taken self.old from.now) }
@@ -69,8 +70,10 @@ impl Sink for MemSink {
         ensures failed { OnErr result
             (self.new ≡ record self.old { calls = after_call true self.old.calls }) }
     {
-        let is_full = !from.is_empty() && self.bytes.len() >= self.room;
-        self.calls.make(is_full)?;
+        if !from.is_empty() && self.bytes.len() >= self.room {
+            return Err(self.calls.refuse());
+        }
+        self.calls.make()?;
         let count = from.len().min(self.room - self.bytes.len());
         self.bytes
             .extend_from_slice(from.split_at(count).0)
@@ -112,12 +115,11 @@ impl CountSink {
 impl Sink for CountSink {
     ghost written = { λ _. None };
 
-    ghost faults = { λ _. 0 };
+    ghost faults = { λ _. record { count = 0; is_steady = true } };
 
     fn write(&mut self, from: &[u8]) -> Result<usize, Failed>
         ensures within { IfOk result (λ n. n ≤ length from.now) }
         ensures some { IfOk result (λ n. 0 < length from.now → 0 < n) }
-        ensures cause { HasCause 0 0 result }
 
         ensures all { result ≡ Ok (length from.now) }
         ensures count { self.new ≡ min (self.old + length from.now) (2 ^ 64 - 1) }

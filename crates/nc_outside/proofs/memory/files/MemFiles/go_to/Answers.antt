@@ -1,5 +1,5 @@
 use Rattle.nc_outside.proofs.Places.{Enters-first}
-use Rattle.nc_outside.proofs.memory.files.MemFilesFiles.enter.Goals as goal
+use Rattle.nc_outside.proofs.memory.files.MemFiles.go_to.Goals as goal
 
 pub returns-clause-entered : goal.returns-clause-entered
 returns-clause-entered c =

@@ -1,6 +1,6 @@
 use Rattle.std.proofs.Common.{length, ap, arith, length-drop}
 use Rattle.nc_outside.proofs.Places.{Reads-inside, consumes_front}
-use Rattle.nc_outside.proofs.memory.files.MemFilesFiles.read.Goals as goal
+use Rattle.nc_outside.proofs.memory.files.MemFiles.give.Goals as goal
 
 pub overflow_add-self : goal.overflow_add-self
 overflow_add-self c =
