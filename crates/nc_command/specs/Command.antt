@@ -10,6 +10,7 @@ use Rattle.nc_types.specs.declared.command.TestCommand.{TestCommand}
 use Rattle.nc_types.specs.declared.command.TestCommand.TheVariants.{Rib, Bgp, Session, Reach, Every, Element}
 use Rattle.nc_lines.specs.Lines.{words_of}
 use Rattle.nc_lines.specs.Numbers.{address_of, prefix_of}
+use Rattle.nc_command.specs.declared.TheConstants.{LINE_LIMIT}
 use Rattle.nc_command.specs.declared.command.Command.{Command}
 use Rattle.nc_command.specs.declared.command.Command.TheVariants.{Test, Quit}
 use Rattle.nc_command.specs.declared.fault.CommandFault.{CommandFault}
@@ -62,7 +63,7 @@ asked_by (word ∷ words) =
 
 -- what a line of a session is, by its bytes
 unfoldable pub command_of : List ℕ → Line
-command_of line = if nat_lt 4096 (length line) then TooLong else asked_by (words_of line)
+command_of line = if nat_lt LINE_LIMIT (length line) then TooLong else asked_by (words_of line)
 
 -- the answer of a reader tells what the line is; where memory is refused it tells nothing
 abbrev pub IsRead : Line → Result (Option Command) CommandFault → Type 0

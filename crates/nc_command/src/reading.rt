@@ -5,15 +5,13 @@ ghost use Rattle.std.specs.Option.{option_map};
 ghost use Rattle.nc_lines.specs.Lines.{words_of};
 ghost use Rattle.nc_command.specs.Command.{address_behind, rib_of, command_of, IsRead};
 
+use crate::LINE_LIMIT;
 use crate::command::Command;
 use crate::fault::CommandFault;
 use nc_lines::cut::cut_word;
 use nc_lines::numbers::{read_address, read_prefix};
 use nc_types::{Addr, TestCommand, Text};
 use std::alloc::{AllocError, Global};
-
-/// How many bytes a line may have, without its line end.
-pub const LINE_LIMIT: usize = 4096;
 
 // What may stand at the end of a line: nothing, or a key word and an address. None where it is another
 // thing.

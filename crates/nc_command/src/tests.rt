@@ -4,65 +4,40 @@ use std::alloc::Global;
 use std::process::Abort;
 use std::test::Fail;
 
-// What a line is: the text of its test, or a word in brackets.
-fn told(alloc: Global, line: &[u8]) -> Result<Vec<u8>, Fail> {
-    let text = match read_command(alloc, line) {
-        Ok(Some(Command::Test(test))) => test_text(alloc, &test)?,
-        Ok(Some(Command::Quit)) => b"<quit>".to_vec(alloc)?,
-        Ok(None) => b"<passed over>".to_vec(alloc)?,
-        Err(CommandFault::Long) => b"<long>".to_vec(alloc)?,
-        Err(CommandFault::Syntax) => b"<syntax>".to_vec(alloc)?,
-        Err(CommandFault::Memory) => b"<memory>".to_vec(alloc)?,
-    };
-    Ok(text)
-}
-
-#[test]
-fn lines(rt: HostRuntime) -> Result<(), Fail> {
-    // a line, and what it is
-    let lines = [
-        ("", "<passed over>"),
-        (" \t ", "<passed over>"),
-        ("#", "<passed over>"),
-        (" #rib r1 10.0.0.0/24", "<passed over>"),
-        ("rib r1 10.0.0.0/24", "rib r1 10.0.0.0/24"),
-        (" rib\tr1  0.0.0.0/0 ", "rib r1 0.0.0.0/0"),
-        ("rib # 10.0.0.1/32", "rib # 10.0.0.1/32"),
-        (
-            "rib r1 10.0.0.0/24 via 10.0.0.2",
-            "rib r1 10.0.0.0/24 via 10.0.0.2",
-        ),
-        ("rib", "<syntax>"),
-        ("rib r1", "<syntax>"),
-        ("rib r1 10.0.0.1/24", "<syntax>"),
-        ("rib r1 10.0.0.0", "<syntax>"),
-        ("rib r1 10.0.0.0/33", "<syntax>"),
-        ("rib r1 10.0.0.0/24 via", "<syntax>"),
-        ("rib r1 10.0.0.0/24 via 10.0.0", "<syntax>"),
-        ("rib r1 10.0.0.0/24 via 10.0.0.2 #", "<syntax>"),
-        ("rib r1 10.0.0.0/24 from 1.2.3.4", "<syntax>"),
-        ("Rib r1 10.0.0.0/24", "<syntax>"),
-        ("quit", "<quit>"),
-        ("  quit ", "<quit>"),
-        ("quit x", "<syntax>"),
-        ("exit", "<syntax>"),
-    ];
-    for (line, wanted) in lines {
-        let told = told(rt.alloc(), line.as_bytes())?;
-        assert_eq!(rt; told.as_slice(), wanted.as_bytes(), "{line}");
+// Tells what was cut: the bytes of a line, or that it is too long, and a bar.
+fn tell(told: &mut Vec<u8>, cut: Option<Cut>) -> Result<(), Fail> {
+    match cut {
+        Some(Cut::Line(line)) => told.extend_from_slice(line.bytes())?,
+        Some(Cut::Long) => told.extend_from_slice(b"<long>")?,
+        None => return Ok(()),
     }
+    told.push(b'|')?;
     Ok(())
 }
 
+// What is cut of a text that is pushed byte by byte.
+fn cuts_of(alloc: Global, text: &[u8]) -> Result<Vec<u8>, Fail> {
+    let mut cutter = Cutter::new(alloc);
+    let mut told = Vec::new(alloc);
+    for byte in text {
+        tell(&mut told, cutter.push(*byte)?)?;
+    }
+    tell(&mut told, cutter.end())?;
+    Ok(told)
+}
+
 #[test]
-fn long_lines(rt: HostRuntime) -> Result<(), Fail> {
-    let blank = vec![in rt.alloc(); b' '; 4096]?;
-    assert_eq!(rt;
-        told(rt.alloc(), &blank)?.as_slice(),
-        b"<passed over>".as_slice()
-    );
-    let longer = vec![in rt.alloc(); b'#'; 4097]?;
-    assert_eq!(rt; told(rt.alloc(), &longer)?.as_slice(), b"<long>".as_slice());
+fn cuts(rt: HostRuntime) -> Result<(), Fail> {
+    let short = cuts_of(rt.alloc(), b"a\r\n\n b\r\r\nc")?;
+    assert_eq!(rt; short.as_slice(), b"a|| b\r|c|".as_slice());
+    let mut text = vec![in rt.alloc(); b'a'; 4096]?;
+    text.extend_from_slice(b"\r\n")?;
+    let longest = cuts_of(rt.alloc(), &text)?;
+    assert_eq!(rt; longest.len(), 4097);
+    let mut text = vec![in rt.alloc(); b'a'; 4097]?;
+    text.extend_from_slice(b"\nb\n")?;
+    let long = cuts_of(rt.alloc(), &text)?;
+    assert_eq!(rt; long.as_slice(), b"<long>|b|".as_slice());
     Ok(())
 }
 
@@ -73,6 +48,7 @@ fn see(rt: &impl Abort, alloc: Global, test: TestCommand, wanted: &str) -> Resul
     Ok(())
 }
 
+// The texts of tests that no line asks yet.
 #[test]
 fn texts(rt: HostRuntime) -> Result<(), Fail> {
     let alloc = rt.alloc();
