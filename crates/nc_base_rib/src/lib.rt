@@ -13,6 +13,3 @@ mod nearest;
 mod tables;
 
 pub use tables::base_tables;
-
-#[cfg(test)]
-mod tests;

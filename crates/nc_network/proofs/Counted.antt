@@ -3,6 +3,7 @@ use Rattle.std.proofs.Common.{◌≡◌, ◌<◌, ◌≤◌, Bool, true, false, 
 use Rattle.std.specs.List.{filter_map, cons_option, list_any}
 use Rattle.std.proofs.lemmas.Bool.{both_ways}
 use Rattle.std.proofs.lemmas.List.{append_assoc, append-nil, length_push}
+use Rattle.nc_network.specs.declared.TheConstants.{PREFIX_LIMIT}
 use Rattle.nc_types.specs.Cidr.{Cidr}
 use Rattle.nc_network.specs.Judged.{same_prefix, new_after}
 use Rattle.nc_network.specs.Steps.{added, Fits}
@@ -41,7 +42,7 @@ pub left-more : (start now new total ps xs ys : List Cidr) → IsLeft start now 
 left-more start now new total ps xs ys left cut new_is =
     record { rest = ap (λ (ks : List Cidr). added ks xs) new_is ∙ sym (added-append now ps xs) ∙ ap (added now) (sym cut) ∙ left.rest }
 
-pub left-many : (start now total ps xs ys : List Cidr) → IsLeft start now ys total → ys ≡ ps ++ xs → 1024 < length (added now ps) → 1024 < length (added start total)
+pub left-many : (start now total ps xs ys : List Cidr) → IsLeft start now ys total → ys ≡ ps ++ xs → PREFIX_LIMIT < length (added now ps) → PREFIX_LIMIT < length (added start total)
 left-many start now total ps xs ys left cut many =
     let same : length (added (added now ps) xs) ≡ length (added start total) = ap length (sym (added-append now ps xs) ∙ ap (added now) (sym cut) ∙ left.rest) in
     omega (arith, added-grows (added now ps) xs)
@@ -50,9 +51,9 @@ left-many start now total ps xs ys left cut many =
 pub both-fit : (fits : Bool) (old mid new ps qs : List Cidr) → mid ≡ added old ps → Fits fits mid new qs → Fits fits old new (ps ++ qs)
 both-fit fits old mid new ps qs first second =
     let joined : added mid qs ≡ added old (ps ++ qs) = ap (λ (ks : List Cidr). added ks qs) first ∙ sym (added-append old ps qs) in
-    record { some = λ e. second.some e ∙ joined; many = λ e. subst (λ (ks : List Cidr). 1024 < length ks) joined (second.many e) }
+    record { some = λ e. second.some e ∙ joined; many = λ e. subst (λ (ks : List Cidr). PREFIX_LIMIT < length ks) joined (second.many e) }
 
-pub first-many : (old ps qs : List Cidr) → 1024 < length (added old ps) → 1024 < length (added old (ps ++ qs))
+pub first-many : (old ps qs : List Cidr) → PREFIX_LIMIT < length (added old ps) → PREFIX_LIMIT < length (added old (ps ++ qs))
 first-many old ps qs many =
     let same : length (added old (ps ++ qs)) ≡ length (added (added old ps) qs) = ap length (added-append old ps qs) in
     omega (arith, added-grows (added old ps) qs)

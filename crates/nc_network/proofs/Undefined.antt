@@ -1,8 +1,8 @@
 -- References that are looked up in sets of names.
-use Rattle.std.proofs.Common.{◌≡◌, ℕ, Bool, cond, List, [], ◌∷◌, ◌++◌, Option, Some, None, map, sym, ap, ◌∙◌}
-use Rattle.std.specs.List.{flat_map, filter_map, list_any}
+use Rattle.std.proofs.Common.{◌≡◌, ℕ, Bool, false, cond, ◌||◌, List, [], ◌∷◌, ◌++◌, Option, Some, None, map, refl, sym, ap, ◌∙◌}
+use Rattle.std.specs.List.{cons_option, flat_map, filter_map, list_any}
 use Rattle.std.specs.Str.{bytes_eq}
-use Rattle.std.specs.Option.{option_map, option_map_or, option_to_list}
+use Rattle.std.specs.Option.{is_some, option_map, option_map_or, option_to_list}
 use Rattle.nc_types.specs.declared.config.Reference.{Reference}
 use Rattle.nc_types.specs.declared.config.Interface.{Interface}
 use Rattle.nc_types.specs.declared.config.StaticRoute.{StaticRoute}
@@ -46,6 +46,29 @@ abbrev map_uses : Option ProcessView → List Reference
 map_uses p = option_map_or (λ p. filter_map (λ n. n.map_in) p.neighbors ++ filter_map (λ n. n.map_out) p.neighbors) p []
 
 -- ---- interfaces
+
+none_through : (ss : List StaticRoute) → list_any (λ s. is_some (interface_by s.via)) ss ≡ false → filter_map (λ s. interface_by s.via) ss ≡ []
+none_through [] e = refl
+none_through (s ∷ ss) e = by_via (interface_by s.via) (none_through ss) e
+  where
+    by_via : (o : Option Reference) → (list_any (λ s. is_some (interface_by s.via)) ss ≡ false → filter_map (λ s. interface_by s.via) ss ≡ []) → (is_some o || list_any (λ s. is_some (interface_by s.via)) ss) ≡ false
+        → cons_option o (filter_map (λ s. interface_by s.via) ss) ≡ []
+    by_via None rest e = rest e
+    by_via (Some r) rest e = absurd cc
+
+pub none_is : {X : Type 0} (o : Option X) → is_some o ≡ false → o ≡ None
+none_is None e = refl
+none_is (Some x) e = absurd cc
+
+-- where there is no process and no route leads through an interface, nothing refers to one
+pub interfaces-unused : (router : ℕ) (config : RouterConfig) (found : Option Clash) → config.process ≡ None → list_any (λ s. is_some (interface_by s.via)) config.statics.items ≡ false
+    → found ≡ merge found (earliest (undefined_interfaces (numbered router config)))
+interfaces-unused router config found none unused =
+    let names = map (λ (i : Interface). i.name) config.interfaces.items in
+    let refer : List Reference = filter_map (λ (s : StaticRoute). interface_by s.via) config.statics.items in
+    let nothing : refer ++ source_references (option_map process_view config.process) ≡ [] =
+    ap (λ (rs : List Reference). rs ++ source_references (option_map process_view config.process)) (none_through config.statics.items unused) ∙ ap (λ (p : Option Process). source_references (option_map process_view p)) none in
+    sym (merge-none found) ∙ ap (λ (rs : List Reference). merge found (earliest (flat_map (undefined_by router names) rs))) (sym nothing)
 
 interfaces_parts : (router : ℕ) (config : RouterConfig) (keys : List (List ℕ)) (process : Option Process) → config.process ≡ process → Knows keys (map (λ i. i.name) config.interfaces.items)
     → earliest (undefined_interfaces (numbered router config)) ≡ merge (first_of_all (vias router keys) config.statics.items) (first_of_all (undefined_by router keys) (source_references (option_map process_view process)))

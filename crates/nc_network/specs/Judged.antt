@@ -5,6 +5,7 @@ use Rattle.std.specs.Option.{option_map, option_map_or}
 use Rattle.nc_types.specs.Cidr.{Cidr}
 use Rattle.nc_types.specs.Config.{ProcessView, ConfigView}
 use Rattle.nc_types.specs.Joining.{Clash, earliest, same_names, overlaps, same_addresses, undefined}
+use Rattle.nc_network.specs.declared.TheConstants.{PREFIX_LIMIT, NEIGHBOR_LIMIT}
 use Rattle.nc_network.specs.declared.fault.LimitWord.{LimitWord}
 use Rattle.nc_network.specs.declared.fault.LimitWord.TheVariants.{Prefixes, Neighbours}
 
@@ -59,11 +60,11 @@ abbrev pub or_clash : ClashKind → List Clash → Judgement → Judgement
 or_clash kind clashes behind = option_map_or (Clashing kind) (earliest clashes) behind
 
 -- too many of what is counted, or what is behind
-abbrev pub or_limit : LimitWord → ℕ → Judgement → Judgement
-or_limit which count behind = if nat_lt 1024 count then OverLimit which else behind
+abbrev pub or_limit : LimitWord → ℕ → ℕ → Judgement → Judgement
+or_limit which most count behind = if nat_lt most count then OverLimit which else behind
 
 -- names are looked at first, then overlaps, addresses and references, and the limits last
 abbrev pub judged : List ConfigView → Judgement
 judged routers =
     or_clash Names (same_names routers) (or_clash Overlaps (overlaps routers) (or_clash Addresses (same_addresses routers) (or_clash References (undefined routers)
-    (or_limit Prefixes (prefix_count routers) (or_limit Neighbours (neighbor_count routers) Fine)))))
+    (or_limit Prefixes PREFIX_LIMIT (prefix_count routers) (or_limit Neighbours NEIGHBOR_LIMIT (neighbor_count routers) Fine)))))

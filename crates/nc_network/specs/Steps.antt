@@ -9,6 +9,7 @@ use Rattle.nc_types.specs.declared.addr.Addr.{Addr}
 use Rattle.nc_types.specs.declared.config.Interface.{Interface}
 use Rattle.nc_types.specs.Network.{up_of}
 use Rattle.nc_types.specs.Joining.{Clash, Numbered, Used, before_or, earlier, earliest, used_by, same_address, is_inside, undefined_by, interface_references, map_references, list_references}
+use Rattle.nc_network.specs.declared.TheConstants.{PREFIX_LIMIT}
 use Rattle.nc_network.specs.declared.clash.Place.{Place}
 use Rattle.nc_network.specs.Judged.{same_prefix}
 
@@ -44,7 +45,7 @@ added seen (p ∷ ps) = added (if list_any (same_prefix p) seen then seen else s
 -- more prefixes were added to the old ones, or else there are too many
 pub record Fits (fits : Bool) (old new ps : List Cidr) : Type 0 where
   pub some : fits ≡ true → new ≡ added old ps
-  pub many : fits ≡ false → 1024 < length (added old ps)
+  pub many : fits ≡ false → PREFIX_LIMIT < length (added old ps)
 
 -- ---- tables that keep the lowest of what has one key
 

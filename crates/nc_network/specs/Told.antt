@@ -12,7 +12,7 @@ router_of number = record { 0 = number }
 
 -- the fault that a clash is
 abbrev pub clash_fault : ClashKind → Clash → JoinFault
-clash_fault Names c = SameName (router_of c.first) (router_of c.second)
+clash_fault Names c = SameName (router_of c.first) (router_of c.second) c.second_line
 clash_fault Overlaps c = Overlap (router_of c.first) c.first_line c.second_line
 clash_fault Addresses c = SameAddress (router_of c.first) c.first_line (router_of c.second) c.second_line
 clash_fault References c = Undefined (router_of c.first) c.first_line

@@ -4,6 +4,7 @@ ghost use Rattle.std.specs.Prelude.{◌≡◌, ◌≤◌, ◌++◌, List, length
 ghost use Rattle.std.specs.List.{filter_map};
 ghost use Rattle.std.specs.Map.{lookup};
 ghost use Rattle.std.specs.Option.{option_map, option_to_list};
+ghost use Rattle.nc_types.specs.declared.TheConstants.{ROUTER_LIMIT};
 ghost use Rattle.nc_types.specs.Config.{config_view};
 ghost use Rattle.nc_types.specs.Joining.{Used, earliest, same_addresses};
 ghost use Rattle.nc_network.specs.Steps.{merge, first_of_all, lower_place, used_of, Heads, Notes, by_address, pair_up, address_pairs};
@@ -129,7 +130,7 @@ pub(crate) fn address_clash(
     alloc: Global,
     routers: &[RouterConfig],
 ) -> Result<Option<LinePair>, AllocError>
-    requires { length routers.now ≤ 256 }
+    requires { length routers.now ≤ ROUTER_LIMIT }
     ensures { IfOk result (λ r. r ≡ earliest (same_addresses (map config_view routers.now))) }
 {
     let mut heads = IndexMap::new(alloc);

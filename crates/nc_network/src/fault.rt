@@ -7,23 +7,25 @@ use nc_types::RouterId;
 use std::alloc::{AllocError, AllocFailed};
 use thiserror::Error;
 
-/// What there may be no more than 1,024 of, over all files.
+/// What there may be only so many of, over all files.
 #[derive(Clone, Copy, Debug, PartialEq, Eq)]
 pub enum LimitWord {
-    /// Distinct prefixes: of interfaces that have an address, of static routes, of networks and of aggregates.
+    /// Distinct prefixes: of interfaces that have an address, of static routes, of networks and of aggregates;
+    /// at most [`crate::PREFIX_LIMIT`].
     Prefixes,
-    /// Neighbors of BGP processes.
+    /// Neighbors of BGP processes; at most [`crate::NEIGHBOR_LIMIT`].
     Neighbours,
 }
 
 /// Why several configurations make no network. Routers are told by the places of their files, from 0.
 #[derive(Clone, Copy, Debug, PartialEq, Eq, Error)]
 pub enum JoinFault {
-    /// Two routers have one name.
-    #[error("two routers of one name")]
+    /// Two routers have one name, by the line that gives it to the second of them.
+    #[error("line {line} gives a name that another router has")]
     SameName {
         first: RouterId,
         second: RouterId,
+        line: u32,
     },
     /// Two interfaces of one router that are up, whose prefixes overlap, by the lines of their addresses.
     #[error("the prefixes of lines {first} and {second} overlap")]
@@ -46,7 +48,7 @@ pub enum JoinFault {
         router: RouterId,
         line: u32,
     },
-    /// More than 1,024 of something.
+    /// More prefixes or neighbors than there may be.
     #[error("too many prefixes or neighbors")]
     Limit {
         which: LimitWord,

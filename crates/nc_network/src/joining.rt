@@ -1,6 +1,7 @@
 //! Whether several configurations go together, and the network that they make.
 
 ghost use Rattle.std.specs.Prelude.{◌≡◌, ◌≤◌, length, map, All, OnOk, IfOk};
+ghost use Rattle.nc_types.specs.declared.TheConstants.{ROUTER_LIMIT, LINE_LIMIT};
 ghost use Rattle.nc_types.specs.Config.{config_view};
 ghost use Rattle.nc_types.specs.WellFormed.{IsWellFormed};
 ghost use Rattle.nc_types.specs.Joining.{IsValid};
@@ -24,6 +25,7 @@ fn same_name(pair: LinePair) -> JoinFault
     JoinFault::SameName {
         first: RouterId(pair.first),
         second: RouterId(pair.second),
+        line: pair.second_line,
     }
 }
 
@@ -63,10 +65,10 @@ fn undefined(pair: LinePair) -> JoinFault
 /// Finds out whether several configurations go together. Faults are looked for in this order: two routers
 /// of one name; two interfaces of one router that are up, one prefix inside the other; interfaces of two
 /// routers that are up and have one address; a statement that refers to what its router doesn't define; more
-/// than 1,024 distinct prefixes; more than 1,024 neighbors. Of one kind that of the first router, first line,
-/// second router and second line is told. `Memory` may come in place of each answer.
+/// distinct prefixes than [`crate::PREFIX_LIMIT`]; more neighbors than [`crate::NEIGHBOR_LIMIT`]. Of one kind that
+/// of the first router, first line, second router and second line is told. `Memory` may come in place of each answer.
 pub fn judge(alloc: Global, routers: &[RouterConfig]) -> Result<(), JoinFault>
-    requires { length routers.now ≤ 256 }
+    requires { length routers.now ≤ ROUTER_LIMIT }
     ensures told { IsTold (judged (map config_view routers.now)) result }
     ensures valid { OnOk result (All IsWellFormed (map config_view routers.now) → IsValid (map config_view routers.now)) }
 {
@@ -95,19 +97,16 @@ pub fn judge(alloc: Global, routers: &[RouterConfig]) -> Result<(), JoinFault>
     Ok(())
 }
 
-/// Makes one network of the configurations of several routers, each of a file of at most 65,535 lines; a
+/// Makes one network of the configurations of several routers, each of a file of at most [`nc_types::LINE_LIMIT`] lines; a
 /// router's number is its place among them. A fault is told where [`judge`] tells it, and then no network is
 /// made; `Memory` may come in place of each answer.
 pub fn join(alloc: Global, routers: Vec<RouterConfig>) -> Result<Network, JoinFault>
-    requires few { length routers.items ≤ 256 }
+    requires few { length routers.items ≤ ROUTER_LIMIT }
     requires formed { All IsWellFormed (map config_view routers.items) }
-    requires lines { All (λ c. c.line_count ≤ 65535) routers.items }
+    requires lines { All (λ c. c.line_count ≤ LINE_LIMIT) routers.items }
     ensures told { IsTold (judged (map config_view routers.items)) result }
     ensures network { IfOk result (λ n. n ≡ map config_view routers.items) }
 {
     judge(alloc, &routers)?;
     Ok(Network::new(alloc, routers)?)
 }
-
-#[cfg(test)]
-mod tests;

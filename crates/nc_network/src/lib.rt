@@ -20,5 +20,8 @@ mod references;
 pub use fault::{JoinFault, LimitWord};
 pub use joining::{join, judge};
 
-#[cfg(test)]
-mod tests;
+/// How many distinct prefixes several configurations have together, at most (profile).
+pub const PREFIX_LIMIT: usize = 1024;
+
+/// How many neighbors several configurations have together, at most (profile).
+pub const NEIGHBOR_LIMIT: usize = 1024;

@@ -4,24 +4,23 @@ ghost use Rattle.std.specs.Prelude.{◌≡◌, ◌∷◌, [], nat_lt, map, IfOk}
 ghost use Rattle.std.specs.List.{filter_map};
 ghost use Rattle.std.specs.Option.{option_map, option_map_or};
 ghost use Rattle.nc_types.specs.Config.{config_view, process_view};
+ghost use Rattle.nc_network.specs.declared.TheConstants.{PREFIX_LIMIT, NEIGHBOR_LIMIT};
 ghost use Rattle.nc_network.specs.Judged.{prefixes_in, process_prefixes, prefix_count, neighbors_in, neighbor_count};
 ghost use Rattle.nc_network.specs.Steps.{Fits};
 
+use crate::{NEIGHBOR_LIMIT, PREFIX_LIMIT};
 use indexmap::IndexSet;
 use nc_types::{
     AggregateStatement, Interface, NetworkStatement, Prefix, Process, RouterConfig, StaticRoute,
 };
 use std::alloc::{AllocError, Global};
 
-// How many there may be.
-const LIMIT: usize = 1024;
-
 // Adds a prefix, and tells whether that isn't one too many.
 fn add(seen: &mut IndexSet<Prefix>, prefix: Prefix) -> Result<bool, AllocError>
     ensures { IfOk result (λ fits. Fits fits seen.old.keys seen.new.keys (prefix ∷ [])) }
 {
     seen.insert(prefix)?;
-    Ok(seen.len() <= LIMIT)
+    Ok(seen.len() <= PREFIX_LIMIT)
 }
 
 // Adds the prefixes of interfaces that have an address.
@@ -120,7 +119,7 @@ fn add_router(seen: &mut IndexSet<Prefix>, config: &RouterConfig) -> Result<bool
 
 /// Whether there are too many distinct prefixes.
 pub(crate) fn many_prefixes(alloc: Global, routers: &[RouterConfig]) -> Result<bool, AllocError>
-    ensures { IfOk result (λ many. many ≡ nat_lt 1024 (prefix_count (map config_view routers.now))) }
+    ensures { IfOk result (λ many. many ≡ nat_lt PREFIX_LIMIT (prefix_count (map config_view routers.now))) }
 {
     let mut seen = IndexSet::new(alloc);
     'items: for item in routers {
@@ -128,7 +127,7 @@ pub(crate) fn many_prefixes(alloc: Global, routers: &[RouterConfig]) -> Result<b
             return Ok(true);
         }
     }
-    Ok(seen.len() > LIMIT)
+    Ok(seen.len() > PREFIX_LIMIT)
 }
 
 // How many neighbors a router has.
@@ -143,12 +142,12 @@ fn neighbors_of(config: &RouterConfig) -> usize
 
 /// Whether there are too many neighbors.
 pub(crate) fn many_neighbors(routers: &[RouterConfig]) -> bool
-    ensures { result ≡ nat_lt 1024 (neighbor_count (map config_view routers.now)) }
+    ensures { result ≡ nat_lt NEIGHBOR_LIMIT (neighbor_count (map config_view routers.now)) }
 {
     let mut count = 0;
     'items: for item in routers {
         let neighbors = neighbors_of(item);
-        if neighbors > LIMIT - count {
+        if neighbors > NEIGHBOR_LIMIT - count {
             return true;
         }
         count += neighbors;

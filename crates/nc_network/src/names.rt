@@ -1,6 +1,7 @@
 //! Two routers of one name.
 
 ghost use Rattle.std.specs.Prelude.{◌≡◌, ◌+◌, ◌≤◌, ◌<◌, ◌^◌, length, map};
+ghost use Rattle.nc_types.specs.declared.TheConstants.{ROUTER_LIMIT};
 ghost use Rattle.nc_types.specs.Config.{config_view};
 ghost use Rattle.nc_types.specs.Joining.{Numbered, earliest, numbered_from, same_name, same_names};
 ghost use Rattle.nc_network.specs.Steps.{merge, first_of_all};
@@ -52,7 +53,7 @@ fn compare_all(
 
 /// The earliest two routers of one name.
 pub(crate) fn name_clash(routers: &[RouterConfig]) -> Option<LinePair>
-    requires { length routers.now ≤ 256 }
+    requires { length routers.now ≤ ROUTER_LIMIT }
     ensures { result ≡ earliest (same_names (map config_view routers.now)) }
 {
     let mut found = None;

@@ -4,6 +4,7 @@ ghost use Rattle.std.specs.Prelude.{◌≡◌, ◌≤◌, ◌++◌, [], List, le
 ghost use Rattle.std.specs.List.{filter_map, flat_map};
 ghost use Rattle.std.specs.Map.{lookup};
 ghost use Rattle.std.specs.Option.{option_map, option_to_list};
+ghost use Rattle.nc_types.specs.declared.TheConstants.{ROUTER_LIMIT};
 ghost use Rattle.nc_types.specs.Config.{config_view};
 ghost use Rattle.nc_types.specs.Joining.{Used, earliest, with_later, overlapping, overlaps};
 ghost use Rattle.nc_network.specs.Steps.{merge, first_of_all, used_of, Heads, Notes, by_prefix, lines_clash, in_shorter, same_pairs, shorter_pairs, AreCidrs};
@@ -176,7 +177,7 @@ pub(crate) fn overlap_clash(
     alloc: Global,
     routers: &[RouterConfig],
 ) -> Result<Option<LinePair>, AllocError>
-    requires { length routers.now ≤ 256 }
+    requires { length routers.now ≤ ROUTER_LIMIT }
     ensures { IfOk result (λ r. r ≡ earliest (overlaps (map config_view routers.now))) }
 {
     let mut found = None;

@@ -1,8 +1,9 @@
 //! References to what a router doesn't define.
 
 ghost use Rattle.std.specs.Prelude.{◌≡◌, ◌≤◌, ℕ, length, map, IfOk};
-ghost use Rattle.std.specs.List.{flat_map};
-ghost use Rattle.std.specs.Option.{option_to_list};
+ghost use Rattle.std.specs.List.{flat_map, list_any};
+ghost use Rattle.std.specs.Option.{is_some, option_to_list};
+ghost use Rattle.nc_types.specs.declared.TheConstants.{ROUTER_LIMIT};
 ghost use Rattle.nc_types.specs.Config.{clause_view, config_view};
 ghost use Rattle.nc_types.specs.Joining.{Numbered, earliest, interface_by, undefined, undefined_by, undefined_in};
 ghost use Rattle.nc_network.specs.Steps.{merge, first_of_all, undefined_interfaces, undefined_maps, undefined_lists};
@@ -180,6 +181,29 @@ fn check_interfaces(
     }
 }
 
+// Whether a static route leads through an interface.
+fn leads_through(statics: &[StaticRoute]) -> bool
+    ensures { result ≡ list_any (λ s. is_some (interface_by s.via)) statics.now }
+{
+    statics.iter().any(|route| route.via.interface().is_some())
+}
+
+// The interfaces that a router refers to; where it refers to none, their names aren't gathered.
+fn check_used_interfaces(
+    alloc: Global,
+    router: u32,
+    config: &RouterConfig,
+    found: Option<LinePair>,
+) -> Result<Option<LinePair>, AllocError>
+    ensures { IfOk result (λ r. r ≡ merge found (earliest (undefined_interfaces (record { router = router; config = config_view config.now })))) }
+{
+    if config.process.is_none() && !leads_through(&config.statics) {
+        return Ok(found);
+    }
+    let found = check_interfaces(alloc, router, config, found)?;
+    Ok(found)
+}
+
 // The route maps that a router refers to.
 fn check_maps(
     alloc: Global,
@@ -222,7 +246,7 @@ fn check_router(
 ) -> Result<Option<LinePair>, AllocError>
     ensures { IfOk result (λ r. r ≡ merge found (earliest (undefined_in (record { router = router; config = config_view config.now })))) }
 {
-    let found = check_interfaces(alloc, router, config, found)?;
+    let found = check_used_interfaces(alloc, router, config, found)?;
     let found = check_maps(alloc, router, config, found)?;
     let found = check_lists(alloc, router, config, found)?;
     Ok(found)
@@ -233,7 +257,7 @@ pub(crate) fn reference_clash(
     alloc: Global,
     routers: &[RouterConfig],
 ) -> Result<Option<LinePair>, AllocError>
-    requires { length routers.now ≤ 256 }
+    requires { length routers.now ≤ ROUTER_LIMIT }
     ensures { IfOk result (λ r. r ≡ earliest (undefined (map config_view routers.now))) }
 {
     let mut found = None;

@@ -2,4 +2,3 @@ pub mod Permitting
 pub mod Deciding
 pub mod Few
 pub mod Verdicts
-pub mod Sampling

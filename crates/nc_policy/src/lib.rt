@@ -10,6 +10,3 @@ mod lists;
 mod route_map;
 
 pub use route_map::{Verdict, apply};
-
-#[cfg(test)]
-mod tests;

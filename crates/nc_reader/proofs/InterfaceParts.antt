@@ -150,21 +150,3 @@ parts_pairs lines R to =
     subst (Pairs R) (sym (parts_at lines))
     (pairs_kept (part_at lines) (λ (g h : Group (List ℕ) ℕ). g.key ≢ h.key) R gs (λ g h p q hg hh differ eg eh. to g h p q hg hh differ (is_part lines g p hg eg) (is_part lines h q hh eh))
     (groups_keys bytes_eq bytes_same (withins (roles_from [] lines))))
-
-pub parts_lead : (lines : List (List ℕ)) → Pairs (λ p q. first_in p.lines < first_in q.lines) (parts_of lines)
-parts_lead lines =
-    let gs = blocks_of (roles_from [] lines) in
-    subst (Pairs (λ (p q : InterfacePart). first_in p.lines < first_in q.lines)) (sym (parts_at lines))
-    (pairs_kept (part_at lines) (λ (g h : Group (List ℕ) ℕ). lead (λ (k : ℕ). k) g.values < lead (λ (k : ℕ). k) h.values) (λ (p q : InterfacePart). first_in p.lines < first_in q.lines) gs
-    (λ g h p q hg hh less eg eh. let a = (is_part lines g p hg eg).first in let b = (is_part lines h q hh eh).first in omega (arith, less, a, b))
-    (groups_lead bytes_eq bytes_same (λ (k : ℕ). k) 0 (length lines) (withins (roles_from [] lines)) (pairs_ascend lines)))
-
-first_within : (high : ℕ) (xs : List ℕ) → 0 < length xs → Ascends (λ (k : ℕ). k) 0 high xs → (0 < first_in xs) × (first_in xs ≤ high)
-first_within high [] some up = absurd (omega (arith, some))
-first_within high (x ∷ xs) some up = (up.0, up.1)
-
-pub part_within : (lines : List (List ℕ)) (p : InterfacePart) → Has (parts_of lines) p → (0 < first_in p.lines) × (first_in p.lines ≤ length lines)
-part_within lines p h =
-    let at = has_part lines p h in
-    let is = is_part lines at.0 p at.1 at.2 in
-    first_within (length lines) p.lines is.some is.ascend

@@ -4,7 +4,6 @@ pub mod Grouping
 pub mod LineOrder
 pub mod Elements
 pub mod InterfaceParts
-pub mod PlacedLemmas
 pub mod RouteParts
 pub mod Addresses
 pub mod RouterNames

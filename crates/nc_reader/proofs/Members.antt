@@ -181,12 +181,3 @@ increasing low high (x ∷ y ∷ xs) up (suc k) below =
 pub kept_map : {A B C : Type 0} (h : B → Option C) (f : A → B) (xs : List A) → filter_map h (map f xs) ≡ filter_map (λ x. h (f x)) xs
 kept_map h f [] = refl
 kept_map {A} {B} {C} h f (x ∷ xs) = ap (cons_option (h (f x))) (kept_map h f xs)
-
-pub mapped_at : {A B : Type 0} (f : A → B) (xs : List A) (k : ℕ) (y : B) → slice_get (map f xs) k ≡ Some y → (x : A) × (slice_get xs k ≡ Some x) × (f x ≡ y)
-mapped_at f [] k y e = absurd cc
-mapped_at f (x ∷ xs) zero y e = (x, refl, cc)
-mapped_at f (x ∷ xs) (suc k) y e = mapped_at f xs k y e
-
-pub none_mapped : {A B : Type 0} (f : A → B) (xs : List A) → map f xs ≡ [] → xs ≡ []
-none_mapped f [] e = refl
-none_mapped f (x ∷ xs) e = absurd cc

@@ -62,23 +62,21 @@ roles_named earlier [] r h = absurd h
 roles_named earlier (line ∷ later) r (inl e) = subst IsNamed (ap (λ (r : Placed). r.role) e) (role_named earlier line later)
 roles_named earlier (line ∷ later) r (inr h) = roles_named (line ∷ earlier) later r h
 
-name_is : (line : ℕ) (role : Role) (name : ℕ × List ℕ) → IsNamed role → name_at line role ≡ Some name → (is_name name.1 ≡ true) × (line ≡ name.0)
+name_is : (line : ℕ) (role : Role) (name : ℕ × List ℕ) → IsNamed role → name_at line role ≡ Some name → is_name name.1 ≡ true
 name_is line Passed name is e = absurd cc
 name_is line (Wrong cause) name is e = absurd cc
 name_is line (Names a) name is e =
     let same : (line, a) ≡ name = cc in
-    (subst (λ (n : ℕ × List ℕ). is_name n.1 ≡ true) same is, ap (λ (n : ℕ × List ℕ). n.0) same)
+    subst (λ (n : ℕ × List ℕ). is_name n.1 ≡ true) same is
 name_is line (Within a) name is e = absurd cc
 name_is line Routes name is e = absurd cc
 
-pub router_named : (lines : List (List ℕ)) (name : ℕ × List ℕ) → name_of (roles_from [] lines) ≡ Some name → (is_name name.1 ≡ true) × (0 < name.0) × (name.0 ≤ length lines)
+pub router_named : (lines : List (List ℕ)) (name : ℕ × List ℕ) → name_of (roles_from [] lines) ≡ Some name → is_name name.1 ≡ true
 router_named lines name e =
     let rs = roles_from [] lines in
     elim (last_has None (filter_map (λ (r : Placed). name_at r.line r.role) rs) name e) [
       | inl never ↦ absurd cc
       | inr h ↦
           let at = has_kept (λ (r : Placed). name_at r.line r.role) rs name h in
-          let is = name_is at.0.line at.0.role name (roles_named [] lines at.0 at.1) at.2 in
-          let within = ascends_within (λ (r : Placed). r.line) 0 (length lines) rs (roles_ascend [] lines (length lines) (omega arith)) at.0 at.1 in
-          (is.0, omega (arith, within.0, is.1), omega (arith, within.1, is.1))
+          name_is at.0.line at.0.role name (roles_named [] lines at.0 at.1) at.2
     ]

@@ -1,27 +1,53 @@
 -- Each configuration that a file's lines make is well formed.
-use Rattle.std.proofs.Common.{◌≡◌, ℕ, ◌<◌, ◌≤◌, true, List, [], ◌∷◌, ◌++◌, length, map, Ok, refl, sym, ap, ◌∙◌, subst, arith, inl, inr}
+use Rattle.std.proofs.Common.{◌≡◌, ℕ, ◌<◌, ◌≤◌, true, List, [], ◌∷◌, ◌++◌, length, map, Option, Some, None, Result, Ok, Err, refl, sym, ap, ◌∙◌, subst, arith, inl, inr}
 use Rattle.std.specs.Prelude.{◌≢◌, ◌⊎◌, All, Contains, IfSome, slice_index_or}
 use Rattle.std.specs.List.{AllPairs}
+use Rattle.std.specs.Option.{option_map_or}
 use Rattle.std.proofs.lemmas.Bool.{cases_order}
 use Rattle.std.proofs.lemmas.List.{append-nil, map-append}
 use Rattle.nc_types.specs.Config.{ElementView, ClauseView, PrefixListView, ConfigView}
 use Rattle.nc_types.specs.WellFormed.{is_name, places_of, IsElement, first_line, IsWellFormed}
-use Rattle.nc_types.specs.declared.config.Kind.TheVariants.{Static as StaticKind}
+use Rattle.nc_types.specs.Faults.{lowest}
+use Rattle.nc_types.specs.declared.fault.Fault.{Fault}
+use Rattle.nc_types.specs.declared.fault.Cause.TheVariants.{NoName}
+use Rattle.nc_types.specs.declared.config.Kind.TheVariants.{Interface as InterfaceKind, Static as StaticKind}
 use Rattle.nc_types.specs.declared.config.Interface.{Interface}
 use Rattle.nc_types.specs.declared.config.StaticRoute.{StaticRoute}
 use Rattle.nc_lines.specs.Parts.{numbered}
 use Rattle.nc_read_link.specs.Interfaces.{InterfacePart}
 use Rattle.nc_reader.specs.Roles.{roles_from}
-use Rattle.nc_reader.specs.Configuration.{RoutePart, pieces_of, in_order, place_of, first_in, with_place, route_with_place, config_of, configuration}
+use Rattle.nc_reader.specs.Configuration.{RoutePart, name_of, faults_of, pieces_of, in_order, place_of, first_in, with_place, route_with_place, config_of, configuration}
 use Rattle.nc_reader.proofs.Members.{Has, has_contained, all_had, has_map, has_either, Pairs, all_pairs, pairs_weaker, pairs_map, pairs_append, pairs_either, Ascends, ascends_within, increasing}
 use Rattle.nc_reader.proofs.Grouping.{has_grouped, groups_apart}
 use Rattle.nc_reader.proofs.LineOrder.{withins, roles_ascend, one_thing}
 use Rattle.nc_reader.proofs.Elements.{has_in_order, in_order_ascends, length_in_order, place_below, place_less, first_same}
 use Rattle.nc_reader.proofs.InterfaceParts.{bytes_same, pairs_ascend, part_of, is_part, parts_of, has_part, parts_pairs}
 use Rattle.nc_reader.proofs.RouteParts.{route_parts, route_whole, route_line_of, routes_apart}
-use Rattle.nc_reader.proofs.PlacedLemmas.{configured, piece}
 use Rattle.nc_reader.proofs.Addresses.{IsCovered, block_covered}
 use Rattle.nc_reader.proofs.RouterNames.{router_named}
+
+-- ---- what is no fault
+
+named_ok : (f : ℕ × List ℕ → ConfigView) (c : ConfigView) (missing : Fault) (o : Option (ℕ × List ℕ)) → option_map_or (λ name. Ok (f name)) o (Err missing) ≡ Ok c → (name : ℕ × List ℕ) × (f name ≡ c) × (o ≡ Some name)
+named_ok f c missing None e = absurd cc
+named_ok f c missing (Some name) e = (name, cc, refl)
+
+clean_ok : (o : Option Fault) (rest : Result ConfigView Fault) (c : ConfigView) → option_map_or Err o rest ≡ Ok c → rest ≡ Ok c
+clean_ok None rest c e = e
+clean_ok (Some fault) rest c e = absurd cc
+
+-- what is no fault is the configuration of the name in force
+configured : (lines : List (List ℕ)) (c : ConfigView) → configuration lines ≡ Ok c
+    → (name : ℕ × List ℕ) × (config_of (length lines) name (parts_of lines) (route_parts lines) ≡ c) × (name_of (roles_from [] lines) ≡ Some name)
+unfolding configuration
+configured lines c e =
+    named_ok (λ name. config_of (length lines) name (parts_of lines) (route_parts lines)) c (record { line = 0; cause = NoName }) (name_of (roles_from [] lines))
+    (clean_ok (lowest (faults_of lines (roles_from [] lines))) _ c e)
+
+abbrev piece : InterfacePart → ElementView
+piece p = record { kind = InterfaceKind; lines = p.lines }
+
+-- ---- lines of things
 
 -- no line stands in both
 abbrev Apart : List ℕ → List ℕ → Type 0
@@ -124,7 +150,7 @@ config_places count name ps qs =
     ∙ ap (λ (ks : List ℕ). map (place_in pieces) (map piece ps) ++ ks) second
     ∙ sym (map-append (place_in pieces) (map piece ps) (map route_piece qs))
 
-formed : (count : ℕ) (name : ℕ × List ℕ) (ps : List InterfacePart) (qs : List RoutePart) → (is_name name.1 ≡ true) × (0 < name.0) × (name.0 ≤ count)
+formed : (count : ℕ) (name : ℕ × List ℕ) (ps : List InterfacePart) (qs : List RoutePart) → is_name name.1 ≡ true
     → Pairs (λ e f. Apart e.lines f.lines) (pieces_of ps qs) → ((e : ElementView) → Has (pieces_of ps qs) e → IsWhole count e.lines) → Pairs (λ p q. p.interface.name ≢ q.interface.name) ps
     → ((p : InterfacePart) → Has ps p → IfSome p.interface.address IsCovered) → IsWellFormed (config_of count name ps qs)
 formed count name ps qs named apart whole names_differ addresses =
@@ -153,8 +179,7 @@ formed count name ps qs named apart whole names_differ addresses =
       | inr no_line ↦ no_line line (has_contained e.lines line in_e) (has_contained f.lines line in_f)
     ]) ascend in
     record {
-      name = named.0;
-      name_line = (named.1, named.2);
+      name = named;
       places = subst (All (λ (place : ℕ). place < length (in_order count pieces))) (sym (config_places count name ps qs)) (all_had (λ (place : ℕ). place < length (in_order count pieces)) (map (place_in pieces) pieces) below);
       single = subst (AllPairs (λ (p q : ℕ). p ≢ q)) (sym (config_places count name ps qs)) (all_pairs (λ (p q : ℕ). p ≢ q) (map (place_in pieces) pieces) one_each);
       elements = all_had (IsElement count) (in_order count pieces) (λ e h. is_element count e (whole e (has_in_order count pieces e h)));

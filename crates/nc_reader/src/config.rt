@@ -1,13 +1,13 @@
 //! The configuration of a file, from its parts.
 
-ghost use Rattle.std.specs.Prelude.{◌≡◌, [], IfOk};
-ghost use Rattle.nc_types.specs.Config.{IsPlaced, config_view};
+ghost use Rattle.std.specs.Prelude.{IfOk};
+ghost use Rattle.nc_types.specs.Config.{config_view};
 ghost use Rattle.nc_types.specs.WellFormed.{IsWellFormed};
 ghost use Rattle.nc_reader.specs.Configuration.{configuration};
 ghost use Rattle.nc_reader.specs.Outcome.{IsConfiguration};
 ghost use Rattle.nc_reader.specs.Whole.{AreParts};
 
-use crate::laws::{configurations_are_well_formed, interfaces_alone_are_placed};
+use crate::laws::configurations_are_well_formed;
 use crate::order::arrange;
 use crate::parts::{Parts, read_parts};
 use nc_lines::Lines;
@@ -19,10 +19,8 @@ fn finish(alloc: Global, lines: &Lines, parts: Parts) -> Result<RouterConfig, Co
     requires { AreParts lines.now parts }
     ensures read { IsConfiguration result (configuration lines.now) }
     ensures well_formed { IfOk result (λ c. IsWellFormed (config_view c)) }
-    ensures placed { IfOk result (λ c. c.statics.items ≡ [] → IsPlaced (config_view c)) }
 {
     configurations_are_well_formed();
-    interfaces_alone_are_placed();
     let Parts {
         name,
         interfaces,
@@ -56,8 +54,7 @@ fn finish(alloc: Global, lines: &Lines, parts: Parts) -> Result<RouterConfig, Co
     })
 }
 
-/// The configuration of a router, from the lines of its file. It is well formed; where it has no static route,
-/// its elements are its interfaces, in their order.
+/// The configuration of a router, from the lines of its file. It is well formed.
 ///
 /// # Errors
 ///
@@ -66,7 +63,6 @@ fn finish(alloc: Global, lines: &Lines, parts: Parts) -> Result<RouterConfig, Co
 pub fn read_config(alloc: Global, lines: &Lines) -> Result<RouterConfig, ConfigFault>
     ensures read { IsConfiguration result (configuration lines.now) }
     ensures well_formed { IfOk result (λ c. IsWellFormed (config_view c)) }
-    ensures placed { IfOk result (λ c. c.statics.items ≡ [] → IsPlaced (config_view c)) }
 {
     let parts = read_parts(alloc, lines)?;
     let config = finish(alloc, lines, parts)?;

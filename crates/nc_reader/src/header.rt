@@ -12,7 +12,7 @@ ghost use Rattle.nc_reader.specs.Readings.{role_of_header};
 
 use nc_lines::cut::cut_word;
 use nc_lines::statement::{after_one, after_three, after_two};
-use nc_types::Cause;
+use nc_types::{Cause, NAME_LIMIT};
 
 /// What an unindented statement is.
 #[derive(Clone, Copy)]
@@ -58,7 +58,7 @@ fn can_name(word: &[u8]) -> bool
     ensures { result ≡ is_name word.now }
 {
     let len = word.len();
-    1 <= len && len <= 63 && is_printed(word)
+    1 <= len && len <= NAME_LIMIT && is_printed(word)
 }
 
 // What follows `hostname`.

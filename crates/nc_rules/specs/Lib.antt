@@ -1,4 +1,3 @@
 pub mod Rules
 pub mod Sameness
 pub mod Seen
-pub mod Sample

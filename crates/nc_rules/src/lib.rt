@@ -10,6 +10,3 @@
 mod rules;
 
 pub use rules::{Rules, rules_make_a_flow};
-
-#[cfg(test)]
-mod tests;

@@ -1,2 +1,1 @@
 pub mod WithoutBgp
-pub mod Sampling

@@ -1,2 +1,1 @@
 pub mod MainRows
-pub mod Sample

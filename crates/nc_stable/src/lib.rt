@@ -8,6 +8,3 @@
 mod settle;
 
 pub use settle::settle_static;
-
-#[cfg(test)]
-mod tests;

@@ -1,8 +1,11 @@
 pub mod Lengths
 pub mod Ranges
+pub mod Members
+pub mod Few
 pub mod Counting
+pub mod Walks
+pub mod Offsets
 pub mod Placing
 pub mod Owning
 pub mod Addressing
 pub mod Naming
-pub mod Sampling

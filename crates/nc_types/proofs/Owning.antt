@@ -1,58 +1,45 @@
 -- The table of the owners of lines.
-use Rattle.std.proofs.Common.{◌≡◌, ℕ, suc, ◌+◌, ◌<◌, ◌≤◌, Bool, true, false, cond, nat_eq, List, [], ◌∷◌, ◌++◌, length, map, take, get_or, Option, Some, None, All, refl, sym, ap, subst, ◌∙◌, arith, below_more}
+use Rattle.std.proofs.Common.{◌≡◌, ℕ, suc, ◌+◌, ◌<◌, ◌≤◌, Bool, true, false, cond, nat_eq, List, [], ◌∷◌, ◌++◌, length, map, get_or, Option, Some, None, All, refl, sym, ap, subst, ◌∙◌, arith, below_more}
 use Rattle.std.specs.Global.{Vec}
 use Rattle.std.specs.List.{list_any, position_from, position, slice_get}
 use Rattle.std.specs.Option.{option_map}
 use Rattle.std.proofs.lemmas.Bool.Decides.{nat_tests}
 use Rattle.std.proofs.lemmas.Iterator.Adapters.{position_from-zero}
-use Rattle.std.proofs.lemmas.List.{length-map, length-append, get_or-map, get_or_append_left, get_or_push}
-use Rattle.std.proofs.lemmas.List.Sums.{sum_by_more, sum_by-take-le}
+use Rattle.std.proofs.lemmas.List.{length-append, get_or-map, get_or_append_left, get_or_push}
+use Rattle.std.proofs.lemmas.List.Quantifiers.{position-Some}
 use Rattle.std.proofs.lemmas.Option.{slice_get-get_or, slice_get_within, get_or_from_slice_get, same_Some}
 use Rattle.std.proofs.lemmas.List.Elements.{All-head, All-tail}
-use Rattle.nc_types.specs.declared.config.ElementId.{ElementId}
 use Rattle.nc_types.specs.declared.config.RouterConfig.{RouterConfig}
-use Rattle.nc_types.specs.Config.{ElementView, ConfigView, element_view, config_view}
+use Rattle.nc_types.specs.Config.{ElementView, ConfigView, config_view}
 use Rattle.nc_types.specs.WellFormed.{IsElement, IsWellFormed}
 use Rattle.nc_types.specs.Joining.{IsValid}
-use Rattle.nc_types.specs.Network.{element_count, owner_at}
+use Rattle.nc_types.specs.Network.{number_at, place_with_line, owner_at}
 use Rattle.nc_types.specs.Tables.{AreOwners, AreAllOwners, owner_in, claimed}
 
 abbrev has_line : ℕ → ElementView → Bool
 has_line line e = list_any (nat_eq line) e.lines
 
-abbrev number_from : ℕ → ℕ → ElementId
-number_from first place = record { 0 = first + place }
-
--- the same, element by element
-by_elements : (first : ℕ) (es : List ElementView) (line : ℕ) → owner_in first es line ≡ option_map (number_from first) (position_from (has_line line) 0 es)
-by_elements first es line = ap (option_map (number_from first)) (position_from-zero (has_line line) es)
-
 -- one element more is asked where none before it has the line
-later : (first place : ℕ) (es : List ElementView) (e : ElementView) (line : ℕ)
-    → option_map (number_from first) (position_from (has_line line) place (es ++ e ∷ []))
-    ≡ claimed (first + (place + length es)) e.lines line (Some (option_map (number_from first) (position_from (has_line line) place es)))
-later first place [] e line = by_test (has_line line e) refl
+later : (place : ℕ) (es : List ElementView) (e : ElementView) (line : ℕ) → position_from (has_line line) place (es ++ e ∷ []) ≡ claimed (place + length es) e.lines line (Some (position_from (has_line line) place es))
+later place [] e line = by_test (has_line line e)
   where
-    by_test : (b : Bool) → has_line line e ≡ b
-        → option_map (number_from first) (cond (has_line line e) (Some place) None) ≡ cond (has_line line e) (Some (record { 0 = first + (place + 0) })) None
-    by_test true t = let here : place ≡ place + 0 = omega arith in rw t (ap (λ (k : ℕ). Some (number_from first k)) here)
-    by_test false t = rw t refl
-later first place (f ∷ es) e line =
+    by_test : (b : Bool) → cond b (Some place) None ≡ cond b (Some (place + 0)) None
+    by_test true = let here : place ≡ place + 0 = omega arith in ap Some here
+    by_test false = refl
+later place (f ∷ es) e line =
     let places : (place + 1) + length es ≡ place + suc (length es) = omega arith in
-    by_test (has_line line f) refl (later first (place + 1) es e line ∙ ap (λ (k : ℕ). claimed (first + k) e.lines line (Some (option_map (number_from first) (position_from (has_line line) (place + 1) es)))) places)
+    by_test (has_line line f) (later (place + 1) es e line ∙ ap (λ (k : ℕ). claimed k e.lines line (Some (position_from (has_line line) (place + 1) es))) places)
   where
-    by_test : (b : Bool) → has_line line f ≡ b
-        → option_map (number_from first) (position_from (has_line line) (place + 1) (es ++ e ∷ [])) ≡ claimed (first + (place + suc (length es))) e.lines line (Some (option_map (number_from first) (position_from (has_line line) (place + 1) es)))
-        → option_map (number_from first) (cond (has_line line f) (Some place) (position_from (has_line line) (place + 1) (es ++ e ∷ [])))
-        ≡ claimed (first + (place + suc (length es))) e.lines line (Some (option_map (number_from first) (cond (has_line line f) (Some place) (position_from (has_line line) (place + 1) es))))
-    by_test true t rest = rw t refl
-    by_test false t rest = rw t rest
+    by_test : (b : Bool) → position_from (has_line line) (place + 1) (es ++ e ∷ []) ≡ claimed (place + suc (length es)) e.lines line (Some (position_from (has_line line) (place + 1) es))
+        → cond b (Some place) (position_from (has_line line) (place + 1) (es ++ e ∷ [])) ≡ claimed (place + suc (length es)) e.lines line (Some (cond b (Some place) (position_from (has_line line) (place + 1) es)))
+    by_test true rest = refl
+    by_test false rest = rest
 
-pub owner_in-push : (first : ℕ) (es : List ElementView) (e : ElementView) (line : ℕ) → owner_in first (es ++ e ∷ []) line ≡ claimed (first + length es) e.lines line (Some (owner_in first es line))
-owner_in-push first es e line =
+pub owner_in-push : (es : List ElementView) (e : ElementView) (line : ℕ) → owner_in (es ++ e ∷ []) line ≡ claimed (length es) e.lines line (Some (owner_in es line))
+owner_in-push es e line =
     let count : 0 + length es ≡ length es = omega arith in
-    by_elements first (es ++ e ∷ []) line ∙ later first 0 es e line ∙ ap (λ (k : ℕ). claimed (first + k) e.lines line (Some (option_map (number_from first) (position_from (has_line line) 0 es)))) count
-    ∙ ap (λ (o : Option ElementId). claimed (first + length es) e.lines line (Some o)) (sym (by_elements first es line))
+    position_from-zero (has_line line) (es ++ e ∷ []) ∙ later 0 es e line ∙ ap (λ (k : ℕ). claimed k e.lines line (Some (position_from (has_line line) 0 es))) count
+    ∙ ap (λ (o : Option ℕ). claimed (length es) e.lines line (Some o)) (sym (position_from-zero (has_line line) es))
 
 -- ---- a line behind the last
 
@@ -75,31 +62,21 @@ no_owner last line es past each = position_from-zero (has_line line) es ∙ nowh
 
 -- ---- router by router
 
-module _ (routers : List RouterConfig) (k : ℕ) (config : RouterConfig) (lt : k < length routers) (here : config ≡ get_or routers k config) where
-  pub view_at : (d : ConfigView) → get_or (map config_view routers) k d ≡ config_view config
-  view_at d = get_or-map config_view routers k config d lt ∙ ap config_view (sym here)
+pub view_at : (routers : List RouterConfig) (k : ℕ) (config : RouterConfig) → k < length routers → config ≡ get_or routers k config → (d : ConfigView) → get_or (map config_view routers) k d ≡ config_view config
+view_at routers k config lt here d = get_or-map config_view routers k config d lt ∙ ap config_view (sym here)
 
-  pub count_more : element_count (take (k + 1) (map config_view routers)) ≡ element_count (take k (map config_view routers)) + length config.elements.items
-  count_more =
-      sum_by_more (λ (c : ConfigView). length c.elements) (map config_view routers) k (config_view config) (omega (arith, length-map routers config_view))
-      ∙ ap (λ (n : ℕ). element_count (take k (map config_view routers)) + n) (ap (λ (c : ConfigView). length c.elements) (view_at (config_view config)) ∙ length-map config.elements.items element_view)
-
-  pub count_within : element_count (take k (map config_view routers)) + length config.elements.items ≤ element_count (map config_view routers)
-  count_within = omega (arith, count_more, sum_by-take-le (λ (c : ConfigView). length c.elements) (map config_view routers) (k + 1))
-
-module _ (routers : List ConfigView) (done : ℕ) (c : ConfigView) (owners : List (Vec (Option ElementId))) (own : Vec (Option ElementId)) where
+module _ (routers : List ConfigView) (done : ℕ) (c : ConfigView) (owners : List (Vec (Option ℕ))) (own : Vec (Option ℕ)) where
   -- the owners of one router more
-  pub all_push : AreAllOwners routers done owners → ((d : ConfigView) → get_or routers done d ≡ c) → AreOwners (element_count (take done routers)) c own.items → AreAllOwners routers (done + 1) (owners ++ own ∷ [])
+  pub all_push : AreAllOwners routers done owners → ((d : ConfigView) → get_or routers done d ≡ c) → AreOwners c own.items → AreAllOwners routers (done + 1) (owners ++ own ∷ [])
   all_push all here more = record {
     count = omega (arith, length-append owners (own ∷ []), all.count);
     each = λ router d o lt. below_more
-        (λ (j : ℕ). (d : ConfigView) (o : Vec (Option ElementId)) → AreOwners (element_count (take j routers)) (get_or routers j d) (get_or (owners ++ own ∷ []) j o).items)
+        (λ (j : ℕ). (d : ConfigView) (o : Vec (Option ℕ)) → AreOwners (get_or routers j d) (get_or (owners ++ own ∷ []) j o).items)
         done
-        (λ j below d o. let at = get_or_append_left owners (own ∷ []) o j (omega (arith, all.count)) in subst (λ (v : Vec (Option ElementId)). AreOwners (element_count (take j routers)) (get_or routers j d) v.items) (sym at) (all.each j d o below))
+        (λ j below d o. let at = get_or_append_left owners (own ∷ []) o j (omega (arith, all.count)) in subst (λ (v : Vec (Option ℕ)). AreOwners (get_or routers j d) v.items) (sym at) (all.each j d o below))
         (λ d o.
         let at = get_or_push owners own o done all.count in
-        subst (λ (v : Vec (Option ElementId)). AreOwners (element_count (take done routers)) (get_or routers done d) v.items) (sym at)
-        (subst (λ (x : ConfigView). AreOwners (element_count (take done routers)) x own.items) (sym (here d)) more))
+        subst (λ (v : Vec (Option ℕ)). AreOwners (get_or routers done d) v.items) (sym at) (subst (λ (x : ConfigView). AreOwners x own.items) (sym (here d)) more))
         router
         lt
         d
@@ -108,48 +85,51 @@ module _ (routers : List ConfigView) (done : ℕ) (c : ConfigView) (owners : Lis
 
 -- ---- look-ups
 
-numbers : (first : ℕ) (place : Option ℕ) → option_map (λ (e : ElementId). e.0) (option_map (number_from first) place) ≡ option_map (λ (k : ℕ). first + k) place
-numbers first None = refl
-numbers first (Some k) = refl
+pub some_at : {X : Type 0} (xs : List X) (k : ℕ) → k < length xs → (x : X) × (slice_get xs k ≡ Some x)
+some_at [] k lt = absurd (omega arith)
+some_at (x ∷ xs) k lt = (get_or (x ∷ xs) k x, slice_get-get_or (x ∷ xs) k x lt)
 
-module _ (routers : List ConfigView) (owners : List (Vec (Option ElementId))) (valid : IsValid routers) (all : AreAllOwners routers (length routers) owners) (router line : ℕ) (own : Vec (Option ElementId)) (found : slice_get owners router ≡ Some own) where
-  module _ (d : ConfigView) where
-    within : router < length routers
-    within = omega (arith, all.count, slice_get_within owners router own found)
+-- what a table says of a router that it has
+module _ (routers : List ConfigView) (owners : List (Vec (Option ℕ))) (all : AreAllOwners routers (length routers) owners) (router line : ℕ) (own : Vec (Option ℕ)) (found : slice_get owners router ≡ Some own) where
+  pub router_within : router < length routers
+  router_within = omega (arith, all.count, slice_get_within owners router own found)
 
-    own_of : AreOwners (element_count (take router routers)) (get_or routers router d) own.items
-    own_of = subst (λ (v : Vec (Option ElementId)). AreOwners (element_count (take router routers)) (get_or routers router d) v.items) (get_or_from_slice_get owners router own own found) (all.each router d own within)
+  module _ (c : ConfigView) (there : slice_get routers router ≡ Some c) where
+    own_of : AreOwners c own.items
+    own_of =
+        subst (λ (v : Vec (Option ℕ)). AreOwners c v.items) (get_or_from_slice_get owners router own own found)
+        (subst (λ (x : ConfigView). AreOwners x (get_or owners router own).items) (get_or_from_slice_get routers router c c there) (all.each router c own router_within))
 
-    past_from : length own.items ≤ line → owner_at routers router line ≡ None
-    past_from past =
-        let there : slice_get routers router ≡ Some (get_or routers router d) = slice_get-get_or routers router d within in
-        let formed : IsWellFormed (get_or routers router d) = valid.each router d within in
-        let none = no_owner (get_or routers router d).line_count line (get_or routers router d).elements (omega (arith, own_of.count)) formed.elements in
+    none_past : IsWellFormed c → length own.items ≤ line → owner_at routers router line ≡ None
+    none_past formed past =
+        let none = no_owner c.line_count line c.elements (omega (arith, own_of.count)) formed.elements in
         rw (there, none) refl
 
-    at_from : (owner : Option ElementId) → slice_get own.items line ≡ Some owner → option_map (λ (e : ElementId). e.0) owner ≡ owner_at routers router line
-    at_from owner has =
-        let there : slice_get routers router ≡ Some (get_or routers router d) = slice_get-get_or routers router d within in
+    pub owner_is : (owner : Option ℕ) → slice_get own.items line ≡ Some owner → owner ≡ place_with_line c line
+    owner_is owner has =
         let lt : line < length own.items = slice_get_within own.items line owner has in
-        let same : owner ≡ owner_in (element_count (take router routers)) (get_or routers router d).elements line =
-        same_Some owner (owner_in (element_count (take router routers)) (get_or routers router d).elements line) (sym has ∙ own_of.each line (omega (arith, own_of.count))) in
-        rw (there, same) (numbers (element_count (take router routers)) (position (has_line line) (get_or routers router d).elements))
-
-  no_router : routers ≡ [] → ⊥
-  no_router e = let none : length routers ≡ 0 = ap length e in omega (arith, all.count, slice_get_within owners router own found)
+        same_Some owner (owner_in c.elements line) (sym has ∙ own_of.each line (omega (arith, own_of.count)))
 
   -- behind the last line there is no owner
-  pub owner_past : length own.items ≤ line → owner_at routers router line ≡ None
-  owner_past past = by_routers routers refl
-    where
-      by_routers : (cs : List ConfigView) → routers ≡ cs → owner_at routers router line ≡ None
-      by_routers [] e = absurd (no_router e)
-      by_routers (d ∷ cs) e = past_from d past
+  pub owner_past : IsValid routers → length own.items ≤ line → owner_at routers router line ≡ None
+  owner_past valid past =
+      let r = some_at routers router router_within in
+      none_past r.0 r.1 (subst IsWellFormed (get_or_from_slice_get routers router r.0 r.0 r.1) (valid.each router r.0 router_within)) past
 
-  -- the table has the owner
-  pub owner_found : (owner : Option ElementId) → slice_get own.items line ≡ Some owner → option_map (λ (e : ElementId). e.0) owner ≡ owner_at routers router line
-  owner_found owner has = by_routers routers refl
+  -- the table has the place of the owner
+  pub owner_found : (owner : Option ℕ) → slice_get own.items line ≡ Some owner → option_map (number_at routers router) owner ≡ owner_at routers router line
+  owner_found owner has =
+      let r = some_at routers router router_within in
+      let same : owner ≡ place_with_line r.0 line = owner_is r.0 r.1 owner has in
+      rw (r.1, same) refl
+
+  -- and an element is there
+  pub place_found : (place : ℕ) → slice_get own.items line ≡ Some (Some place) → (c : ConfigView) → slice_get routers router ≡ Some c → place < length c.elements
+  place_found place has c there = by_elements c.elements refl
     where
-      by_routers : (cs : List ConfigView) → routers ≡ cs → option_map (λ (e : ElementId). e.0) owner ≡ owner_at routers router line
-      by_routers [] e = absurd (no_router e)
-      by_routers (d ∷ cs) e = at_from d owner has
+      first : ElementView → place < length c.elements
+      first e = (position-Some (has_line line) c.elements place e (sym (owner_is c there (Some place) has))).0
+
+      by_elements : (es : List ElementView) → c.elements ≡ es → place < length c.elements
+      by_elements [] none = let no_place : None ≡ Some place = sym (ap (λ (es : List ElementView). position (has_line line) es) none) ∙ sym (owner_is c there (Some place) has) in absurd cc
+      by_elements (e ∷ es) some = first e

@@ -1,5 +1,5 @@
 -- The configuration of a router without where it lies in memory: each vector as the list of its items' views.
-use Rattle.std.specs.Prelude.{◌≡◌, ℕ, ◌^◌, ◌<◌, Bool, List, length, map, Option, Some, slice_get}
+use Rattle.std.specs.Prelude.{ℕ, Bool, List, map, Option}
 use Rattle.std.specs.Option.{option_map}
 use Rattle.nc_types.specs.declared.addr.Addr.{Addr}
 use Rattle.nc_types.specs.declared.config.Kind.{Kind}
@@ -109,9 +109,3 @@ config_view c =
       clauses = map clause_view c.clauses.items;
       lists = map list_view c.lists.items;
     }
-
--- each interface is an element of its own, the elements in the order of the interfaces, and their places are u32 numbers
-pub record IsPlaced (c : ConfigView) : Type 0 where
-  pub count : length c.elements ≡ length c.interfaces
-  pub places : (place : ℕ) (i : Interface) → slice_get c.interfaces place ≡ Some i → i.element ≡ place
-  pub few : length c.interfaces < 2 ^ 32

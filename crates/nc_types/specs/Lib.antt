@@ -6,4 +6,3 @@ pub mod Faults
 pub mod Network
 pub mod Joining
 pub mod Tables
-pub mod Sample

@@ -76,7 +76,10 @@ element_at routers number = element_from 0 routers number
 abbrev pub place_with_line : ConfigView → ℕ → Option ℕ
 place_with_line c line = position (λ e. list_any (nat_eq line) e.lines) c.elements
 
--- the number of the element that has a line of a router: its place, behind the elements of all earlier routers
+-- the number of the element at a place of a router: its place, behind the elements of all earlier routers
+abbrev pub number_at : List ConfigView → ℕ → ℕ → ℕ
+number_at routers router place = element_count (take router routers) + place
+
+-- the number of the element that has a line of a router
 abbrev pub owner_at : List ConfigView → ℕ → ℕ → Option ℕ
-owner_at routers router line =
-    option_and_then (λ c. option_map (λ place. element_count (take router routers) + place) (place_with_line c line)) (slice_get routers router)
+owner_at routers router line = option_and_then (λ c. option_map (number_at routers router) (place_with_line c line)) (slice_get routers router)

@@ -1,5 +1,5 @@
 -- The tables of a network, from which look-ups are served.
-use Rattle.std.specs.Prelude.{◌≡◌, ℕ, ◌+◌, ◌<◌, ◌≤◌, ◌^◌, List, [], ◌∷◌, ◌++◌, length, map, take, slice_get, slice_index_or, position, nat_eq, Option, Some, None, option_and_then, if◌then◌else◌}
+use Rattle.std.specs.Prelude.{◌≡◌, ℕ, ◌+◌, ◌<◌, ◌≤◌, ◌^◌, List, [], ◌∷◌, ◌++◌, length, map, slice_get, slice_index_or, position, nat_eq, Option, Some, None, option_and_then, if◌then◌else◌}
 use Rattle.std.specs.BTreeMap.{BTreeMap, get_by}
 use Rattle.std.specs.Cmp.Lexicographic.{slice_cmp}
 use Rattle.std.specs.Global.{Vec}
@@ -7,7 +7,7 @@ use Rattle.std.specs.Ordering.{nat_cmp}
 use Rattle.std.specs.List.{range_with_len, list_any, position_from}
 use Rattle.std.specs.Option.{option_map}
 use Rattle.nc_types.specs.declared.addr.Addr.{Addr}
-use Rattle.nc_types.specs.declared.config.ElementId.{ElementId}
+use Rattle.nc_types.specs.declared.TheConstants.{ROUTER_LIMIT}
 use Rattle.nc_types.specs.declared.config.Interface.{Interface}
 use Rattle.nc_types.specs.declared.config.RouterId.{RouterId}
 use Rattle.nc_types.specs.declared.network.addresses.IfacePlace.{IfacePlace}
@@ -33,27 +33,31 @@ abbrev pub element_in : List ConfigView → ElementPlace → Option ElementIn
 element_in routers at =
     option_and_then (λ c. option_map (λ e. record { router = at.router.0; element = e }) (slice_get c.elements at.place)) (slice_get routers at.router.0)
 
+-- the number of the first element of each router, the first of them having this number
+abbrev pub offsets_from : ℕ → List ConfigView → List ℕ
+offsets_from first [] = []
+offsets_from first (c ∷ cs) = first ∷ offsets_from (first + length c.elements) cs
+
 -- ---- lines
 
--- the number of the element that has a line, the first of these elements having this number
-abbrev pub owner_in : ℕ → List ElementView → ℕ → Option ElementId
-owner_in first elements line = option_map (λ place. record { 0 = first + place }) (position (λ e. list_any (nat_eq line) e.lines) elements)
+-- the place of the element that has a line
+abbrev pub owner_in : List ElementView → ℕ → Option ℕ
+owner_in elements line = position (λ e. list_any (nat_eq line) e.lines) elements
 
 -- the owner of a line after an element claims its lines, those that have an owner apart
-abbrev pub claimed : ℕ → List ℕ → ℕ → Option (Option ElementId) → Option ElementId
-claimed number lines line (Some (Some owner)) = Some owner
-claimed number lines line owner = if list_any (nat_eq line) lines then Some (record { 0 = number }) else None
+abbrev pub claimed : ℕ → List ℕ → ℕ → Option (Option ℕ) → Option ℕ
+claimed place lines line (Some (Some owner)) = Some owner
+claimed place lines line owner = if list_any (nat_eq line) lines then Some place else None
 
 -- the owner of each line of a file, and of a line 0
-pub record AreOwners (first : ℕ) (c : ConfigView) (owners : List (Option ElementId)) : Type 0 where
+pub record AreOwners (c : ConfigView) (owners : List (Option ℕ)) : Type 0 where
   pub count : length owners ≡ c.line_count + 1
-  pub each : (line : ℕ) → line < c.line_count + 1 → slice_get owners line ≡ Some (owner_in first c.elements line)
+  pub each : (line : ℕ) → line < c.line_count + 1 → slice_get owners line ≡ Some (owner_in c.elements line)
 
 -- the owners of all lines of these routers, of which so many are done
-pub record AreAllOwners (routers : List ConfigView) (done : ℕ) (owners : List (Vec (Option ElementId))) : Type 0 where
+pub record AreAllOwners (routers : List ConfigView) (done : ℕ) (owners : List (Vec (Option ℕ))) : Type 0 where
   pub count : length owners ≡ done
-  pub each : (router : ℕ) (c : ConfigView) (o : Vec (Option ElementId)) → router < done
-      → AreOwners (element_count (take router routers)) (slice_index_or routers router c) (slice_index_or owners router o).items
+  pub each : (router : ℕ) (c : ConfigView) (o : Vec (Option ℕ)) → router < done → AreOwners (slice_index_or routers router c) (slice_index_or owners router o).items
 
 -- ---- names
 
@@ -82,12 +86,13 @@ iface_from router place interfaces addr =
 pub record AreTables (routers : List ConfigView) (tables : Tables) : Type 0 where
   pub names : (name : List ℕ) → option_map (λ r. r.0) (named_by tables.names name) ≡ router_named routers name
   pub places : tables.places.items ≡ places_from 0 routers
+  pub offsets : tables.offsets.items ≡ offsets_from 0 routers
   pub owners : AreAllOwners routers (length routers) tables.owners.items
   pub addresses : (addr : ℕ) → option_map place_in (owner_by tables.addresses addr) ≡ owner_of routers addr
 
--- a network of at most 256 valid routers, whose elements can be numbered, with its tables
+-- a network of so few valid routers that their elements can be numbered, with its tables
 pub record IsNetwork (routers : List ConfigView) (tables : Tables) : Type 0 where
   pub valid : IsValid routers
-  pub count : length routers ≤ 256
+  pub count : length routers ≤ ROUTER_LIMIT
   pub few : element_count routers < 2 ^ 32
   pub served : AreTables routers tables

@@ -3,12 +3,13 @@ use Rattle.std.specs.Prelude.{◌≡◌, ◌≢◌, ◌⊎◌, ℕ, ◌<◌, ◌
 use Rattle.std.specs.List.{list_all, AllPairs}
 use Rattle.std.specs.List.Sorted.{IsStrictlyIncreasing}
 use Rattle.std.specs.Option.{option_map_or}
+use Rattle.nc_types.specs.declared.TheConstants.{NAME_LIMIT, MULTIPATH_LIMIT}
 use Rattle.nc_types.specs.Cidr.{Covers}
 use Rattle.nc_types.specs.Config.{ElementView, ProcessView, ConfigView}
 
--- 1 to 63 bytes that are printed and no space, which can name a router
+-- bytes that are printed and no space, at least one and no more than a name may have: they can name a router
 abbrev pub is_name : List ℕ → Bool
-is_name name = nat_le 1 (length name) && nat_le (length name) 63 && list_all (λ b. nat_le 33 b && nat_le b 126) name
+is_name name = nat_le 1 (length name) && nat_le (length name) NAME_LIMIT && list_all (λ b. nat_le 33 b && nat_le b 126) name
 
 -- the places of the elements that the parts of a process are
 abbrev pub process_places : ProcessView → List ℕ
@@ -31,16 +32,15 @@ pub record IsElement (line_count : ℕ) (e : ElementView) : Type 0 where
 abbrev pub first_line : ElementView → ℕ
 first_line e = slice_index_or e.lines 0 0
 
--- the parts of a process have addresses and prefixes of their own, and it uses 1 to 16 routes at once
+-- the parts of a process have addresses and prefixes of their own, and it uses at least one route at once, and no more than it may
 pub record IsProcess (p : ProcessView) : Type 0 where
   pub neighbors : AllPairs (λ m n. m.addr.0 ≢ n.addr.0) p.neighbors
   pub networks : AllPairs (λ m n. m.prefix ≢ n.prefix) p.networks
   pub aggregates : AllPairs (λ a b. a.prefix ≢ b.prefix) p.aggregates
-  pub paths : (1 ≤ p.max_paths) × (p.max_paths ≤ 16)
+  pub paths : (1 ≤ p.max_paths) × (p.max_paths ≤ MULTIPATH_LIMIT)
 
 pub record IsWellFormed (c : ConfigView) : Type 0 where
   pub name : is_name c.name ≡ true
-  pub name_line : (0 < c.name_line) × (c.name_line ≤ c.line_count)
   -- each part is an element that exists, and no two are the same element
   pub places : All (λ place. place < length c.elements) (places_of c)
   pub single : AllPairs (λ p q. p ≢ q) (places_of c)

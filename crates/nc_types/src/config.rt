@@ -125,7 +125,7 @@ impl Via {
 pub struct StaticRoute {
     pub prefix: Prefix,
     pub via: Via,
-    /// The administrative distance, 1 to 255; a route of distance 255 is never used.
+    /// The administrative distance, 1 to 255; one of [`crate::UNUSED_DISTANCE`] is never used.
     pub distance: u8,
     /// The place of its element in the router's elements.
     pub element: u32,
@@ -177,7 +177,7 @@ pub struct Process {
     pub asn: u32,
     /// The router id that a statement gives.
     pub router_id: Option<Addr>,
-    /// How many routes of a prefix are used at once, 1 to 16.
+    /// How many routes of a prefix are used at once, 1 to [`crate::MULTIPATH_LIMIT`].
     pub max_paths: u8,
     /// Whether routes of paths that differ, but are equally long, are used together.
     pub relax: bool,

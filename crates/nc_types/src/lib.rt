@@ -30,5 +30,28 @@ pub use network::Network;
 pub use prefix::Prefix;
 pub use text::Text;
 
-#[cfg(test)]
-mod tests;
+/// How many routers a network has at most.
+pub const ROUTER_LIMIT: usize = 256;
+
+/// How many lines a file has at most; a line's number fits 16 bits.
+pub const LINE_LIMIT: u32 = 65_535;
+
+/// How many bytes the name of a router has at most (Cisco IOS command reference, `hostname`).
+pub const NAME_LIMIT: usize = 63;
+
+/// How many routes of a prefix a BGP process uses at once, at most (Cisco IOS command reference,
+/// `maximum-paths`).
+pub const MULTIPATH_LIMIT: u8 = 16;
+
+/// How many numbers the path of a route has at most; a longer one is dropped (profile).
+pub const PATH_LIMIT: usize = 250;
+
+/// How many hops a packet is followed at most (profile).
+pub const HOP_LIMIT: u8 = 30;
+
+/// The administrative distance of a route that is never used (Cisco IOS command reference, `distance`).
+pub const UNUSED_DISTANCE: u8 = 255;
+
+/// The local preference of a route for which nothing else is said (Cisco IOS command reference,
+/// `bgp default local-preference`).
+pub const DEFAULT_PREFERENCE: u32 = 100;

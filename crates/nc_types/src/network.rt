@@ -1,10 +1,11 @@
 //! The routers of a network, with look-ups that tables serve.
 
-ghost use Rattle.std.specs.Prelude.{◌≡◌, ◌≤◌, length, map, All, IfOk, is_some, nat_lt};
-ghost use Rattle.std.specs.Option.{option_map};
+ghost use Rattle.std.specs.Prelude.{◌≡◌, ◌≤◌, ◌<◌, length, map, All, IfOk, is_some, nat_lt, slice_get};
+ghost use Rattle.std.specs.Option.{ForSome, option_map};
 ghost use Rattle.nc_types.specs.Config.{config_view, element_view};
 ghost use Rattle.nc_types.specs.Joining.{IsValid};
-ghost use Rattle.nc_types.specs.Network.{router_named, element_count, element_at, owner_at, owner_of, up_at};
+ghost use Rattle.nc_types.specs.Network.{router_named, element_count, element_at, number_at, owner_at, owner_of, up_at};
+ghost use Rattle.nc_types.specs.declared.TheConstants.{ROUTER_LIMIT, LINE_LIMIT};
 
 mod addresses;
 mod elements;
@@ -40,22 +41,24 @@ impl Model for Network {
 }
 
 impl Network {
-    /// A network of these routers: at most 256, each of a file of at most 65,535 lines.
+    /// A network of these routers: at most [`crate::ROUTER_LIMIT`], each of a file of at most
+    /// [`crate::LINE_LIMIT`] lines.
     pub fn new(alloc: Global, routers: Vec<RouterConfig>) -> Result<Network, AllocError>
         requires valid { IsValid (map config_view routers.items) }
-        requires few { length routers.items ≤ 256 }
-        requires lines { All (λ c. c.line_count ≤ 65535) routers.items }
+        requires few { length routers.items ≤ ROUTER_LIMIT }
+        requires lines { All (λ c. c.line_count ≤ LINE_LIMIT) routers.items }
         ensures { IfOk result (λ n. n ≡ map config_view routers.items) }
     {
         let tables = make_tables(alloc, &routers)?;
         Ok(Network { routers, tables })
     }
 
-    /// The routers, in order of their numbers; they are valid together, and at most 256.
+    /// The routers, in order of their numbers; they are valid together, and at most
+    /// [`crate::ROUTER_LIMIT`].
     pub fn routers(&self) -> &[RouterConfig]
         ensures routers { map config_view result.now ≡ self.now }
         ensures valid { IsValid self.now }
-        ensures few { length self.now ≤ 256 }
+        ensures few { length self.now ≤ ROUTER_LIMIT }
     {
         &self.routers
     }
@@ -84,13 +87,26 @@ impl Network {
         element_in(&self.routers, *place)
     }
 
+    /// The number of the element at a place of a router, which has one there.
+    pub fn element_id(&self, router: RouterId, place: u32) -> ElementId
+        requires router { router.0 < length self.now }
+        requires place { ForSome (slice_get self.now router.0) (λ c. place < length c.elements) }
+        ensures number { result.0 ≡ number_at self.now router.0 place }
+        ensures within { result.0 < element_count self.now }
+    {
+        let first = self.tables.offsets[router.0 as usize];
+        ElementId(first + place)
+    }
+
     /// The element that has a line of a router's file; `None` where no element has it, and where there
     /// is no such line or router.
     pub fn owner(&self, router: RouterId, line: u32) -> Option<ElementId>
         ensures { option_map (λ e. e.0) result ≡ owner_at self.now router.0 line }
     {
         let owners = self.tables.owners.get(router.0 as usize)?;
-        *owners.get(line as usize)?
+        let owner = *owners.get(line as usize)?;
+        let place = owner?;
+        Some(self.element_id(router, place))
     }
 
     /// The interface that is up and has an address, with its router; `None` where there is none.
@@ -111,6 +127,3 @@ impl Network {
         interface.up()
     }
 }
-
-#[cfg(test)]
-mod tests;

@@ -3,4 +3,3 @@ pub mod Owners
 pub mod Hits
 pub mod Marks
 pub mod Steps
-pub mod Sampling

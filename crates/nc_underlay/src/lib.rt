@@ -10,6 +10,3 @@ mod levels;
 mod reach;
 
 pub use reach::reaches;
-
-#[cfg(test)]
-mod tests;

@@ -3,7 +3,8 @@
 ghost use Rattle.std.specs.Prelude.{◌≡◌, ◌<◌, ◌^◌, ◌++◌, length, map, All, IfOk, OnOk};
 ghost use Rattle.std.specs.Option.{option_map};
 ghost use Rattle.nc_types.specs.Config.{config_view, element_view};
-ghost use Rattle.nc_types.specs.Tables.{places_in, places_from, element_in};
+ghost use Rattle.nc_types.specs.Network.{element_count};
+ghost use Rattle.nc_types.specs.Tables.{places_in, places_from, offsets_from, element_in};
 
 use crate::config::{Element, RouterConfig, RouterId};
 use std::alloc::{AllocError, Global};
@@ -47,6 +48,23 @@ pub(crate) fn element_places(
         push_places(&mut places, RouterId(router as u32), config.elements.len())?;
     }
     Ok(places)
+}
+
+/// The number of the first element of each router.
+pub(crate) fn element_offsets(
+    alloc: Global,
+    routers: &[RouterConfig],
+) -> Result<Vec<u32>, AllocError>
+    requires { element_count (map config_view routers.now) < 2 ^ 32 }
+    ensures { IfOk result (λ offsets. offsets.items ≡ offsets_from 0 (map config_view routers.now)) }
+{
+    let mut offsets = Vec::new(alloc);
+    let mut first = 0;
+    'routers: for config in routers {
+        offsets.push(first)?;
+        first += config.elements.len() as u32;
+    }
+    Ok(offsets)
 }
 
 /// The element at a place, with its router.

@@ -6,9 +6,9 @@ ghost use Rattle.nc_types.specs.Network.{element_count};
 ghost use Rattle.nc_types.specs.Tables.{AreTables};
 
 use crate::addr::Addr;
-use crate::config::{ElementId, RouterConfig, RouterId};
+use crate::config::{RouterConfig, RouterId};
 use crate::network::addresses::{IfacePlace, address_owners};
-use crate::network::elements::{ElementPlace, element_places};
+use crate::network::elements::{ElementPlace, element_offsets, element_places};
 use crate::network::names::router_names;
 use crate::network::owners::line_owners;
 use std::alloc::{AllocError, Global};
@@ -21,8 +21,10 @@ pub(crate) struct Tables {
     pub(crate) names: BTreeMap<Vec<u8>, RouterId>,
     /// Where each element stands, by its number.
     pub(crate) places: Vec<ElementPlace>,
-    /// Of each router, which element has each line, from a line 0 on.
-    pub(crate) owners: Vec<Vec<Option<ElementId>>>,
+    /// The number of the first element of each router.
+    pub(crate) offsets: Vec<u32>,
+    /// Of each router, the place of the element that has each line, from a line 0 on.
+    pub(crate) owners: Vec<Vec<Option<u32>>>,
     /// The interface that is up and has each address.
     pub(crate) addresses: BTreeMap<Addr, IfacePlace>,
 }
@@ -37,11 +39,13 @@ pub(crate) fn make_tables(alloc: Global, routers: &[RouterConfig]) -> Result<Tab
 {
     let names = router_names(alloc, routers)?;
     let places = element_places(alloc, routers)?;
+    let offsets = element_offsets(alloc, routers)?;
     let owners = line_owners(alloc, routers)?;
     let addresses = address_owners(alloc, routers)?;
     Ok(Tables {
         names,
         places,
+        offsets,
         owners,
         addresses,
     })

@@ -5,7 +5,7 @@ use Rattle.nc_types.specs.declared.config.Interface.{Interface}
 use Rattle.nc_types.specs.Joining.{Clash}
 use Rattle.nc_network.specs.Steps.{merge, first_of_all, used_of, address_pairs}
 use Rattle.nc_network.proofs.Clashes.{found-more, found-all, all-kept}
-use Rattle.nc_network.proofs.Walks.{drop_read}
+use Rattle.nc_types.proofs.Walks.{drop_read}
 use Rattle.nc_network.proofs.addresses.find_all.Goals as goal
 
 pub interfaces-preserved : goal.interfaces-preserved

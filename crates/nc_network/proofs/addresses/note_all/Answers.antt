@@ -2,7 +2,8 @@ use Rattle.std.proofs.Common.{◌≡◌, ◌+◌, ◌-◌, ◌<◌, List, ◌++�
 use Rattle.std.specs.List.{filter_map}
 use Rattle.nc_types.specs.Joining.{Used}
 use Rattle.nc_network.specs.Steps.{used_of, Heads, by_address}
-use Rattle.nc_network.proofs.Walks.{drop_back, kept-before}
+use Rattle.nc_types.proofs.Walks.{drop_back}
+use Rattle.nc_network.proofs.Walks.{kept-before}
 use Rattle.nc_network.proofs.addresses.note_all.Goals as goal
 
 pub interfaces-preserved : goal.interfaces-preserved

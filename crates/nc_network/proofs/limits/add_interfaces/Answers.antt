@@ -5,7 +5,7 @@ use Rattle.nc_types.specs.Cidr.{Cidr}
 use Rattle.nc_types.specs.declared.config.IfaceAddr.{IfaceAddr}
 use Rattle.nc_types.specs.declared.config.Interface.{Interface}
 use Rattle.nc_network.proofs.Counted.{stopped, kept-some}
-use Rattle.nc_network.proofs.Walks.{drop_read}
+use Rattle.nc_types.proofs.Walks.{drop_read}
 use Rattle.nc_network.proofs.limits.add_interfaces.Goals as goal
 
 abbrev prefix_of : Interface → Option Cidr

@@ -1,7 +1,7 @@
 use Rattle.std.proofs.Common.{◌+◌, ◌<◌, [], ◌∷◌, map, drop, length, arith}
 use Rattle.nc_types.specs.declared.config.StaticRoute.{StaticRoute}
 use Rattle.nc_network.proofs.Counted.{stopped, moved}
-use Rattle.nc_network.proofs.Walks.{drop_view}
+use Rattle.nc_types.proofs.Walks.{drop_view}
 use Rattle.nc_network.proofs.limits.add_statics.Goals as goal
 
 pub returns-then-not-branch : goal.returns-then-not-branch

@@ -3,12 +3,13 @@ use Rattle.std.specs.List.{flat_map}
 use Rattle.std.specs.Prelude.{nat_lt}
 use Rattle.std.proofs.lemmas.Bool.{lt-ltb}
 use Rattle.std.proofs.lemmas.List.{drop_all, length-map}
+use Rattle.nc_network.specs.declared.TheConstants.{PREFIX_LIMIT}
 use Rattle.nc_types.specs.Cidr.{Cidr}
 use Rattle.nc_types.specs.Config.{ConfigView, config_view}
 use Rattle.nc_network.specs.Judged.{prefixes_in, new_after}
 use Rattle.nc_network.specs.Steps.{added}
 use Rattle.nc_network.proofs.Counted.{left-many, left-more, added-new}
-use Rattle.nc_network.proofs.Walks.{drop_view}
+use Rattle.nc_types.proofs.Walks.{drop_view}
 use Rattle.nc_network.proofs.limits.many_prefixes.Goals as goal
 
 abbrev all_of : List ConfigView → List Cidr
@@ -24,8 +25,8 @@ returns-then-not-branch c =
     let within : c.items.item-index < length items = omega arith in
     let total : List Cidr = all_of (map config_view items) in
     let cut = ap all_of (drop_view config_view items c.items.item-index item c.item-item.is within) in
-    let many : 1024 < length (added [] total) = left-many [] c.items.seen.keys total (prefixes_in (config_view item)) (all_of (drop (c.items.item-index + 1) (map config_view items))) _ c.items.invariant cut (c.in_ok-add_router.ensures.many c.if-not-branch.true) in
-    sym (lt-ltb 1024 _ (omega (arith, counted total)))
+    let many : PREFIX_LIMIT < length (added [] total) = left-many [] c.items.seen.keys total (prefixes_in (config_view item)) (all_of (drop (c.items.item-index + 1) (map config_view items))) _ c.items.invariant cut (c.in_ok-add_router.ensures.many c.if-not-branch.true) in
+    sym (lt-ltb PREFIX_LIMIT _ (omega (arith, counted total)))
 
 pub items-preserved : goal.items-preserved
 items-preserved c =
@@ -42,4 +43,4 @@ returns c =
     let total : List Cidr = all_of (map config_view items) in
     let past : length (map config_view items) ≤ c.items.item-index = omega (arith, length-map items config_view) in
     let same : c.items.seen.keys ≡ added [] total = sym (ap (λ (cs : List ConfigView). added c.items.seen.keys (all_of cs)) (drop_all c.items.item-index (map config_view items) past)) ∙ c.items.invariant.rest in
-    ap (nat_lt 1024) (c.len.ensures.len ∙ ap length same ∙ counted total)
+    ap (nat_lt PREFIX_LIMIT) (c.len.ensures.len ∙ ap length same ∙ counted total)

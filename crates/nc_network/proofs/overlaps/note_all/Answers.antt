@@ -4,7 +4,8 @@ use Rattle.std.specs.Option.{option_to_list}
 use Rattle.std.proofs.lemmas.List.{append-nil}
 use Rattle.nc_types.specs.Joining.{Used, earliest, with_later}
 use Rattle.nc_network.specs.Steps.{merge, used_of, Heads, by_prefix, same_pairs}
-use Rattle.nc_network.proofs.Walks.{drop_back, kept-before}
+use Rattle.nc_types.proofs.Walks.{drop_back}
+use Rattle.nc_network.proofs.Walks.{kept-before}
 use Rattle.nc_network.proofs.OverlapTotals.{cidrs-more, same-more}
 use Rattle.nc_network.proofs.overlaps.note_all.Goals as goal
 

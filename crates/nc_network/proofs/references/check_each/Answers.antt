@@ -3,7 +3,7 @@ use Rattle.nc_types.specs.declared.config.Reference.{Reference}
 use Rattle.nc_types.specs.Joining.{Clash, undefined_by}
 use Rattle.nc_network.specs.Steps.{merge, first_of_all}
 use Rattle.nc_network.proofs.Clashes.{found-more}
-use Rattle.nc_network.proofs.Walks.{drop_read}
+use Rattle.nc_types.proofs.Walks.{drop_read}
 use Rattle.nc_network.proofs.references.check_each.Goals as goal
 
 pub references-preserved : goal.references-preserved

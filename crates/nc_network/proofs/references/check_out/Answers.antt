@@ -5,7 +5,7 @@ use Rattle.nc_types.specs.declared.config.Neighbor.{Neighbor}
 use Rattle.nc_types.specs.Joining.{Clash, undefined_by}
 use Rattle.nc_network.specs.Steps.{merge, first_of_all}
 use Rattle.nc_network.proofs.Clashes.{found-more}
-use Rattle.nc_network.proofs.Walks.{drop_read}
+use Rattle.nc_types.proofs.Walks.{drop_read}
 use Rattle.nc_network.proofs.references.check_out.Goals as goal
 
 pub neighbors-preserved : goal.neighbors-preserved

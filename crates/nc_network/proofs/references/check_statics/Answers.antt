@@ -5,7 +5,7 @@ use Rattle.nc_types.specs.declared.config.StaticRoute.{StaticRoute}
 use Rattle.nc_types.specs.Joining.{Clash, undefined_by, interface_by}
 use Rattle.nc_network.specs.Steps.{merge, first_of_all}
 use Rattle.nc_network.proofs.Clashes.{found-more}
-use Rattle.nc_network.proofs.Walks.{drop_read}
+use Rattle.nc_types.proofs.Walks.{drop_read}
 use Rattle.nc_network.proofs.references.check_statics.Goals as goal
 
 pub statics-preserved : goal.statics-preserved

@@ -5,12 +5,12 @@ use Rattle.nc_reader.proofs.ConfigLemmas.{wrong, unnamed, whole}
 use Rattle.nc_reader.proofs.config.finish.Goals as goal
 
 pub returns-in-Some : goal.returns-in-Some
-returns-in-Some c = record { read = wrong c.args.lines.now c.args.parts.fault c.in-Some.fault c.requires.fault c.in-Some.is; well_formed = tt; placed = tt }
+returns-in-Some c = record { read = wrong c.args.lines.now c.args.parts.fault c.in-Some.fault c.requires.fault c.in-Some.is; well_formed = tt }
 
 pub returns-in_default-name : goal.returns-in_default-name
 returns-in_default-name c =
     let clean : c.args.parts.fault ≡ None = c.in_default.is in
-    record { read = unnamed c.args.lines.now c.args.parts.fault c.args.parts.name c.requires.fault clean c.requires.name c.in_default-name.is; well_formed = tt; placed = tt }
+    record { read = unnamed c.args.lines.now c.args.parts.fault c.args.parts.name c.requires.fault clean c.requires.name c.in_default-name.is; well_formed = tt }
 
 pub returns : goal.returns
 returns c =
@@ -23,5 +23,4 @@ returns c =
     record {
       read = read;
       well_formed = c.configurations_are_well_formed.ensures c.args.lines.now _ read;
-      placed = λ none. c.interfaces_alone_are_placed.ensures c.args.lines.now _ (omega (arith, c.count-count.ensures)) read none;
     }

@@ -5,4 +5,4 @@ use Rattle.nc_types.proofs.network.owners.claim_all.Given as goal
 
 -- the owners among the elements so far
 abbrev pub invariant-elements : goal.invariant-elements
-invariant-elements l = (k : ℕ) → k < length l.fn.owners → slice_get l.owners k ≡ Some (owner_in l.first (map element_view (take l.place l.elements)) k)
+invariant-elements l = (k : ℕ) → k < length l.fn.owners → slice_get l.owners k ≡ Some (owner_in (map element_view (take l.place l.elements)) k)

@@ -1,11 +1,7 @@
-use Rattle.std.proofs.Common.{◌≡◌, map, take}
+use Rattle.std.proofs.Common.{map}
 use Rattle.nc_types.specs.Config.{config_view}
-use Rattle.nc_types.specs.Network.{element_count}
 use Rattle.nc_types.specs.Tables.{AreAllOwners}
 use Rattle.nc_types.proofs.network.owners.line_owners.Given as goal
 
 abbrev pub invariant-routers : goal.invariant-routers
-invariant-routers l = record {
-  first : l.first ≡ element_count (take l.config-index (map config_view l.routers));
-  owners : AreAllOwners (map config_view l.routers) l.config-index l.owners.items;
-}
+invariant-routers l = AreAllOwners (map config_view l.routers) l.config-index l.owners.items
