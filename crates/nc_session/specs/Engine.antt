@@ -1,41 +1,57 @@
--- What an engine has, and how it answers a line.
-use Rattle.std.specs.Prelude.{◌≡◌, ◌≢◌, ℕ, ◌+◌, ◌-◌, ◌≤◌, List, ◌++◌, length, Option, Some, if◌then◌else◌, codes}
+-- What an engine has, how it answers a line, and how many facts it infers for it.
+use Rattle.std.specs.Prelude.{◌≡◌, ℕ, ◌-◌, nat_lt, List, [], ◌++◌, length, Option, Some, if◌then◌else◌}
 use Rattle.nc_graph.specs.Flow.{raised}
-use Rattle.nc_graph.specs.Closure.{IsClosure}
+use Rattle.nc_graph.specs.Closure.{IsClosure, ReachesMoreThan}
 use Rattle.nc_tables.specs.State.{StateView}
 use Rattle.nc_rules.specs.Rules.{flow_of}
 use Rattle.nc_fact.specs.declared.fact.Fact.{Fact}
-use Rattle.nc_command.specs.Command.{Line}
-use Rattle.nc_session.specs.declared.TheConstants.{FACT_LIMIT}
+use Rattle.nc_fact.specs.Tested.{tested_facts}
+use Rattle.nc_command.specs.declared.command.Command.TheVariants.{Test}
+use Rattle.nc_command.specs.Command.{Line, Asks, command_of}
+use Rattle.nc_session.specs.declared.TheConstants.{TEST_LIMIT, FACT_LIMIT}
 use Rattle.nc_session.specs.declared.engine.Flow.{Flow}
 use Rattle.nc_session.specs.declared.engine.Flow.TheVariants.{Go, Stop}
-use Rattle.nc_session.specs.Texts.{line_of}
-use Rattle.nc_session.specs.Session.{State, Step, tested_in, ends}
+use Rattle.nc_session.specs.File.{FileView}
+use Rattle.nc_session.specs.Session.{KeptTest, State, no_tests, Step, asked_in, ends}
 
--- an engine that isn't spent: the state of its network, what is kept of the session, and how many facts were inferred
+-- an engine that isn't spent: the state of its network, the routers' files, what is kept of the session, and how many facts were inferred
 pub record Progress : Type 0 where
   pub state : StateView
+  pub files : List FileView
   pub session : State
   pub asked : ℕ
+
+-- an engine that begins: no test was accepted, and no fact was inferred
+abbrev pub begin_at : StateView → List FileView → Progress
+begin_at s files = record { state = s; files = files; session = no_tests; asked = 0 }
 
 -- whether the session goes on behind a line
 abbrev pub flow_behind : Line → Flow
 flow_behind line = if ends line then Stop else Go
 
--- facts are inferred once: for a test that is accepted as many as are new; for one that is refused for its facts one more than there may be at most; else none
-pub record Asks (old new : Progress) (reply : List ℕ) : Type 0 where
-  pub accepted : (xs ys : List Fact) → length new.session.tests ≡ length old.session.tests + 1 → IsClosure (flow_of old.state) (tested_in old.session.tests) xs
-      → IsClosure (flow_of old.state) (tested_in new.session.tests) ys → new.asked ≡ raised old.asked (length ys - length xs)
-  pub refused : reply ≡ line_of (codes "refused limit facts") → (old.asked ≤ new.asked) × (new.asked ≤ raised old.asked (FACT_LIMIT + 1))
-  pub unasked : new.session ≡ old.session → reply ≢ line_of (codes "refused limit facts") → new.asked ≡ old.asked
+module _ (s : StateView) (tests : List KeptTest) where
+  -- the facts for which a line asks: those of a test, where one more may be accepted; of any other line none
+  abbrev pub asked_for : Line → List Fact
+  asked_for (Asks (Test test)) = if nat_lt (length tests) TEST_LIMIT then tested_facts s test else []
+  asked_for line = []
 
--- a line is answered: the reply goes to the end of the bytes
+  -- facts are inferred once: as many as are new where they fit, else as many as there was room for; for a line that asks for none no fact
+  pub record Infers (facts : List Fact) (before now : ℕ) : Type 0 where
+    pub none : facts ≡ [] → now ≡ before
+    pub fits : ¬ ReachesMoreThan (flow_of s) FACT_LIMIT (asked_in tests ++ facts) → (xs ys : List Fact)
+        → IsClosure (flow_of s) (asked_in tests) xs → IsClosure (flow_of s) (asked_in tests ++ facts) ys
+        → now ≡ raised before (length ys - length xs)
+    pub full : ReachesMoreThan (flow_of s) FACT_LIMIT (asked_in tests ++ facts) → (xs : List Fact)
+        → IsClosure (flow_of s) (asked_in tests) xs → now ≡ raised before (FACT_LIMIT - length xs)
+
+-- a line is answered: the reply goes to the end of the bytes; state and files stay
 pub record Answered (old new : Progress) (line before after : List ℕ) : Type 0 where
   pub reply : List ℕ
   pub step : Step old.state old.session line reply new.session
   pub text : after ≡ before ++ reply
   pub state : new.state ≡ old.state
-  pub asks : Asks old new reply
+  pub files : new.files ≡ old.files
+  pub infers : Infers old.state old.session.tests (asked_for old.state old.session.tests (command_of line)) old.asked new.asked
 
 -- the same of engines of which neither is spent
 pub record Turns (old new : Option Progress) (line before after : List ℕ) : Type 0 where

@@ -5,6 +5,7 @@ pub mod Output
 pub mod Reading
 pub mod Loading
 pub mod Ending
+pub mod File
 pub mod Engine
 pub mod Work
 pub mod Sheets

@@ -24,17 +24,30 @@ router_of (Reach name addr) = name
 router_of (Every name addr) = name
 router_of (Element name line) = name
 
--- the facts of each accepted test, in order
+-- a test that was accepted: the facts that it tests, and whether it is live, so that its marks count
+pub record KeptTest : Type 0 where
+  pub facts : List Fact
+  pub live : Bool
+
+-- a test as it is accepted
+abbrev pub live_test : List Fact → KeptTest
+live_test facts = record { facts = facts; live = true }
+
+-- the accepted tests, in order
 pub record State : Type 0 where
-  pub tests : List (List Fact)
+  pub tests : List KeptTest
 
 -- no test was accepted
 abbrev pub no_tests : State
 no_tests = record { tests = [] }
 
--- the facts of all tests
-abbrev pub tested_in : List (List Fact) → List Fact
-tested_in tests = flat_map (λ facts. facts) tests
+-- the facts of all tests: with all that they follow from these were asked
+abbrev pub asked_in : List KeptTest → List Fact
+asked_in tests = flat_map (λ t. t.facts) tests
+
+-- the facts of the live tests, for which lines are marked
+abbrev pub live_in : List KeptTest → List Fact
+live_in tests = flat_map (λ t. if t.live then t.facts else []) tests
 
 -- a reply of one line that changes nothing
 abbrev pub Refuses : State → List ℕ → List ℕ → State → Type 0
@@ -42,20 +55,22 @@ Refuses old text reply new = (reply ≡ line_of text) × (new ≡ old)
 
 module _ (s : StateView) where
   -- the reply to a test that makes these tests: its number, how many facts were asked, and the report
-  pub record IsReply (tests : List (List Fact)) (reply : List ℕ) : Type 0 where
+  pub record IsReply (tests : List KeptTest) (reply : List ℕ) : Type 0 where
     pub asked : List Fact
-    pub closure : IsClosure (flow_of s) (tested_in tests) asked
+    pub closure : IsClosure (flow_of s) (asked_in tests) asked
     pub report : List ℕ
-    pub is_report : IsReport (flow_of s) (tested_in tests) s.routers report
+    pub is_report : IsReport (flow_of s) (live_in tests) s.routers report
     pub text : reply ≡ accepted_of (length tests) (length asked) ++ report
 
   -- a test with which too many facts would be asked, and one that is accepted
   abbrev pub Overfills : State → List Fact → List ℕ → State → Type 0
-  Overfills old facts reply new = ReachesMoreThan (flow_of s) FACT_LIMIT (tested_in old.tests ++ facts) × Refuses old (codes "refused limit facts") reply new
+  Overfills old facts reply new =
+      ReachesMoreThan (flow_of s) FACT_LIMIT (asked_in old.tests ++ facts) × Refuses old (codes "refused limit facts") reply new
 
   abbrev pub Accepts : State → List Fact → List ℕ → State → Type 0
   Accepts old facts reply new =
-      ¬ ReachesMoreThan (flow_of s) FACT_LIMIT (tested_in old.tests ++ facts) × (new ≡ record { tests = old.tests ++ facts ∷ [] }) × IsReply new.tests reply
+      ¬ ReachesMoreThan (flow_of s) FACT_LIMIT (asked_in old.tests ++ facts)
+      × (new ≡ record { tests = old.tests ++ live_test facts ∷ [] }) × IsReply new.tests reply
 
   -- whether there is room for one more test
   abbrev pub Counts : Bool → State → List Fact → List ℕ → State → Type 0

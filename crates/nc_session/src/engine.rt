@@ -1,11 +1,11 @@
 //! The engine: the state of a network, and the answers to the lines of a session.
 
-ghost use Rattle.std.specs.Prelude.{◌≡◌, None, Some, IfOk, OnOk, OnErr};
+ghost use Rattle.std.specs.Prelude.{◌≡◌, None, Some, map, IfOk, OnOk, OnErr};
 ghost use Rattle.nc_command.specs.Command.{command_of};
-ghost use Rattle.nc_session.specs.Session.{no_tests};
-ghost use Rattle.nc_session.specs.Engine.{Turns, flow_behind};
+ghost use Rattle.nc_session.specs.File.{AreFilesOf, file_view};
+ghost use Rattle.nc_session.specs.Engine.{Turns, begin_at, flow_behind};
 
-use crate::load::LoadedFile;
+use crate::file::LoadedFile;
 use crate::work::Work;
 use nc_tables::Stable;
 use std::alloc::{AllocError, Global};
@@ -19,8 +19,8 @@ pub enum Flow {
     Stop,
 }
 
-/// A network in its state, with what a session keeps: the tests that were accepted, and the facts that they
-/// rest on. An engine for which memory ran out is spent.
+/// A network in its state with the files of its routers, and what a session keeps: the tests that were
+/// accepted, and the facts that they rest on. An engine for which memory ran out is spent.
 #[derive(Drop)]
 pub struct Engine {
     work: Option<Work>,
@@ -35,20 +35,21 @@ impl Model for Engine {
 
     ghost Value = { Option Progress };
 
-    ghost view = { λ e. option_map progress_of e.work };
+    ghost view = { λ e. option_map (progress_of (map file_view e.files.items)) e.work };
 
     ghost invariant = { λ e. ForSome e.work IsWork };
 }
 
 impl Engine {
     /// An engine of a network's state, with the files of its routers, in order: without tests, and no fact
-    /// was asked.
+    /// was inferred.
     ///
     /// # Errors
     ///
     /// Memory that runs out.
     pub fn begin(alloc: Global, state: Stable, files: Vec<LoadedFile>) -> Result<Engine, AllocError>
-        ensures { IfOk result (λ engine. engine ≡ Some (record { state = state; session = no_tests; asked = 0 })) }
+        requires fit { AreFilesOf state.routers (map file_view files.items) }
+        ensures { IfOk result (λ engine. engine ≡ Some (begin_at state (map file_view files.items))) }
     {
         let work = Work::begin(alloc, state)?;
         Ok(Engine {

@@ -9,6 +9,7 @@
 #![tactic(auto)]
 
 mod engine;
+mod file;
 pub mod laws;
 mod load;
 mod reading;
@@ -23,7 +24,7 @@ mod work;
 mod writing;
 
 pub use engine::{Engine, Flow};
-pub use load::LoadedFile;
+pub use file::LoadedFile;
 pub use refusal::{Quantity, Reason};
 pub use runs::run;
 pub use status::Status;

@@ -12,10 +12,10 @@ ghost use Rattle.nc_session.specs.declared.refusal.Quantity.TheVariants as Quant
 ghost use Rattle.nc_session.specs.Output.{files_of, is_option, file_named, load_content, load_lines, load_each, load_names};
 ghost use Rattle.nc_session.specs.Loading.{IsOne, AddsOne, IsEach, IsJoined, IsLoad, IsRead, joining_fault, HasCauseOf, TakesOfEntered, IsTaken, IsInTurn, texts};
 
+use crate::file::LoadedFile;
 use crate::reading::read_file;
 use crate::refusal::{LoadFault, Quantity, Reason};
 use crate::{FILE_LIMIT, LINE_LIMIT, ROUTER_LIMIT};
-use nc_lines::Lines;
 use nc_lines::split::split_lines;
 use nc_network::{JoinFault, join};
 use nc_outside::Files;
@@ -24,13 +24,6 @@ use nc_stable::settle_static;
 use nc_tables::Stable;
 use nc_types::{ConfigFault, RouterConfig, RouterId, Text};
 use std::alloc::{AllocError, Global};
-
-/// A file that was read: its name, as the words give it, and its lines.
-#[derive(Drop)]
-pub struct LoadedFile {
-    pub name: Text,
-    pub lines: Lines,
-}
 
 // A file that was read, with its configuration.
 #[derive(Drop)]

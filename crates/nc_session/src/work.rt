@@ -1,7 +1,7 @@
 //! What the engine works with: the state of the network, the graph of the facts that were asked, their marks,
 //! and the tests.
 
-ghost use Rattle.std.specs.Prelude.{◌≡◌, ◌++◌, ◌<◌, ◌≤◌, ◌+◌, ◌-◌, true, length, All, IfOk, OnOk, OnErr, IsErrOf, codes};
+ghost use Rattle.std.specs.Prelude.{◌≡◌, ◌++◌, ◌<◌, ◌≤◌, ◌+◌, ◌-◌, true, List, length, All, IfOk, OnOk, OnErr, IsErrOf, codes};
 ghost use Rattle.nc_graph.specs.Closure.{IsClosure, ReachesMoreThan};
 ghost use Rattle.nc_graph.specs.Flow.{raised};
 ghost use Rattle.nc_graph.specs.Nodes.{Mirrors, IsGraph, Extends, AreNodesOf};
@@ -9,9 +9,10 @@ ghost use Rattle.nc_graph.specs.declared.fault.GraphFault.TheVariants as GraphFa
 ghost use Rattle.nc_rules.specs.Rules.{flow_of};
 ghost use Rattle.nc_command.specs.Command.{command_of, text_of};
 ghost use Rattle.nc_session.specs.declared.TheConstants.{TEST_LIMIT, FACT_LIMIT};
-ghost use Rattle.nc_session.specs.Session.{no_tests, router_of};
+ghost use Rattle.nc_session.specs.Session.{router_of};
 ghost use Rattle.nc_session.specs.Texts.{accepted_of, line_of};
-ghost use Rattle.nc_session.specs.Engine.{Answered, flow_behind};
+ghost use Rattle.nc_session.specs.File.{FileView};
+ghost use Rattle.nc_session.specs.Engine.{Answered, begin_at, flow_behind};
 ghost use Rattle.nc_session.specs.Work.{IsWork, Takes, Replies, Counted, Tested, progress_of};
 
 use crate::engine::Flow;
@@ -121,7 +122,7 @@ impl Work {
     /// For a network's state, without tests.
     pub(crate) fn begin(alloc: Global, state: Stable) -> Result<Work, AllocError>
         ensures work { IfOk result IsWork }
-        ensures progress { IfOk result (λ work. progress_of work ≡ record { state = state; session = no_tests; asked = 0 }) }
+        ensures progress { IfOk result (λ work. (files : List FileView) → progress_of files work ≡ begin_at state files) }
     {
         let elements = state.network().element_count();
         let marks = KeptMarks::new(alloc, elements)?;
@@ -230,7 +231,8 @@ impl Work {
     ) -> Result<Flow, AllocError>
         requires { IsWork self.old }
         ensures work { OnOk result (IsWork self.new) }
-        ensures answered { OnOk result (Answered (progress_of self.old) (progress_of self.new) line.now out.old.items out.new.items) }
+        ensures answered { OnOk result ((files : List FileView) → Answered (progress_of files self.old) (progress_of files self.new)
+            line.now out.old.items out.new.items) }
         ensures flow { IfOk result (λ flow. flow ≡ flow_behind (command_of line.now)) }
     {
         match read_command(alloc, line) {
