@@ -128,10 +128,14 @@ impl<F: Copy + Eq + Hash> Graph<F> {
         ensures mirrors { Mirrors (I.flow rules.old) self.new }
         ensures nodes { IfOk result (λ nodes. AreNodesOf self.new nodes.items facts.now) }
 
-        // Each new fact was inferred once, and at a refusal at most one fact more than the limit.
+        // Each new fact was inferred once. The rules stay of the same basis. Where it is full, as many facts were
+        // inferred as there was room for; where memory is refused, at most one more than the limit.
         ensures flow { I.flow rules.new ≡ I.flow rules.old }
+        ensures basis { I.basis rules.new ≡ I.basis rules.old }
         ensures asked { OnOk result (I.asked rules.new
             ≡ raised (I.asked rules.old) (length self.new.facts - length self.old.facts)) }
+        ensures asked_full { IsErrOf result GraphFault.Full → I.asked rules.new
+            ≡ raised (I.asked rules.old) (self.old.limit - length self.old.facts) }
         ensures asked_least { I.asked rules.old ≤ I.asked rules.new }
         ensures asked_most { I.asked rules.new ≤ raised (I.asked rules.old) (self.old.limit + 1) }
 
@@ -161,6 +165,7 @@ impl<F: Copy + Eq + Hash> Graph<F> {
         requires holds { All (λ f. (I.flow rules.old).holds f ≡ true) facts.now }
         requires mirrors { Mirrors (I.flow rules.old) self.old }
         ensures flow { I.flow rules.new ≡ I.flow rules.old }
+        ensures basis { I.basis rules.new ≡ I.basis rules.old }
         ensures extends { Extends self.old self.new }
         ensures mirrors { OnOk result (Mirrors (I.flow rules.old) self.new) }
         ensures closure { OnOk result
@@ -171,6 +176,8 @@ impl<F: Copy + Eq + Hash> Graph<F> {
         ensures full { IsErrOf result GraphFault.Full
             → ReachesMoreThan (I.flow rules.old) self.old.limit (self.old.facts ++ facts.now) }
         ensures graph { OnOk result (IsGraph self.new) }
+        ensures asked_full { IsErrOf result GraphFault.Full → I.asked rules.new
+            ≡ raised (I.asked rules.old) (self.old.limit - length self.old.facts) }
         ensures asked_least { I.asked rules.old ≤ I.asked rules.new }
         ensures asked_most { I.asked rules.new ≤ raised (I.asked rules.old) (self.old.limit + 1) }
     {

@@ -14,6 +14,13 @@ pub trait Inference {
     /// The flow graph that these rules give.
     ghost flow: { Self → Flow Self.Fact };
 
+    /// What the rules are made of, as the state of a network. It stays as it is, whatever is inferred: rules of
+    /// equal flow graphs may be made of different things.
+    ghost Basis: { Type 0 };
+
+    /// What these rules are made of.
+    ghost basis: { Self → Self.Basis };
+
     /// How many facts were inferred so far, up to the largest `u64`, at which the count stays.
     ghost asked: { Self → ℕ };
 
@@ -29,6 +36,7 @@ pub trait Inference {
         ensures parents { into.new.items ≡ (if is_ok result
             then into.old.items ++ (flow self.old).parents fact.now else into.old.items) }
         ensures flow { flow self.new ≡ flow self.old }
+        ensures basis { basis self.new ≡ basis self.old }
         ensures asked { asked self.new ≡ raised (asked self.old) 1 };
 
     /// The laws of a flow graph hold.

@@ -48,6 +48,7 @@ fn infer<F: Copy + Eq + Hash, I: Inference<Fact = F>>(
 ) -> Result<(), AllocError>
     requires { (I.flow rules.old).holds fact ≡ true }
     ensures flow { I.flow rules.new ≡ I.flow rules.old }
+    ensures basis { I.basis rules.new ≡ I.basis rules.old }
     ensures asked { I.asked rules.new ≡ raised (I.asked rules.old) 1 }
     ensures ok { OnOk result
         (steps tasks.new.items ≡ expanded (I.flow rules.old) fact (steps tasks.old.items)) }
@@ -75,6 +76,7 @@ pub(crate) fn walk<F: Copy + Eq + Hash, I: Inference<Fact = F>>(
     requires holds { All (λ f. (I.flow rules.old).holds f ≡ true) facts.now }
     requires mirrors { Mirrors (I.flow rules.old) graph.old }
     ensures flow { I.flow rules.new ≡ I.flow rules.old }
+    ensures basis { I.basis rules.new ≡ I.basis rules.old }
     ensures extends { Extends graph.old graph.new }
     ensures graph { OnOk result (IsGraph graph.new) }
     ensures mirrors { OnOk result (Mirrors (I.flow rules.old) graph.new) }
@@ -84,6 +86,8 @@ pub(crate) fn walk<F: Copy + Eq + Hash, I: Inference<Fact = F>>(
         ≡ raised (I.asked rules.old) (length graph.new.facts - length graph.old.facts)) }
     ensures full { IsErrOf result GraphFault.Full
         → ReachesMoreThan (I.flow rules.old) graph.old.limit (graph.old.facts ++ facts.now) }
+    ensures asked_full { IsErrOf result GraphFault.Full → I.asked rules.new
+        ≡ raised (I.asked rules.old) (graph.old.limit - length graph.old.facts) }
     ensures asked_least { I.asked rules.old ≤ I.asked rules.new }
     ensures asked_most { I.asked rules.new ≤ raised (I.asked rules.old) (graph.old.limit + 1) }
 {

@@ -1,9 +1,10 @@
-use Rattle.std.proofs.Common.{ℕ, ◌≡◌, ◌+◌, ◌<◌, ◌≤◌, [], ◌∷◌, ◌++◌, List, length, map, sym, ap, ◌∙◌, subst, refl, arith}
+use Rattle.std.proofs.Common.{ℕ, ◌≡◌, ◌+◌, ◌-◌, ◌<◌, ◌≤◌, [], ◌∷◌, ◌++◌, List, length, map, sym, ap, ◌∙◌, subst, refl, arith}
 use Rattle.std.specs.List.{All, Contains}
 use Rattle.std.proofs.lemmas.Grind.{common_steps}
 use Rattle.std.proofs.lemmas.List.{nil_from_length}
 use Rattle.nc_graph.specs.declared.walk.Task.{Task}
 use Rattle.nc_graph.specs.declared.walk.Task.TheVariants.{Visit, Number}
+use Rattle.nc_graph.specs.Flow.{raised}
 use Rattle.nc_graph.specs.Nodes.{HasShape, AddsNode}
 use Rattle.nc_graph.specs.Walk.{Step, visit, steps, expanded}
 use Rattle.nc_graph.proofs.StackLemmas.{steps-pop, steps-visits}
@@ -22,7 +23,7 @@ walking-init g c =
     let top = ap steps (c.in_ok-visit_all.ensures ∙ ap (λ ts. ts ++ map Visit roots) c.new-tasks.ensures.items) ∙ steps-visits [] roots in
     let w = begins flow (g.met.I.Inference.lawful rules) old roots before (roots-hold flow old roots c.requires.holds c.requires.mirrors)
     g.F.PartialEq.eq g.met.F.Eq.laws.refl _ top c.len-found.ensures.graph c.len-found.ensures.distinct c.requires.mirrors (g.met.I.Inference.counted rules) in
-    record { same = refl; walk = subst (λ (m : ℕ). Walk flow old roots before old (steps c.visit_all.new.tasks.items) m before) (sym c.len-found.ensures.len) w }
+    record { same = refl; basis = refl; walk = subst (λ (m : ℕ). Walk flow old roots before old (steps c.visit_all.new.tasks.items) m before) (sym c.len-found.ensures.len) w }
 
 pub walking-smaller-then-has : goal.walking-smaller-then-has
 walking-smaller-then-has g c =
@@ -45,6 +46,7 @@ walking-preserved-then-has g c =
     let w = subst (λ (st : List (Step g.row.F.Denot)). Walk flow old roots before n st c.walking.found count) top c.walking.invariant.walk in
     record {
       same = c.walking.invariant.same;
+      basis = c.walking.invariant.basis;
       walk = skip flow (g.met.I.Inference.lawful rules) old roots before (roots-hold flow old roots c.requires.holds c.requires.mirrors) c.in-Visit.fact rest n c.walking.found count w
           (in-from_any g.F.PartialEq.eq g.met.I.Inference.exact n.facts c.in-Visit.fact (sym c.has.ensures ∙ c.if-has.true));
     }
@@ -64,6 +66,14 @@ returns-then-found-limit-clause-full g c = λ _.
     let full : n.limit ≤ c.walking.found = omega (arith, c.if-found-limit.true, c.limit.ensures) in
     exceeds flow (g.met.I.Inference.lawful rules) old roots before (roots-hold flow old roots c.requires.holds c.requires.mirrors) c.in-Visit.fact rest n c.walking.found count w
     (absent-in g.F.PartialEq.eq g.met.F.Eq.laws.refl n.facts c.in-Visit.fact (sym c.has.ensures ∙ c.if-has.false)) full
+
+pub returns-then-found-limit-clause-asked_full : goal.returns-then-found-limit-clause-asked_full
+returns-then-found-limit-clause-asked_full g c = λ _.
+    let old = c.args.graph.now in
+    let counted = c.walking.invariant.walk.counted in
+    let limit = c.walking.invariant.walk.extends.limit in
+    let full : c.walking.found ≡ old.limit = omega (arith, c.if-found-limit.true, c.limit.ensures) in
+    counted ∙ ap (λ (n : ℕ). raised (g.I.Inference.asked c.args.rules.now) (n - length old.facts)) full
 
 pub infer-requires : goal.infer-requires
 infer-requires g c =
@@ -119,6 +129,7 @@ walking-preserved-in-Visit g c =
     (absent-in g.F.PartialEq.eq g.met.F.Eq.laws.refl n.facts c.in-Visit.fact (sym c.has.ensures ∙ c.if-has.false)) room in
     record {
       same = c.infer.ensures.flow ∙ c.walking.invariant.same;
+      basis = c.infer.ensures.basis ∙ c.walking.invariant.basis;
       walk = subst (λ (st : List (Step g.row.F.Denot)). Walk flow old roots before n st (found + 1) (g.I.Inference.asked c.infer.new.rules)) (sym made)
           (subst (λ (m : ℕ). Walk flow old roots before n (expanded flow c.in-Visit.fact rest) (found + 1) m) (sym c.infer.ensures.asked) next);
     }
@@ -198,6 +209,7 @@ walking-preserved g c =
     let adds = subst (λ (ps : List g.row.F.Denot). AddsNode n c.place.new.self t.fact t.kind ps) c.as_slice-parents.ensures.value c.in_ok-place-in-Number.ensures.ok in
     record {
       same = c.walking.invariant.same;
+      basis = c.walking.invariant.basis;
       walk = numbers flow (g.met.I.Inference.lawful rules) old roots before (roots-hold flow old roots c.requires.holds c.requires.mirrors)
           t.fact t.kind t.parents.items rest n c.place.new.self c.walking.found count w adds;
     }

@@ -9,6 +9,7 @@ invariant-walking g l =
     let flow = g.I.Inference.flow l.fn.rules in
     record {
       same : g.I.Inference.flow l.rules ≡ flow;
+      basis : g.I.Inference.basis l.rules ≡ g.I.Inference.basis l.fn.rules;
       walk : Walk flow l.fn.graph l.fn.facts (g.I.Inference.asked l.fn.rules) l.graph (steps l.tasks.items) l.found (g.I.Inference.asked l.rules);
     }
 
