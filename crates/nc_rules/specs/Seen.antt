@@ -5,7 +5,7 @@ use Rattle.nc_rules.specs.declared.rules.Rules.{Rules}
 
 -- the state that they are of
 abbrev pub state_of : Rules → StateView
-state_of rules = rules.state.now
+state_of rules = rules.state
 
 -- how many facts were asked for
 abbrev pub asked_of : Rules → ℕ

@@ -18,42 +18,34 @@ pub fn rules_make_a_flow()
     rules_are_lawful();
 }
 
-/// The rules of a network: its state, which they borrow, and how many facts were asked for. Whoever keeps the
-/// state makes rules of it for each use, and goes on from the count of the last.
+/// The rules of a network: its state, which they own, and how many facts were asked for. Nothing gives the state
+/// back, so whatever is inferred of it is counted here.
 #[derive(Drop)]
-pub struct Rules<'a> {
-    state: &'a Stable,
+pub struct Rules {
+    state: Stable,
     asked: u64,
-    ghost lawful: { IsFlow (flow_of state.now) },
+    ghost lawful: { IsFlow (flow_of state) },
     ghost counted: { asked < 2 ^ 64 },
 }
 
-impl<'a> Rules<'a> {
+impl Rules {
     ghost use Rattle.nc_rules.specs.Seen.{state_of, asked_of};
 
     /// The rules of a network in this state; no fact was asked for yet.
-    pub fn new(state: &'a Stable) -> Rules<'a>
-        ensures state { state_of result ≡ state.now }
+    pub fn new(state: Stable) -> Rules
+        ensures state { state_of result ≡ state }
         ensures asked { asked_of result ≡ 0 }
-    {
-        Rules::resume(state, 0)
-    }
-
-    /// The rules of a network in this state, for which so many facts were asked.
-    pub fn resume(state: &'a Stable, asked: u64) -> Rules<'a>
-        ensures state { state_of result ≡ state.now }
-        ensures asked { asked_of result ≡ asked }
     {
         rules_make_a_flow();
         let _settled = state.network();
-        Rules { state, asked }
+        Rules { state, asked: 0 }
     }
 
     /// The state.
-    pub fn state(&self) -> &'a Stable
+    pub fn state(&self) -> &Stable
         ensures { result.now ≡ state_of self.now }
     {
-        self.state
+        &self.state
     }
 
     /// How many facts were asked for so far, up to the largest `u64`, at which the count stays.
@@ -64,20 +56,26 @@ impl<'a> Rules<'a> {
     }
 }
 
-impl<'a> Inference for Rules<'a> {
+impl Inference for Rules {
     ghost use Rattle.std.proofs.Common.{rules};
+    ghost use Rattle.nc_tables.specs.State.{StateView};
     ghost use Rattle.nc_rules.specs.Sameness.{same_is};
+    ghost use Rattle.nc_rules.specs.Seen.{state_of, asked_of};
 
     type Fact = Fact;
 
-    ghost flow = { λ rules. flow_of rules.state.now };
+    ghost flow = { λ rules. flow_of rules.state };
 
-    ghost asked = { λ rules. rules.asked };
+    ghost Basis = { StateView };
+
+    ghost basis = { state_of };
+
+    ghost asked = { asked_of };
 
     #[tactic(auto, unfolding(crate::specs::Rules::flow_of))]
     fn infer(&mut self, fact: &Fact, into: &mut Vec<Fact>) -> Result<NodeKind, AllocError> {
         self.asked = self.asked.saturating_add(1);
-        let kind = route_parents(self.state, fact, into)?;
+        let kind = route_parents(&self.state, fact, into)?;
         Ok(kind)
     }
 
