@@ -1,22 +1,24 @@
 -- The laws of marks: over a graph that extends another, and over facts in place of nodes.
-use Rattle.std.proofs.Common.{◌≡◌, ◌↔◌, ℕ, suc, zero, ◌<◌, ◌≤◌, inl, inr, true, List, [], ◌∷◌, length, map, get_or, Some, None, Option, slice_get, nat_eq, nat_lt, sym, ap, ◌∙◌, subst, refl, arith, All}
+use Rattle.std.proofs.Common.{◌≡◌, ◌↔◌, ℕ, ◌<◌, ◌≤◌, inl, inr, Bool, true, List, [], ◌∷◌, length, map, get_or, Some, None, Option, slice_get, nat_eq, nat_lt, sym, ap, ◌∙◌, subst, refl, arith, All}
 use Rattle.std.proofs.lemmas.Bool.{lt-ltb, ltb-true}
 use Rattle.std.proofs.lemmas.List.{get_or-take}
 use Rattle.std.specs.List.{list_any, list_all, Any}
 use Rattle.nc_graph.specs.declared.node.NodeKind.TheVariants as kind
 use Rattle.nc_graph.specs.declared.node.NodeId.{NodeId}
-use Rattle.nc_graph.specs.Closure.{Reaches, itself, by_parent, IsReachedFrom, IsClosure}
 use Rattle.nc_graph.specs.Derivation.{IsStrong, IsInSome, strong, occurs}
 use Rattle.nc_graph.specs.Flow.{Flow, IsFlow, by_kind}
 use Rattle.nc_graph.specs.Nodes.{Nodes, node_flow, IsGraph, Mirrors, Extends}
-use Rattle.nc_graph.proofs.Members.{In, any_same, all_same, get_in, at_within, of_all}
-use Rattle.nc_graph.proofs.DerivationLaws.{by_rank, parent_holds, strong-step, occurs-step, IsStrong-is, IsInSome-is}
+use Rattle.nc_graph.proofs.Members.{In, any_same, all_same, of_all}
+use Rattle.nc_graph.proofs.DerivationLaws.{by_rank, strong-step, occurs-step, IsStrong-is, IsInSome-is}
 use Rattle.nc_graph.proofs.NodeLaws.{IsStrong-node, IsInSome-node}
-use Rattle.nc_graph.proofs.WalkLemmas.{Contains-in, in-Contains, Apart, distinct-Apart, prefix-length}
+use Rattle.nc_graph.proofs.WalkLemmas.{Contains-in, in-Contains, prefix-length}
 use Rattle.nc_marks.specs.declared.mark.Mark.{Mark}
 use Rattle.nc_marks.specs.declared.mark.Mark.TheVariants.{Strong, Weak, Uncovered, Outside}
 use Rattle.nc_marks.specs.Kept.{Kept, AreKept}
 use Rattle.nc_marks.specs.Marks.{IsMark, AreMarks, ElementMarks, mark_of}
+use Rattle.nc_marks.specs.Reach.{AreReached}
+use Rattle.nc_marks.specs.Sets.{flag}
+use Rattle.nc_marks.proofs.ReachLemmas.{flag-within}
 
 -- an element of a list with a fact of it
 abbrev With : {X : Type 0} → (X → Type 0) → List X → Type 0
@@ -100,34 +102,33 @@ module _ {F : Type 0} (old new : Nodes F) (is : IsGraph old) (longer : IsGraph n
       let there = IsInSome-is (node_flow new) longer.flow e i (holds-new i h) in
       (λ s. there.1 (occurs-same e i h ∙ here.0 s), λ s. here.1 (sym (occurs-same e i h) ∙ there.0 s))
 
-  reaches-new : {f h : ℕ} → Reaches (node_flow old) f h → nat_lt f (length old.facts) ≡ true → Reaches (node_flow new) f h
-  reaches-new (itself f) here = itself f
-  reaches-new (by_parent f q x c w) here =
-      let i = Contains-in ((node_flow old).parents f) q c in
-      by_parent f q x (in-Contains ((node_flow new).parents f) q (subst (λ ps. In q ps) (sym (parents-same f here)) i)) (reaches-new w (parent_holds (node_flow old) is.flow f q here i))
+  reached-extended : (tested : List ℕ) (flags : List Bool) → length flags ≡ length old.facts → AreReached (node_flow old) tested flags → AreReached (node_flow new) tested flags
+  reached-extended tested flags long r = record {
+    tops = r.tops;
+    closed = record { each = λ i low h. subst (All (λ p. flag flags p ≡ true)) (sym (parents-same i (here i h))) (r.closed.each i low h) };
+    within = λ e. record {
+      each = λ i h o.
+          let there = (r.within e).each i h (sym (occurs-same e i (here i h)) ∙ o) in
+          any_same (occurs (node_flow new) e) (occurs (node_flow old) e) tested (λ j k. occurs-same e j (here j (of_all (λ i. flag flags i ≡ true) tested j r.tops k))) ∙ there;
+    };
+  }
+    where
+      here : (i : ℕ) → flag flags i ≡ true → nat_lt i (length old.facts) ≡ true
+      here i h = let lt = flag-within flags i h in lt-ltb i (length old.facts) (omega arith)
 
   pub kept-extended : (tested : List ℕ) (elements : ℕ) (k : Kept) → AreKept (node_flow old) (length old.facts) tested elements k → AreKept (node_flow new) (length old.facts) tested elements k
   kept-extended tested elements k are = record {
     nodes = are.nodes;
     within = are.within;
-    reached = λ i lt. (let r = are.reached i lt in
-        let j = Contains-in tested r.0 r.1 in
-        (r.0, r.1, reaches-new r.2 (lt-ltb r.0 (length old.facts) (of_all (λ i. i < length old.facts) tested r.0 are.within j))));
     sets = λ i lt e below. are.sets i lt e below ∙ sym (strong-same e i (lt-ltb i (length old.facts) lt));
+    flags = are.flags;
+    reached = reached-extended tested k.reached are.flags are.reached;
     marks = marks-carried (node_flow old) tested (node_flow new) tested
         (λ e. each-both (λ i. i < length old.facts) (IsStrong (node_flow old) e) (IsStrong (node_flow new) e) tested are.within (strong-both e))
         (λ e. each-both (λ i. i < length old.facts) (IsInSome (node_flow old) e) (IsInSome (node_flow new) e) tested are.within (some-both e)) elements k.marks are.marks;
   }
 
 -- ---- facts in place of nodes
-
--- an element that a list has once has one place
-one-place : {X : Type 0} (xs : List X) (x : X) (i j : ℕ) → Apart xs → slice_get xs i ≡ Some x → slice_get xs j ≡ Some x → i ≡ j
-one-place [] x i j a s t = absurd (cc)
-one-place (y ∷ ys) x zero zero a s t = refl
-one-place (y ∷ ys) x zero (suc j) a s t = let same : y ≡ x = cc in absurd (a.0 (subst (λ z. In z ys) (sym same) (get_in ys j x t)))
-one-place (y ∷ ys) x (suc i) zero a s t = let same : y ≡ x = cc in absurd (a.0 (subst (λ z. In z ys) (sym same) (get_in ys i x s)))
-one-place (y ∷ ys) x (suc i) (suc j) a s t = ap suc (one-place ys x i j a.1 s t)
 
 module _ {F : Type 0} (n : Nodes F) where
   -- the fact of each of the nodes, and the node of each of the facts
@@ -167,20 +168,3 @@ module _ {F : Type 0} (g : Flow F) (law : IsFlow g) (n : Nodes F) (is : IsGraph 
   marks-of-facts = marks-carried (node_flow n) (map (λ p. p.0) ids) g facts
       (λ e. nodes-both (IsStrong (node_flow n) e) (IsStrong g e) (λ j f at. IsStrong-node g law n is m e j f at))
       (λ e. nodes-both (IsInSome (node_flow n) e) (IsInSome g e) (λ j f at. IsInSome-node g law n is m e j f at))
-
-  module _ (closure : IsClosure g facts n.facts) where
-    apart : Apart n.facts
-    apart = distinct-Apart g.same (λ x. (law.same x x).1 refl) n.facts closure.distinct
-
-    reaches-node : {f h : F} → Reaches g f h → (j i : ℕ) → slice_get n.facts j ≡ Some f → slice_get n.facts i ≡ Some h → Reaches (node_flow n) j i
-    reaches-node (itself f) j i at there = subst (λ k. Reaches (node_flow n) j k) (one-place n.facts f j i apart at there) (itself j)
-    reaches-node (by_parent f p h c w) j i at there =
-        let r = node-of n (get_or n.parents j []) (g.parents f) (m.each j f at).parents p (Contains-in (g.parents f) p c) in
-        by_parent j r.0 i (in-Contains ((node_flow n).parents j) r.0 r.1) (reaches-node w r.0 i r.2 there)
-
-    pub reached-nodes : (i : ℕ) → i < length n.facts → IsReachedFrom (node_flow n) (map (λ p. p.0) ids) i
-    reached-nodes i lt =
-        let at = at_within n.facts i lt in
-        let r = (closure.exact at.0).0 (in-Contains n.facts at.0 (get_in n.facts i at.0 at.1)) in
-        let top = node-of n ids facts are r.0 (Contains-in facts r.0 r.1) in
-        (top.0, in-Contains (map (λ p. p.0) ids) top.0 top.1, reaches-node r.2 top.0 i top.2 at.1)

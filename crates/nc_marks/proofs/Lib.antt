@@ -5,3 +5,4 @@ pub mod OwnerLemmas
 pub mod ReachLemmas
 pub mod SetLemmas
 pub mod StrongLemmas
+mod RaiseLemmas

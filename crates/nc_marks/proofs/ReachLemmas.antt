@@ -14,7 +14,7 @@ use Rattle.nc_graph.specs.Nodes.{Nodes, node_flow, IsGraph}
 use Rattle.nc_graph.proofs.Members.{In, any_in, in_any, of_all}
 use Rattle.nc_graph.proofs.DerivationLaws.{by_rank, parent_lower, occurs-step}
 use Rattle.nc_marks.specs.Sets.{has, has_node, flag}
-use Rattle.nc_marks.specs.Reach.{is_leaf_of, occurs_in, IsClosed, IsReached, IsAtLeaf, TellsLeaf, AddsLeaf}
+use Rattle.nc_marks.specs.Reach.{is_leaf_of, occurs_in, IsClosed, IsReached, IsAtLeaf, TellsLeaf}
 
 -- a listed number is an element, and the other way round
 pub has-in : (xs : List ℕ) (x : ℕ) → has xs x ≡ true → In x xs
@@ -127,21 +127,6 @@ module _ {F : Type 0} (n : Nodes F) (is : IsGraph n) where
     ];
   }
 
-  -- one more leaf among those from a number on
-  pub adds-more : (low high e : ℕ) (before value next : Bool) → low ≤ high → next ≡ (is_leaf_of e ((node_flow n).kind high) || value)
-      → AddsLeaf (node_flow n) low high e before value → AddsLeaf (node_flow n) low (high + 1) e before next
-  adds-more low high e before value next le made a = record {
-    only = λ h. elim (or_cases (is_leaf_of e ((node_flow n).kind high)) value (sym made ∙ h)) [
-      | inl leaf ↦ inr (high, le, omega arith, leaf)
-      | inr old ↦ elim (a.only old) [ inl b ↦ inl b | inr r ↦ let l : r.0 < high = r.2 in inr (r.0, r.1, omega arith, r.3) ]
-    ];
-    kept = λ h. made ∙ or_right (is_leaf_of e ((node_flow n).kind high)) value (a.kept h);
-    each = λ r. elim (cases_eq r.0 high) [
-      | inl s ↦ made ∙ or_left (is_leaf_of e ((node_flow n).kind high)) value (subst (λ i. is_leaf_of e ((node_flow n).kind i) ≡ true) s r.3)
-      | inr ne ↦ let l : r.0 < high + 1 = r.2 in let low : r.0 < high = grind arith in made ∙ or_right (is_leaf_of e ((node_flow n).kind high)) value (a.each (r.0, r.1, low, r.3))
-    ];
-  }
-
   module _ (flags : List Bool) (closed : IsClosed (node_flow n) 0 flags) (e : ℕ) where
     -- below a flagged node at which the element occurs there is its leaf
     pub leaf-below : (i : ℕ) → nat_lt i (length n.facts) ≡ true → flag flags i ≡ true → occurs (node_flow n) e i ≡ true → IsAtLeaf (node_flow n) flags (length n.facts) e
@@ -198,14 +183,6 @@ pub flags-of : (ps : List NodeId) (before after last : List Bool) → ((i : ℕ)
     → ((i : ℕ) → flag after i ≡ true → flag last i ≡ true) → All (λ p. flag last p.0 ≡ true) ps
 flags-of ps before after last flagged kept = all_from (λ p. flag last p.0 ≡ true) ps
     (λ p within. kept p.0 (flagged p.0 ∙ or_left (has_node ps p.0) (flag before p.0) (in_any (λ q. nat_eq p.0 q.0) ps p within (eq-eqb p.0 p.0 refl))))
-
--- no leaf from a number on and below it
-pub adds-none : (g : Flow ℕ) (low e : ℕ) (before : Bool) → AddsLeaf g low low e before before
-adds-none g low e before = record {
-  only = λ h. inl h;
-  kept = λ h. h;
-  each = λ r. let a : low ≤ r.0 = r.1 in let b : r.0 < low = r.2 in absurd (omega arith);
-}
 
 -- there is no leaf among no nodes
 pub tells-none : (g : Flow ℕ) (flags : List Bool) (e : ℕ) (value : Bool) → value ≡ false → TellsLeaf g flags 0 e value

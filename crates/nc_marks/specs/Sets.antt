@@ -1,5 +1,5 @@
 -- Sets of elements as lists, kept in a table, where each has a place.
-use Rattle.std.specs.Prelude.{◌≡◌, ℕ, ◌<◌, ◌≤◌, Bool, false, List, [], length, nat_eq, slice_index_or}
+use Rattle.std.specs.Prelude.{◌≡◌, ℕ, ◌<◌, ◌≤◌, Bool, true, false, All, List, [], length, nat_eq, slice_index_or}
 use Rattle.std.specs.List.{list_any, list_all}
 use Rattle.nc_graph.specs.declared.node.NodeId.{NodeId}
 
@@ -14,6 +14,12 @@ flag flags i = slice_index_or flags i false
 -- the numbers of nodes
 abbrev pub has_node : List NodeId → ℕ → Bool
 has_node nodes i = list_any (λ p. nat_eq i p.0) nodes
+
+-- a list went on with elements that pass and whose flags are lowered: with all of them, and with none that has no flag
+pub record Lists (flags : List Bool) (passes : ℕ → Bool) (old new : List ℕ) : Type 0 where
+  pub kept : (e : ℕ) → has old e ≡ true → has new e ≡ true
+  pub listed : (e : ℕ) → passes e ≡ true → e < length flags → flag flags e ≡ false → has new e ≡ true
+  pub within : All (λ e. e < length flags) old → All (λ e. e < length flags) new
 
 -- a table of sets, of which the elements below `width` count
 pub record Table : Type 0 where

@@ -1,10 +1,11 @@
 //! Flags of elements and of nodes, by their numbers.
-ghost use Rattle.std.specs.Prelude.{◌≡◌, ◌||◌, ◌&&◌, ◌<◌, ℕ, All, length, true, slice_index_or, if◌then◌else◌};
+ghost use Rattle.std.specs.Prelude.{◌≡◌, ◌||◌, ◌&&◌, ◌<◌, ℕ, All, length, true, nat_eq, slice_index_or, if◌then◌else◌, OnOk};
 ghost use Rattle.std.specs.List.{filter};
-ghost use Rattle.nc_marks.specs.Sets.{has, has_node, flag, in_some};
+ghost use Rattle.nc_marks.specs.Sets.{has, has_node, flag, in_some, Lists};
 
 use crate::sets::Sets;
 use nc_graph::node::NodeId;
+use std::alloc::AllocError;
 
 // Gives the flags of a set's elements a value. Elements that have no flag are passed over.
 pub(crate) fn flag_set(flags: &mut [bool], set: &[u32], value: bool)
@@ -50,6 +51,49 @@ fn is_flagged(flags: &[bool], element: u32) -> bool
 {
     let element = element as usize;
     element < flags.len() && flags[element]
+}
+
+// Lists an element, if its flag is lowered. An element that has no flag is passed over.
+pub(crate) fn list_lowered(
+    flags: &[bool],
+    element: u32,
+    list: &mut Vec<u32>,
+) -> Result<(), AllocError>
+    ensures { OnOk result (Lists flags.now (λ e. nat_eq e element) list.old.items list.new.items) }
+{
+    let place = element as usize;
+    if place < flags.len() && !flags[place] {
+        list.push(element)?;
+    }
+    Ok(())
+}
+
+// Lists the elements of a set whose flags are lowered.
+fn list_set(flags: &[bool], set: &[u32], list: &mut Vec<u32>) -> Result<(), AllocError>
+    ensures { OnOk result (Lists flags.now (has set.now) list.old.items list.new.items) }
+{
+    'elements: for element in set {
+        list_lowered(flags, *element, list)?;
+    }
+    Ok(())
+}
+
+// Lists the elements of the sets of nodes whose flags are lowered.
+pub(crate) fn list_sets(
+    sets: &Sets,
+    places: &[usize],
+    nodes: &[NodeId],
+    flags: &[bool],
+    list: &mut Vec<u32>,
+) -> Result<(), AllocError>
+    requires within { All (λ p. p.0 < length places.now) nodes.now }
+    requires placed { All (λ p. slice_index_or places.now p.0 0 < length sets.now.sets) nodes.now }
+    ensures { OnOk result (Lists flags.now (in_some sets.now places.now nodes.now) list.old.items list.new.items) }
+{
+    'nodes: for node in nodes {
+        list_set(flags, sets.get(places[node.0 as usize]), list)?;
+    }
+    Ok(())
 }
 
 // Whether each element of a set has a raised flag.

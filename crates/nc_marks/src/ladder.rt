@@ -20,6 +20,10 @@ impl Inference for Ladder {
 
     ghost flow = { λ _. ladder };
 
+    ghost Basis = { Unit {0} };
+
+    ghost basis = { λ _. tt };
+
     ghost asked = { λ rules. rules.asked };
 
     fn infer(&mut self, fact: &u32, into: &mut Vec<u32>) -> Result<NodeKind, AllocError> {

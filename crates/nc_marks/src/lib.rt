@@ -7,9 +7,10 @@
 //! all derivations of the tested nodes of any graph. They are worked out in one pass down the numbers of
 //! the nodes, for what the tested ones reach, and one pass up, which makes each node's set of strong
 //! elements of those of its parents. This takes time for the sets of the parents together, and keeps one
-//! set for a node, or none where a parent's serves. For a graph that grows, `KeptMarks` keeps these sets
-//! and the marks, so that a further test costs what is new; that the marks of nodes are those of their
-//! facts, and that what is kept of a graph is kept of a longer one, are the laws of `laws`.
+//! set for a node, or none where a parent's serves. For a graph that grows, `KeptMarks` keeps these sets,
+//! which nodes the live ones reach, and the marks, so that a further test costs what is new; that the marks
+//! of nodes are those of their facts, and that what is kept of a graph is kept of a longer one, are the
+//! laws of `laws`.
 #![tactic(auto)]
 
 mod combine;
@@ -21,5 +22,6 @@ pub mod kept;
 mod ladder;
 pub mod laws;
 pub mod mark;
+mod raise;
 mod reach;
 mod sets;

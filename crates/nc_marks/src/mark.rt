@@ -1,14 +1,14 @@
 //! Marks of elements and of lines.
-ghost use Rattle.std.specs.Prelude.{◌≡◌, ◌↔◌, ◌||◌, ◌<◌, ◌≤◌, ℕ, All, length, false, Some, None, slice_index_or, IfOk};
+ghost use Rattle.std.specs.Prelude.{◌≡◌, ◌↔◌, ◌||◌, ◌<◌, ℕ, All, length, false, Some, None, slice_index_or, IfOk};
 ghost use Rattle.nc_graph.specs.Nodes.{node_flow};
 ghost use Rattle.nc_marks.specs.Marks.{mark_of, marked_elements};
-ghost use Rattle.nc_marks.specs.Reach.{AddsLeaf};
-ghost use Rattle.nc_marks.specs.Sets.{flag, in_some};
+ghost use Rattle.nc_marks.specs.Reach.{leaf_in};
+ghost use Rattle.nc_marks.specs.Sets.{flag, has, in_some};
 ghost use Rattle.nc_marks.specs.declared.mark.Mark.TheVariants.{Outside};
 ghost use Rattle.nc_types.specs.Network.{element_count, owner_at};
 
-use crate::flags::flag_strong;
-use crate::reach::flag_leaves_from;
+use crate::flags::{flag_strong, list_sets};
+use crate::reach::{flag_leaves_of, list_leaves};
 use crate::sets::Sets;
 use nc_graph::graph::Graph;
 use nc_graph::node::NodeId;
@@ -80,15 +80,40 @@ impl Marks {
         flag_strong(sets, places, nodes, &mut self.strong);
     }
 
-    // Marks the elements of the leaves from a number on as being in some derivation.
-    pub(crate) fn add_leaves<F: Copy + Eq + Hash>(&mut self, graph: &Graph<F>, from: u32)
-        requires { from ≤ length graph.now.facts }
+    // Marks the elements of the leaves among nodes as being in some derivation.
+    pub(crate) fn add_leaves<F: Copy + Eq + Hash>(&mut self, graph: &Graph<F>, nodes: &[NodeId])
+        requires { All (λ p. p.0 < length graph.now.facts) nodes.now }
         ensures elements { marked_elements self.new ≡ marked_elements self.old }
         ensures strong { self.new.strong ≡ self.old.strong }
         ensures some { (e : ℕ) → e < marked_elements self.old
-            → AddsLeaf (node_flow graph.now) from (length graph.now.facts) e (flag self.old.some e) (flag self.new.some e) }
+            → flag self.new.some e ≡ (leaf_in (node_flow graph.now) e nodes.now || flag self.old.some e) }
     {
-        flag_leaves_from(graph, from, &mut self.some);
+        flag_leaves_of(graph, nodes, &mut self.some);
+    }
+
+    // The elements that get another mark by the leaves among nodes, or by the sets of tested nodes.
+    pub(crate) fn touched<F: Copy + Eq + Hash>(
+        &self,
+        alloc: Global,
+        graph: &Graph<F>,
+        nodes: &[NodeId],
+        sets: &Sets,
+        places: &[usize],
+        tested: &[NodeId],
+    ) -> Result<Vec<u32>, AllocError>
+        requires valid { All (λ p. p.0 < length graph.now.facts) nodes.now }
+        requires within { All (λ p. p.0 < length places.now) tested.now }
+        requires placed { All (λ p. slice_index_or places.now p.0 0 < length sets.now.sets) tested.now }
+        ensures within { IfOk result (λ touched. All (λ e. e < marked_elements self.now) touched.items) }
+        ensures some { IfOk result (λ touched. (e : ℕ) → e < marked_elements self.now → has touched.items e ≡ false
+            → flag self.now.some e ≡ false → leaf_in (node_flow graph.now) e nodes.now ≡ false) }
+        ensures strong { IfOk result (λ touched. (e : ℕ) → e < marked_elements self.now → has touched.items e ≡ false
+            → flag self.now.strong e ≡ false → in_some sets.now places.now tested.now e ≡ false) }
+    {
+        let mut touched = Vec::new(alloc);
+        list_leaves(graph, nodes, &self.some, &mut touched)?;
+        list_sets(sets, places, tested, &self.strong, &mut touched)?;
+        Ok(touched)
     }
 
     /// The mark of an element, whose number is below the number of elements. It is never `Outside`.

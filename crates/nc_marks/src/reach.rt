@@ -1,10 +1,10 @@
 //! Which nodes the tested ones reach, and which elements are at the leaves among them.
-ghost use Rattle.std.specs.Prelude.{◌≡◌, ◌<◌, ◌≤◌, ◌||◌, ℕ, All, List, length, true, false, map, IfOk};
+ghost use Rattle.std.specs.Prelude.{◌≡◌, ◌<◌, ◌||◌, ℕ, All, List, length, true, false, map, IfOk, OnOk};
 ghost use Rattle.nc_graph.specs.Nodes.{node_flow, IsGraph};
-ghost use Rattle.nc_marks.specs.Sets.{flag};
-ghost use Rattle.nc_marks.specs.Reach.{is_leaf_of, occurs_in, IsReached, IsClosed, TellsLeaf, AddsLeaf};
+ghost use Rattle.nc_marks.specs.Sets.{flag, Lists};
+ghost use Rattle.nc_marks.specs.Reach.{is_leaf_of, occurs_in, IsReached, IsClosed, TellsLeaf, leaf_in};
 
-use crate::flags::flag_nodes;
+use crate::flags::{flag_nodes, list_lowered};
 use nc_graph::graph::Graph;
 use nc_graph::node::{NodeId, NodeKind};
 use std::alloc::{AllocError, Global};
@@ -77,16 +77,52 @@ fn flag_leaf<F: Copy + Eq + Hash>(graph: &Graph<F>, node: NodeId, flags: &mut [b
     }
 }
 
-// Raises the flags of the elements of all leaves from a number on.
-pub(crate) fn flag_leaves_from<F: Copy + Eq + Hash>(graph: &Graph<F>, from: u32, flags: &mut [bool])
-    requires { from ≤ length graph.now.facts }
+// Raises the flags of the elements of the leaves among nodes.
+pub(crate) fn flag_leaves_of<F: Copy + Eq + Hash>(
+    graph: &Graph<F>,
+    nodes: &[NodeId],
+    flags: &mut [bool],
+)
+    requires { All (λ p. p.0 < length graph.now.facts) nodes.now }
     ensures len { length flags.new ≡ length flags.old }
     ensures leaves { (e : ℕ) → e < length flags.old
-        → AddsLeaf (node_flow graph.now) from (length graph.now.facts) e (flag flags.old e) (flag flags.new e) }
+        → flag flags.new e ≡ (leaf_in (node_flow graph.now) e nodes.now || flag flags.old e) }
 {
-    'nodes: for number in from..graph.len() {
-        flag_leaf(graph, NodeId(number), flags);
+    'nodes: for node in nodes {
+        flag_leaf(graph, *node, flags);
     }
+}
+
+// Lists the element of a leaf, if its flag is lowered.
+fn list_leaf<F: Copy + Eq + Hash>(
+    graph: &Graph<F>,
+    node: NodeId,
+    flags: &[bool],
+    list: &mut Vec<u32>,
+) -> Result<(), AllocError>
+    requires { node.0 < length graph.now.facts }
+    ensures { OnOk result (Lists flags.now (λ e. is_leaf_of e ((node_flow graph.now).kind node.0)) list.old.items list.new.items) }
+{
+    if let NodeKind::Leaf(element) = graph.kind(node) {
+        list_lowered(flags, element, list)?;
+    }
+    Ok(())
+}
+
+// Lists the elements of the leaves among nodes whose flags are lowered.
+pub(crate) fn list_leaves<F: Copy + Eq + Hash>(
+    graph: &Graph<F>,
+    nodes: &[NodeId],
+    flags: &[bool],
+    list: &mut Vec<u32>,
+) -> Result<(), AllocError>
+    requires { All (λ p. p.0 < length graph.now.facts) nodes.now }
+    ensures { OnOk result (Lists flags.now (λ e. leaf_in (node_flow graph.now) e nodes.now) list.old.items list.new.items) }
+{
+    'nodes: for node in nodes {
+        list_leaf(graph, *node, flags, list)?;
+    }
+    Ok(())
 }
 
 // Raises the flags of the elements of all flagged leaves, where none is raised.
