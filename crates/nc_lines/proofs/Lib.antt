@@ -1,4 +1,5 @@
 pub mod LineLemmas
+pub mod FirstLemmas
 pub mod PlaceLemmas
 pub mod NumberLemmas
 pub mod PartLemmas

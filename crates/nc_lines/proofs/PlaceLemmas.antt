@@ -1,9 +1,9 @@
--- Lines and words by their places in a text.
-use Rattle.std.proofs.Common.{◌≡◌, ℕ, ◌+◌, ◌-◌, ◌<◌, ◌≤◌, min, Bool, true, false, not, cond, List, [], ◌∷◌, length, take, drop, Option, Some, None, refl, sym, ap, ◌∙◌, subst, arith}
+-- Lines by their places in a text.
+use Rattle.std.proofs.Common.{◌≡◌, ℕ, ◌+◌, ◌-◌, ◌<◌, ◌≤◌, min, Bool, true, false, cond, List, [], ◌∷◌, length, take, drop, Option, Some, None, refl, sym, ap, ◌∙◌, subst, arith}
 use Rattle.std.specs.Prelude.{position, unwrap_or, ◌==◌, slice_range}
 use Rattle.std.proofs.lemmas.List.{take_all, drop_all, take-take, drop-drop, drop_min, length-take}
-use Rattle.nc_lines.specs.Lines.{is_feed, is_gap, without_return, lines_of, words_of}
-use Rattle.nc_lines.proofs.LineLemmas.{split_missed, split_found, lines_of-cut, lines_of-nil, lines_of-last, words_of-cut}
+use Rattle.nc_lines.specs.Lines.{is_feed, without_return, lines_of}
+use Rattle.nc_lines.proofs.LineLemmas.{split_missed, split_found, lines_of-cut, lines_of-nil, lines_of-last}
 
 -- ---- lines
 
@@ -50,15 +50,3 @@ line_placed bytes rest line from end rest-is some end-is line-is =
     let next : drop (end + 1) rest ≡ drop (min (from + end + 1) (length bytes)) bytes =
     ap (drop (end + 1)) rest-is ∙ drop-drop (end + 1) from bytes ∙ ap (λ (k : ℕ). drop k bytes) (omega arith) ∙ sym (drop_min (from + end + 1) bytes) in
     ap lines_of (sym rest-is) ∙ lines_of-first rest end some end-is ∙ ap (λ (l : List ℕ). l ∷ lines_of (drop (end + 1) rest)) (sym line-is ∙ placed) ∙ ap (λ (bs : List ℕ). slice_range bytes from (from + length line) ∷ lines_of bs) next
-
--- ---- words
-
--- the first word from a place on
-pub word_placed : (line rest begun : List ℕ) (from start len : ℕ) → rest ≡ drop from line → position (λ b. not (is_gap b)) rest ≡ Some start → begun ≡ drop start rest → len ≡ unwrap_or (position is_gap begun) (length begun)
-    → words_of (drop from line) ≡ slice_range line (from + start) (from + start + len) ∷ words_of (drop (from + start + len) line)
-word_placed line rest begun from start len rest-is e begun-is len-is =
-    let place : begun ≡ drop (from + start) line = begun-is ∙ ap (drop start) rest-is ∙ drop-drop start from line in
-    let count : len ≡ from + start + len - (from + start) = omega arith in
-    let placed : take len begun ≡ slice_range line (from + start) (from + start + len) = ap (take len) place ∙ ap (λ (k : ℕ). take k (drop (from + start) line)) count in
-    let next : drop len begun ≡ drop (from + start + len) line = ap (drop len) place ∙ drop-drop len (from + start) line in
-    ap words_of (sym rest-is) ∙ words_of-cut rest begun start len e begun-is len-is ∙ ap (λ (w : List ℕ). w ∷ words_of (drop len begun)) placed ∙ ap (λ (bs : List ℕ). slice_range line (from + start) (from + start + len) ∷ words_of bs) next

@@ -4,11 +4,11 @@ ghost use Rattle.std.specs.Prelude.{◌≡◌, MatchOption, None, Some};
 ghost use Rattle.nc_lines.specs.Lines.{words_of};
 ghost use Rattle.nc_lines.specs.Blocks.{behind_mark, has_mark, begins_banner, leaves_open, is_idle};
 
-use crate::cut::{cut_word, is_indented};
+use crate::cut::{cut_word, first_byte, is_indented};
 
-/// What stands behind the first mark of a line, the two bytes `^C`; `None` where it has none.
+// What stands behind the first mark of a line, the two bytes `^C`; `None` where it has none.
 #[tactic(auto, unfolding(crate::specs::Blocks::behind_mark))]
-pub fn behind_mark(line: &[u8]) -> Option<&[u8]>
+fn behind_mark(line: &[u8]) -> Option<&[u8]>
     ensures { MatchOption result (behind_mark line.now ≡ None) (λ rest. behind_mark line.now ≡ Some rest.now) }
 {
     let mut rest = line;
@@ -32,9 +32,12 @@ pub fn has_mark(line: &[u8]) -> bool
 pub fn begins_banner(line: &[u8]) -> bool
     ensures { result ≡ begins_banner line.now }
 {
+    if is_indented(line) {
+        return false;
+    }
     match cut_word(line) {
         None => false,
-        Some((word, _)) => !is_indented(line) && word == b"banner".as_slice(),
+        Some((word, _)) => word == b"banner".as_slice(),
     }
 }
 
@@ -52,8 +55,8 @@ pub fn leaves_open(line: &[u8]) -> bool
 pub fn is_idle(line: &[u8]) -> bool
     ensures { result ≡ is_idle (words_of line.now) }
 {
-    match cut_word(line) {
+    match first_byte(line) {
         None => true,
-        Some((word, _)) => word.first() == Some(&b'!'),
+        Some(byte) => byte == b'!',
     }
 }

@@ -2,13 +2,16 @@
 
 ghost use Rattle.std.specs.Prelude.{◌≡◌, ℕ, ◌<◌, ◌==◌, not, Bool, length, [], ◌∷◌, position, MatchOption, IfSome, IfNone};
 ghost use Rattle.std.specs.List.{slice_split};
+ghost use Rattle.nc_lines.specs.Blocks.{is_idle};
 ghost use Rattle.nc_lines.specs.Lines.{is_gap, lines_of, words_of, is_indented, without_return};
+
+use memchr::memchr;
 
 // Where a byte stands first.
 pub(crate) fn place_of(bytes: &[u8], byte: u8) -> Option<usize>
     ensures { result ≡ position (λ b. b == byte) bytes.now }
 {
-    bytes.iter().position(|b| *b == byte)
+    memchr(byte, bytes)
 }
 
 // Cuts at the first such byte, and gives what stands before it and behind it; `None` where there is
@@ -81,6 +84,14 @@ pub fn is_indented(line: &[u8]) -> bool
     ensures { result ≡ is_indented line.now }
 {
     line.first().is_some_and(|b| is_gap(*b))
+}
+
+/// The first byte of the first word of a line, by which a comment is told; `None` where the line is blank.
+pub fn first_byte(line: &[u8]) -> Option<u8>
+    ensures { MatchOption result (words_of line.now ≡ []) (λ byte. is_idle (words_of line.now) ≡ (byte == 33)) }
+{
+    let start = word_place(line)?;
+    Some(line[start])
 }
 
 /// Takes the first word off a line; `None` where the line is blank.

@@ -2,7 +2,7 @@
 //!
 //! A file is split into its lines once, without a copy of any; a line is read word by word, and a word as a
 //! number, an address or a prefix; a statement is told by the words that it begins with. Beside std the crate
-//! stands on `nc_types`. Its contract promises that the lines, the words and the numbers are those of the
+//! stands on `nc_types`, and on `memchr` for line feeds. Its contract promises that the lines, the words and the numbers are those of the
 //! definitions in `specs/`, which also say which lines belong to a banner, in which block an indented line
 //! stands, and what the lines of a part of a file say by a rule for one line.
 #![tactic(auto)]
@@ -16,12 +16,6 @@ mod lines;
 pub mod numbers;
 pub mod split;
 pub mod statement;
-mod word;
-pub mod words;
 
 pub use block::Block;
 pub use lines::Lines;
-pub use word::Word;
-
-#[cfg(test)]
-mod tests;

@@ -1,9 +1,8 @@
 //! The lines of a file, kept in one piece.
 
 ghost use Rattle.std.specs.Prelude.{◌≡◌, ◌<◌, ◌≤◌, ◌^◌, All, length, map, slice_range};
-ghost use Rattle.nc_lines.specs.Lines.{is_indented, line_at};
+ghost use Rattle.nc_lines.specs.Lines.{line_at};
 
-use crate::cut::is_indented;
 use std::marker::Model;
 
 /// Where a line stands among the bytes of its file.
@@ -55,14 +54,5 @@ impl Lines {
     {
         let span = self.spans[number as usize - 1];
         &self.bytes[span.from as usize..span.to as usize]
-    }
-
-    /// Whether the line of this number, from 1 to the count, begins with a space or a tab.
-    pub fn indented(&self, number: u32) -> bool
-        requires first { 0 < number }
-        requires last { number ≤ length self.now }
-        ensures { result ≡ is_indented (line_at number self.now) }
-    {
-        is_indented(self.line(number))
     }
 }

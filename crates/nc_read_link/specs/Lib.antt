@@ -1,4 +1,5 @@
 pub mod Interfaces
 pub mod Statics
 pub mod Outcomes
+pub mod Firsts
 pub mod Drafts

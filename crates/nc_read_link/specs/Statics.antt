@@ -2,6 +2,7 @@
 use Rattle.std.specs.Prelude.{ℕ, Bool, true, false, ◌&&◌, ◌||◌, ◌==◌, List, [], ◌∷◌, Option, Some, None, Result, Ok, Err, unwrap_or, option_and_then, if◌then◌else◌, codes}
 use Rattle.std.specs.Option.{option_map, option_map_or, option_or}
 use Rattle.std.specs.Str.{bytes_eq}
+use Rattle.nc_types.specs.declared.TheConstants.{UNUSED_DISTANCE}
 use Rattle.nc_types.specs.Masks.{network_of}
 use Rattle.nc_types.specs.Cidr.{Cidr}
 use Rattle.nc_types.specs.declared.fault.Fault.{Fault}
@@ -14,15 +15,16 @@ use Rattle.nc_lines.specs.Lines.{words_of}
 use Rattle.nc_lines.specs.Numbers.{is_plain, number_of, address_of}
 use Rattle.nc_lines.specs.Statements.{after}
 use Rattle.nc_lines.specs.Outcomes.{at_line}
+use Rattle.nc_read_link.specs.declared.TheConstants.{DEFAULT_DISTANCE}
 use Rattle.nc_read_link.specs.Interfaces.{masked_of}
 
 -- ---- options
 
--- a distance in front of the other options, and these: 1 where none is written
+-- a distance, from 1 to the one that is never used, in front of the other options, and these
 abbrev pub distance_of : List (List ℕ) → ℕ × List (List ℕ)
-distance_of [] = (1, [])
+distance_of [] = (DEFAULT_DISTANCE, [])
 distance_of (word ∷ words) =
-    option_map_or (λ d. if d == 0 then (1, word ∷ words) else (d, words)) (number_of 255 word) (1, word ∷ words)
+    option_map_or (λ d. if d == 0 then (DEFAULT_DISTANCE, word ∷ words) else (d, words)) (number_of UNUSED_DISTANCE word) (DEFAULT_DISTANCE, word ∷ words)
 
 -- the word `name` or `tag`, which a value follows
 abbrev pub takes_value : List ℕ → Bool

@@ -8,6 +8,7 @@
 #![tactic(auto)]
 
 mod draft;
+mod first;
 mod interfaces;
 mod masks;
 mod next_hop;
@@ -19,5 +20,5 @@ pub use interfaces::read_interface;
 pub use setting::Setting;
 pub use statics::read_static;
 
-#[cfg(test)]
-mod tests;
+/// The administrative distance of a static route that names none (Cisco IOS command reference, `ip route`).
+pub const DEFAULT_DISTANCE: u8 = 1;

@@ -6,22 +6,24 @@ ghost use Rattle.nc_lines.specs.Lines.{words_of};
 ghost use Rattle.nc_lines.specs.Numbers.{is_digit, is_plain};
 ghost use Rattle.nc_read_link.specs.Statics.{distance_of, takes_value, is_condition, is_conditional, is_name_option, is_tag_option, are_options};
 
+use crate::DEFAULT_DISTANCE;
 use nc_lines::cut::cut_word;
 use nc_lines::numbers::read_number;
 use nc_lines::statement::is_word;
+use nc_types::UNUSED_DISTANCE;
 
-/// The distance in front of the options, 1 where none is written, and the options.
+/// The distance in front of the options, [`crate::DEFAULT_DISTANCE`] where none is written, and the options.
 pub(crate) fn distance(text: &[u8]) -> (u8, &[u8])
     ensures { (result.0, words_of result.1.now) ≡ distance_of (words_of text.now) }
 {
     let Some((word, rest)) = cut_word(text) else {
-        return (1, text);
+        return (DEFAULT_DISTANCE, text);
     };
-    match read_number(word, 255) {
-        None => (1, text),
+    match read_number(word, u32::from(UNUSED_DISTANCE)) {
+        None => (DEFAULT_DISTANCE, text),
         Some(distance) => {
             if distance == 0 {
-                (1, text)
+                (DEFAULT_DISTANCE, text)
             } else {
                 (distance as u8, rest)
             }

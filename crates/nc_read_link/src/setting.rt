@@ -1,18 +1,14 @@
-//! What one line of an interface's block says, read by its words.
+//! What one line of an interface's block says: its first word is told once, then what is behind it.
 
-ghost use Rattle.std.specs.Prelude.{◌≡◌, ◌∷◌, [], ◌||◌, codes, false, MatchOption};
-ghost use Rattle.std.specs.Option.{option_map_or};
+ghost use Rattle.std.specs.Prelude.{◌≡◌, ◌∷◌, codes};
 ghost use Rattle.nc_lines.specs.Lines.{words_of};
-ghost use Rattle.nc_lines.specs.Statements.{after};
 ghost use Rattle.nc_lines.specs.Readings.{reading_of};
-ghost use Rattle.nc_read_link.specs.Interfaces.{is_secondary, is_other_address, is_unsupported, address_says, read_says, setting_says};
+ghost use Rattle.nc_read_link.specs.Interfaces.{setting_says};
 
+use crate::first::{First, read_first};
 use crate::masks::{iface_addr, masked};
 use nc_lines::cut::cut_word;
-use nc_lines::statement::{
-    Reading, after_one, after_three, after_two, alone, begins_one, begins_three, begins_two,
-    is_word,
-};
+use nc_lines::statement::{Reading, after_one, alone, begins_one, is_word};
 use nc_types::{Cause, IfaceAddr};
 
 /// What a statement of an interface's block sets.
@@ -26,66 +22,24 @@ pub enum Setting {
     Shut(bool),
 }
 
-// An address, its mask, and the word `secondary`.
-fn is_secondary(line: &[u8]) -> bool
-    ensures { result ≡ is_secondary (words_of line.now) }
+// What is behind `ip address`: an address and its mask; a further `secondary` isn't supported.
+#[tactic(auto, unfolding(crate::specs::Interfaces::is_unsupported, crate::specs::Interfaces::read_says))]
+fn behind_address(rest: &[u8]) -> Reading<Setting>
+    ensures { reading_of result ≡ setting_says (codes "ip" ∷ codes "address" ∷ words_of rest.now) }
 {
-    let Some((address, rest)) = cut_word(line) else {
-        return false;
+    let Some((address, rest)) = cut_word(rest) else {
+        return Reading::Faulty(Cause::Syntax);
     };
-    let Some((mask, rest)) = cut_word(rest) else {
-        return false;
-    };
-    let Some((word, _)) = cut_word(rest) else {
-        return false;
-    };
-    is_word(word, "secondary") && masked(address, mask).is_some()
-}
-
-// What follows `ip address` and isn't supported.
-fn is_other_address(line: &[u8]) -> bool
-    ensures { result ≡ is_other_address (words_of line.now) }
-{
-    begins_one(line, "dhcp")
-        || begins_one(line, "negotiated")
-        || begins_one(line, "pool")
-        || is_secondary(line)
-}
-
-// An `ip address` statement that isn't supported.
-fn is_unsupported_address(line: &[u8]) -> bool
-    ensures { result ≡ option_map_or is_other_address (after (codes "ip" ∷ codes "address" ∷ []) (words_of line.now)) false }
-{
-    match after_two(line, "ip", "address") {
-        None => false,
-        Some(rest) => is_other_address(rest),
+    if is_word(address, "dhcp") || is_word(address, "negotiated") || is_word(address, "pool") {
+        return Reading::Faulty(Cause::Unsupported);
     }
-}
-
-// A statement that isn't supported.
-#[tactic(auto, unfolding(crate::specs::Interfaces::is_unsupported))]
-fn is_unsupported(line: &[u8]) -> bool
-    ensures { result ≡ is_unsupported (words_of line.now) }
-{
-    is_unsupported_address(line)
-        || begins_two(line, "ip", "unnumbered")
-        || begins_two(line, "vrf", "forwarding")
-        || begins_three(line, "ip", "vrf", "forwarding")
-        || begins_two(line, "ip", "policy")
-        || begins_two(line, "ip", "nat")
-}
-
-// What follows `ip address`: an address and a mask.
-fn address(line: &[u8]) -> Reading<Setting>
-    ensures { reading_of result ≡ address_says (words_of line.now) }
-{
-    let Some((address, rest)) = cut_word(line) else {
-        return Reading::Faulty(Cause::Syntax);
-    };
     let Some((mask, rest)) = cut_word(rest) else {
         return Reading::Faulty(Cause::Syntax);
     };
-    if cut_word(rest).is_some() {
+    if let Some((word, _)) = cut_word(rest) {
+        if is_word(word, "secondary") && masked(address, mask).is_some() {
+            return Reading::Faulty(Cause::Unsupported);
+        }
         return Reading::Faulty(Cause::Syntax);
     }
     match iface_addr(address, mask) {
@@ -94,33 +48,79 @@ fn address(line: &[u8]) -> Reading<Setting>
     }
 }
 
-// The statements that are read.
-#[tactic(auto, unfolding(crate::specs::Interfaces::read_says))]
-fn statement(line: &[u8]) -> Reading<Setting>
-    ensures { reading_of result ≡ read_says (words_of line.now) }
+// What is behind `ip`.
+#[tactic(auto, unfolding(crate::specs::Interfaces::is_unsupported, crate::specs::Interfaces::read_says))]
+fn behind_ip(rest: &[u8]) -> Reading<Setting>
+    ensures { reading_of result ≡ setting_says (codes "ip" ∷ words_of rest.now) }
 {
-    if let Some(rest) = after_two(line, "ip", "address") {
-        return address(rest);
+    let Some((word, rest)) = cut_word(rest) else {
+        return Reading::Outside;
+    };
+    if is_word(word, "address") {
+        return behind_address(rest);
     }
-    if let Some(rest) = after_three(line, "no", "ip", "address") {
-        return alone(Setting::NoAddress, rest);
+    if is_word(word, "unnumbered") || is_word(word, "policy") || is_word(word, "nat") {
+        return Reading::Faulty(Cause::Unsupported);
     }
-    if let Some(rest) = after_one(line, "shutdown") {
-        return alone(Setting::Shut(true), rest);
-    }
-    if let Some(rest) = after_two(line, "no", "shutdown") {
-        return alone(Setting::Shut(false), rest);
+    if is_word(word, "vrf") && begins_one(rest, "forwarding") {
+        return Reading::Faulty(Cause::Unsupported);
     }
     Reading::Outside
 }
 
+// What is behind `no`.
+#[tactic(auto, unfolding(crate::specs::Interfaces::is_unsupported, crate::specs::Interfaces::read_says))]
+fn behind_no(rest: &[u8]) -> Reading<Setting>
+    ensures { reading_of result ≡ setting_says (codes "no" ∷ words_of rest.now) }
+{
+    let Some((word, rest)) = cut_word(rest) else {
+        return Reading::Outside;
+    };
+    if is_word(word, "shutdown") {
+        return alone(Setting::Shut(false), rest);
+    }
+    if !is_word(word, "ip") {
+        return Reading::Outside;
+    }
+    match after_one(rest, "address") {
+        None => Reading::Outside,
+        Some(rest) => alone(Setting::NoAddress, rest),
+    }
+}
+
+// What is behind `shutdown`.
+#[tactic(auto, unfolding(crate::specs::Interfaces::is_unsupported, crate::specs::Interfaces::read_says))]
+fn behind_shutdown(rest: &[u8]) -> Reading<Setting>
+    ensures { reading_of result ≡ setting_says (codes "shutdown" ∷ words_of rest.now) }
+{
+    alone(Setting::Shut(true), rest)
+}
+
+// What is behind `vrf`.
+#[tactic(auto, unfolding(crate::specs::Interfaces::is_unsupported, crate::specs::Interfaces::read_says))]
+fn behind_vrf(rest: &[u8]) -> Reading<Setting>
+    ensures { reading_of result ≡ setting_says (codes "vrf" ∷ words_of rest.now) }
+{
+    if begins_one(rest, "forwarding") {
+        Reading::Faulty(Cause::Unsupported)
+    } else {
+        Reading::Outside
+    }
+}
+
 /// What an indented line in an interface's block says: what isn't supported is looked at first.
+#[tactic(auto, unfolding(crate::specs::Interfaces::is_unsupported, crate::specs::Interfaces::read_says))]
 pub(crate) fn read_setting(line: &[u8]) -> Reading<Setting>
     ensures { reading_of result ≡ setting_says (words_of line.now) }
 {
-    if is_unsupported(line) {
-        Reading::Faulty(Cause::Unsupported)
-    } else {
-        statement(line)
+    let Some((word, rest)) = cut_word(line) else {
+        return Reading::Outside;
+    };
+    match read_first(word) {
+        First::Ip => behind_ip(rest),
+        First::No => behind_no(rest),
+        First::Shutdown => behind_shutdown(rest),
+        First::Vrf => behind_vrf(rest),
+        First::Other => Reading::Outside,
     }
 }

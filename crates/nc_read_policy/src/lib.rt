@@ -20,6 +20,3 @@ mod values;
 pub use clauses::read_clause;
 pub use entries::read_list_entry;
 pub use header::{ClauseHeader, read_clause_header};
-
-#[cfg(test)]
-mod tests;

@@ -4,6 +4,7 @@ pub mod Configuration
 pub mod Outcome
 pub mod Steps
 pub mod Gathering
+pub mod Firsts
 pub mod Readings
 pub mod Parts
 pub mod Whole

@@ -12,11 +12,14 @@ use nc_lines::Block;
 use nc_types::Text;
 use std::alloc::{AllocError, Global};
 
+// For how many lines a new block has room: a header and a few statements.
+const BLOCK_ROOM: usize = 4;
+
 // A block of one line.
 fn make_block(alloc: Global, line: u32) -> Result<Block, AllocError>
     ensures { IfOk result (λ block. block.lines.items ≡ line ∷ []) }
 {
-    let mut lines = Vec::new(alloc);
+    let mut lines = Vec::with_capacity(alloc, BLOCK_ROOM)?;
     lines.push(line)?;
     Ok(Block { lines })
 }

@@ -1,17 +1,15 @@
-//! What an unindented statement is.
+//! What an unindented statement is: its first word is told once, then what is behind it.
 
-ghost use Rattle.std.specs.Prelude.{◌≡◌, ◌∷◌, [], List, ℕ, MatchOption, ◌&&◌, nat_le, false, not, codes};
+ghost use Rattle.std.specs.Prelude.{◌≡◌, ◌∷◌, [], List, ℕ, MatchOption, ◌&&◌, nat_le, codes};
 ghost use Rattle.std.specs.List.{list_all};
-ghost use Rattle.std.specs.Option.{option_map_or};
-ghost use Rattle.std.specs.Str.{bytes_eq};
 ghost use Rattle.nc_types.specs.WellFormed.{is_name};
 ghost use Rattle.nc_lines.specs.Lines.{words_of};
-ghost use Rattle.nc_lines.specs.Statements.{after, begins};
-ghost use Rattle.nc_reader.specs.Roles.{is_router, is_list_remark, is_unsupported, hostname_role, interface_role, read_role, header_role};
+ghost use Rattle.nc_reader.specs.Roles.{is_list_remark, header_role};
 ghost use Rattle.nc_reader.specs.Readings.{role_of_header};
 
+use crate::first::{First, read_first};
 use nc_lines::cut::cut_word;
-use nc_lines::statement::{after_one, after_three, after_two};
+use nc_lines::statement::{begins_one, is_word};
 use nc_types::{Cause, NAME_LIMIT};
 
 /// What an unindented statement is.
@@ -26,13 +24,6 @@ pub(crate) enum Header<'a> {
     Opens(&'a [u8]),
     /// A static route.
     Routes,
-}
-
-// Whether a word is this text.
-fn is_word(word: &[u8], text: &str) -> bool
-    ensures { result ≡ bytes_eq word.now text.now }
-{
-    word == text.as_bytes()
 }
 
 // The one word of a line that has one.
@@ -61,11 +52,12 @@ fn can_name(word: &[u8]) -> bool
     1 <= len && len <= NAME_LIMIT && is_printed(word)
 }
 
-// What follows `hostname`.
-fn hostname(line: &[u8]) -> Header<'_>
-    ensures { role_of_header result ≡ hostname_role (words_of line.now) }
+// What is behind `hostname`: one word that can name a router.
+#[tactic(auto, unfolding(crate::specs::Roles::is_unsupported, crate::specs::Roles::read_role))]
+fn behind_hostname(rest: &[u8]) -> Header<'_>
+    ensures { role_of_header result ≡ header_role (codes "hostname" ∷ words_of rest.now) }
 {
-    match only_word(line) {
+    match only_word(rest) {
         None => Header::Wrong(Cause::Syntax),
         Some(name) => {
             if can_name(name) {
@@ -77,24 +69,49 @@ fn hostname(line: &[u8]) -> Header<'_>
     }
 }
 
-// What follows `interface`.
-fn interface(line: &[u8]) -> Header<'_>
-    ensures { role_of_header result ≡ interface_role (words_of line.now) }
+// What is behind `interface`: its name.
+#[tactic(auto, unfolding(crate::specs::Roles::is_unsupported, crate::specs::Roles::read_role))]
+fn behind_interface(rest: &[u8]) -> Header<'_>
+    ensures { role_of_header result ≡ header_role (codes "interface" ∷ words_of rest.now) }
 {
-    match cut_word(line) {
+    match cut_word(rest) {
         None => Header::Wrong(Cause::Syntax),
         Some((name, _)) => Header::Opens(name),
     }
 }
 
-// Whether a line is `router` and the name of a routing protocol.
-fn begins_router(line: &[u8]) -> bool
-    ensures { result ≡ option_map_or is_router (after (codes "router" ∷ []) (words_of line.now)) false }
+// What is behind `router`: the name of a routing protocol isn't supported.
+#[tactic(auto, unfolding(crate::specs::Roles::is_unsupported, crate::specs::Roles::read_role))]
+fn behind_router(rest: &[u8]) -> Header<'_>
+    ensures { role_of_header result ≡ header_role (codes "router" ∷ words_of rest.now) }
 {
-    match after_one(line, "router") {
-        None => false,
-        Some(rest) => cut_word(rest).is_some(),
+    match cut_word(rest) {
+        None => Header::Passed,
+        Some(_) => Header::Wrong(Cause::Unsupported),
     }
+}
+
+// A route map isn't supported.
+#[tactic(auto, unfolding(crate::specs::Roles::is_unsupported, crate::specs::Roles::read_role))]
+fn behind_route_map(rest: &[u8]) -> Header<'_>
+    ensures { role_of_header result ≡ header_role (codes "route-map" ∷ words_of rest.now) }
+{
+    let _words = rest;
+    Header::Wrong(Cause::Unsupported)
+}
+
+// What is behind `no`.
+#[tactic(auto, unfolding(crate::specs::Roles::is_unsupported, crate::specs::Roles::read_role))]
+fn behind_no(rest: &[u8]) -> Header<'_>
+    ensures { role_of_header result ≡ header_role (codes "no" ∷ words_of rest.now) }
+{
+    let Some((word, rest)) = cut_word(rest) else {
+        return Header::Passed;
+    };
+    if is_word(word, "ip") && begins_one(rest, "routing") {
+        return Header::Wrong(Cause::Unsupported);
+    }
+    Header::Passed
 }
 
 // Whether what follows `ip prefix-list` configures no entry.
@@ -110,75 +127,41 @@ fn is_remark(line: &[u8]) -> bool
     }
 }
 
-// Whether a line configures an entry of a prefix list.
-fn begins_entry(line: &[u8]) -> bool
-    ensures { result ≡ option_map_or (λ rest. not (is_list_remark rest)) (after (codes "ip" ∷ codes "prefix-list" ∷ []) (words_of line.now)) false }
+// What is behind `ip`.
+#[tactic(auto, unfolding(crate::specs::Roles::is_unsupported, crate::specs::Roles::read_role))]
+fn behind_ip(rest: &[u8]) -> Header<'_>
+    ensures { role_of_header result ≡ header_role (codes "ip" ∷ words_of rest.now) }
 {
-    match after_two(line, "ip", "prefix-list") {
-        None => false,
-        Some(rest) => !is_remark(rest),
-    }
-}
-
-// Whether a line begins with this word.
-fn begins_one(line: &[u8], first: &str) -> bool
-    ensures { result ≡ begins (first.now ∷ []) (words_of line.now) }
-{
-    after_one(line, first).is_some()
-}
-
-// Whether a line begins with these two words.
-fn begins_two(line: &[u8], first: &str, second: &str) -> bool
-    ensures { result ≡ begins (first.now ∷ second.now ∷ []) (words_of line.now) }
-{
-    after_two(line, first, second).is_some()
-}
-
-// Whether a line begins with these three words.
-fn begins_three(line: &[u8], first: &str, second: &str, third: &str) -> bool
-    ensures { result ≡ begins (first.now ∷ second.now ∷ third.now ∷ []) (words_of line.now) }
-{
-    after_three(line, first, second, third).is_some()
-}
-
-// Whether a line isn't supported.
-#[tactic(auto, unfolding(crate::specs::Roles::is_unsupported))]
-fn is_refused(line: &[u8]) -> bool
-    ensures { result ≡ is_unsupported (words_of line.now) }
-{
-    begins_router(line)
-        || begins_one(line, "route-map")
-        || begins_entry(line)
-        || begins_two(line, "ip", "default-network")
-        || begins_three(line, "no", "ip", "routing")
-        || begins_three(line, "ip", "local", "policy")
-        || begins_two(line, "ip", "nat")
-}
-
-// A supported statement.
-#[tactic(auto, unfolding(crate::specs::Roles::read_role))]
-fn read_supported(line: &[u8]) -> Header<'_>
-    ensures { role_of_header result ≡ read_role (words_of line.now) }
-{
-    if let Some(rest) = after_one(line, "hostname") {
-        return hostname(rest);
-    }
-    if let Some(rest) = after_one(line, "interface") {
-        return interface(rest);
-    }
-    if begins_two(line, "ip", "route") {
+    let Some((word, rest)) = cut_word(rest) else {
+        return Header::Passed;
+    };
+    if is_word(word, "route") {
         return Header::Routes;
+    }
+    if is_word(word, "default-network") || is_word(word, "nat") {
+        return Header::Wrong(Cause::Unsupported);
+    }
+    if is_word(word, "local") && begins_one(rest, "policy") {
+        return Header::Wrong(Cause::Unsupported);
+    }
+    if is_word(word, "prefix-list") && !is_remark(rest) {
+        return Header::Wrong(Cause::Unsupported);
     }
     Header::Passed
 }
 
-/// What an unindented statement is; what isn't supported is looked at first.
-pub(crate) fn read_header(line: &[u8]) -> Header<'_>
-    ensures { role_of_header result ≡ header_role (words_of line.now) }
+/// What an unindented statement of this first word is; what isn't supported is looked at first.
+#[tactic(auto, unfolding(crate::specs::Roles::is_unsupported, crate::specs::Roles::read_role))]
+pub(crate) fn read_header<'a>(word: &[u8], rest: &'a [u8]) -> Header<'a>
+    ensures { role_of_header result ≡ header_role (word.now ∷ words_of rest.now) }
 {
-    if is_refused(line) {
-        Header::Wrong(Cause::Unsupported)
-    } else {
-        read_supported(line)
+    match read_first(word) {
+        First::Interface => behind_interface(rest),
+        First::Ip => behind_ip(rest),
+        First::Hostname => behind_hostname(rest),
+        First::Router => behind_router(rest),
+        First::RouteMap => behind_route_map(rest),
+        First::No => behind_no(rest),
+        First::Other => Header::Passed,
     }
 }

@@ -10,6 +10,7 @@
 
 mod config;
 mod faults;
+mod first;
 mod gather;
 mod groups;
 mod header;
@@ -21,6 +22,3 @@ mod role;
 mod routes;
 
 pub use config::read_config;
-
-#[cfg(test)]
-mod tests;

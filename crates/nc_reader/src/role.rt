@@ -9,8 +9,9 @@ ghost use Rattle.nc_reader.specs.Steps.{banner_fault, kind_of};
 
 use crate::header::{Header, read_header};
 use nc_lines::Lines;
-use nc_lines::banner::{begins_banner, has_mark, is_idle, leaves_open};
-use nc_lines::cut::is_indented;
+use nc_lines::banner::{has_mark, leaves_open};
+use nc_lines::cut::{cut_word, first_byte, is_indented};
+use nc_lines::statement::is_word;
 use nc_types::Cause;
 
 /// What a line is.
@@ -74,14 +75,21 @@ pub(crate) fn read_role(lines: &Lines, number: u32, in_banner: bool) -> Role<'_>
     if in_banner {
         return Role::Banner(!has_mark(line), None);
     }
-    if begins_banner(line) {
+    if is_indented(line) {
+        return match first_byte(line) {
+            None => Role::Idle,
+            Some(b'!') => Role::Idle,
+            Some(_) => Role::Member,
+        };
+    }
+    let Some((word, rest)) = cut_word(line) else {
+        return Role::Idle;
+    };
+    if is_word(word, "banner") {
         return Role::Banner(leaves_open(line), banner_fault(lines, number));
     }
-    if is_idle(line) {
+    if word.first() == Some(&b'!') {
         return Role::Idle;
     }
-    if is_indented(line) {
-        return Role::Member;
-    }
-    Role::Heads(read_header(line))
+    Role::Heads(read_header(word, rest))
 }
