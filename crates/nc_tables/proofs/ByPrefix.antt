@@ -3,7 +3,7 @@ use Rattle.std.proofs.Common.{◌≡◌, ℕ, zero, suc, Bool, true, false, cond
 use Rattle.std.specs.List.{AllPairs, flat_map, list_any}
 use Rattle.std.specs.List.Sorted.{IsSortedByKey}
 use Rattle.std.specs.Option.{option_map_or}
-use Rattle.std.specs.Ordering.{is_lt, is_gt, is_eq, ordering_reverse}
+use Rattle.std.specs.Ordering.{is_gt, is_eq, ordering_reverse}
 use Rattle.std.specs.declared.cmp.Ordering.{Ordering}
 use Rattle.std.specs.declared.cmp.Ordering.TheVariants.{Less, Equal, Greater}
 use Rattle.std.proofs.lemmas.Bool.{eqb-true}
@@ -72,7 +72,7 @@ in_order_is cmp (x ∷ xs) up = ap (insert cmp x) (in_order_is cmp xs (pairs_tai
   where
     at_front : (ys : List _) → All (λ b. cmp x b ≡ Less) ys → insert cmp x ys ≡ x ∷ ys
     at_front [] above = refl
-    at_front (y ∷ ys) above = ap (λ (o : Ordering). cond (is_lt o) (x ∷ y ∷ ys) (y ∷ insert cmp x ys)) (above 0 y (omega arith))
+    at_front (y ∷ ys) above = ap (λ (o : Ordering). cond (is_gt o) (y ∷ insert cmp x ys) (x ∷ y ∷ ys)) (above 0 y (omega arith))
 
 none_by_any : {X : Type 0} (test : X → Bool) (xs : List X) → list_any test xs ≡ false → All (λ x. test x ≡ false) xs
 none_by_any test [] e k d lt = absurd (omega arith)

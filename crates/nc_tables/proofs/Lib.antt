@@ -8,3 +8,8 @@ pub mod SessionOrder
 pub mod BgpRows
 pub mod ByPrefix
 pub mod RowCount
+pub mod Owner
+mod ByLevels
+mod SameTables
+pub mod WithoutProcess
+mod Settled

@@ -2,7 +2,7 @@
 use Rattle.std.proofs.Common.{◌≡◌, ℕ, suc, ◌+◌, ◌^◌, ◌<◌, ◌≤◌, Bool, true, false, cond, List, [], ◌∷◌, ◌++◌, length, map, get_or, filter, Option, Some, None, refl, ap, ◌∙◌, nat_eq, inl, inr, arith}
 use Rattle.std.specs.List.{IsDistinct}
 use Rattle.std.specs.Option.{option_map_or}
-use Rattle.std.specs.Ordering.{is_lt}
+use Rattle.std.specs.Ordering.{is_gt}
 use Rattle.std.specs.declared.cmp.Ordering.{Ordering}
 use Rattle.nc_tables.specs.declared.base.BaseFrom.TheVariants.{Connected}
 use Rattle.std.proofs.lemmas.Bool.{eqb-true, cases_lt}
@@ -26,11 +26,11 @@ use Rattle.nc_tables.specs.Order.{insert, in_order}
 
 insert_count : {X : Type 0} (cmp : X → X → Ordering) (x : X) (xs : List X) → length (insert cmp x xs) ≡ suc (length xs)
 insert_count cmp x [] = refl
-insert_count cmp x (y ∷ ys) = on (is_lt (cmp x y)) (insert_count cmp x ys)
+insert_count cmp x (y ∷ ys) = on (is_gt (cmp x y)) (insert_count cmp x ys)
   where
-    on : (b : Bool) → length (insert cmp x ys) ≡ suc (length ys) → length (cond b (x ∷ y ∷ ys) (y ∷ insert cmp x ys)) ≡ suc (suc (length ys))
-    on true more = refl
-    on false more = ap suc more
+    on : (b : Bool) → length (insert cmp x ys) ≡ suc (length ys) → length (cond b (y ∷ insert cmp x ys) (x ∷ y ∷ ys)) ≡ suc (suc (length ys))
+    on true more = ap suc more
+    on false more = refl
 
 in_order_count : {X : Type 0} (cmp : X → X → Ordering) (xs : List X) → length (in_order cmp xs) ≡ length xs
 in_order_count cmp [] = refl

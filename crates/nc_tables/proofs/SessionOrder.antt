@@ -8,8 +8,7 @@ use Rattle.std.proofs.lemmas.Bool.Decides.{nat_tests}
 use Rattle.std.proofs.lemmas.Cmp.{nat_cmp_total}
 use Rattle.std.proofs.lemmas.List.Sorted.{searchable_from_sorted}
 use Rattle.nc_tables.specs.declared.bgp.SessionRow.{SessionRow}
-use Rattle.nc_tables.specs.Sessions.{AreSessions}
-use Rattle.nc_tables.specs.Rounds.{session_in}
+use Rattle.nc_tables.specs.Sessions.{AreSessions, session_in}
 use Rattle.nc_tables.proofs.Finding.{found_at, found_none}
 
 abbrev neighbor_of : SessionRow → ℕ

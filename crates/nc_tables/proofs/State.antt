@@ -6,13 +6,13 @@ use Rattle.nc_types.specs.Config.{ConfigView}
 use Rattle.nc_tables.specs.declared.base.BaseRow.{BaseRow}
 use Rattle.nc_tables.specs.declared.bgp.SessionRow.{SessionRow}
 use Rattle.nc_tables.specs.Base.{base_table}
-use Rattle.nc_tables.specs.Rounds.{round_of, after}
+use Rattle.nc_tables.specs.Rounds.{rows_anew, after}
 use Rattle.nc_tables.specs.State.{StateView, state_at, IsState}
 
 after_count : (routers : List ConfigView) (tables : List (List BaseRow)) (sessions : List (List SessionRow)) (rounds : ℕ) → length (after routers tables sessions rounds) ≡ length routers
 unfolding after
 after_count routers tables sessions zero = length-map routers _
-after_count routers tables sessions (suc k) = length-map-range_with_len (round_of routers tables sessions (after routers tables sessions k)) 0 (length routers)
+after_count routers tables sessions (suc k) = length-map-range_with_len (rows_anew routers tables sessions (after routers tables sessions k)) 0 (length routers)
 
 pub base_count : (s : StateView) → IsState s → length s.base ≡ length s.routers
 unfolding state_at

@@ -6,6 +6,7 @@ use Rattle.std.specs.Ordering.{nat_cmp, ordering_then}
 use Rattle.std.specs.Str.{bytes_eq}
 use Rattle.std.specs.declared.cmp.Ordering.{Ordering}
 use Rattle.std.specs.List.Sorted.{IsSorted}
+use Rattle.nc_types.specs.declared.TheConstants.{UNUSED_DISTANCE}
 use Rattle.nc_types.specs.Cidr.{Cidr, IsCidr}
 use Rattle.nc_types.specs.Masks.{size_of}
 use Rattle.nc_types.specs.Config.{ConfigView}
@@ -60,10 +61,10 @@ static_from is place Null = Some (Discard place)
 static_from is place via =
     if hop_is_own is via then None else option_map (λ iface. Static place (record { 0 = iface })) (interface_toward is via)
 
--- a static route of distance 255 is never used
+-- a static route of the greatest distance is never used
 abbrev pub static_row : List Interface → ℕ → StaticRoute → Option BaseRow
 static_row is place s =
-    if nat_lt s.distance 255 then option_map (λ from. record { prefix = s.prefix; distance = s.distance; from = from }) (static_from is place s.via) else None
+    if nat_lt s.distance UNUSED_DISTANCE then option_map (λ from. record { prefix = s.prefix; distance = s.distance; from = from }) (static_from is place s.via) else None
 
 -- the rows of the static routes that can be used, the first of which has this place
 abbrev pub statics_from : List Interface → ℕ → List StaticRoute → List BaseRow

@@ -58,23 +58,26 @@ learnt place asn sender =
       sender = record { 0 = sender };
     }
 
-abbrev pub senders : List Chosen → List ℕ
-senders xs = map (λ x. x.sender.0) xs
+abbrev pub both : List Chosen
+both = learnt 0 65001 (address 10 0 13 1) ∷ learnt 1 65001 (address 10 0 12 1) ∷ []
+
+abbrev pub two_systems : List Chosen
+two_systems = learnt 0 65001 (address 10 0 13 1) ∷ learnt 1 65003 (address 10 0 12 1) ∷ []
 
 -- the lower sender comes first, and the other is used with it
-pub both : senders (choose 2 false (learnt 0 65001 (address 10 0 13 1) ∷ learnt 1 65001 (address 10 0 12 1) ∷ [])) ≡ address 10 0 12 1 ∷ address 10 0 13 1 ∷ []
+pub lower_sender : choose both 2 false ≡ 1 ∷ 0 ∷ []
 unfolding choose preference_cmp
-both = refl
+lower_sender = refl
 
-pub one_at_most : senders (choose 1 false (learnt 0 65001 (address 10 0 13 1) ∷ learnt 1 65001 (address 10 0 12 1) ∷ [])) ≡ address 10 0 12 1 ∷ []
+pub one_at_most : choose both 1 false ≡ 1 ∷ []
 unfolding choose preference_cmp
 one_at_most = refl
 
 -- with another path only where paths of one length are enough
-pub other_path : senders (choose 2 false (learnt 0 65001 (address 10 0 13 1) ∷ learnt 1 65003 (address 10 0 12 1) ∷ [])) ≡ address 10 0 12 1 ∷ []
+pub other_path : choose two_systems 2 false ≡ 1 ∷ []
 unfolding choose preference_cmp
 other_path = refl
 
-pub relaxed : senders (choose 2 true (learnt 0 65001 (address 10 0 13 1) ∷ learnt 1 65003 (address 10 0 12 1) ∷ [])) ≡ address 10 0 12 1 ∷ address 10 0 13 1 ∷ []
+pub relaxed : choose two_systems 2 true ≡ 1 ∷ 0 ∷ []
 unfolding choose preference_cmp
 relaxed = refl

@@ -8,7 +8,7 @@ use Rattle.nc_tables.specs.Reach.{reaches}
 use Rattle.nc_tables.specs.Sessions.{router_id}
 use Rattle.nc_tables.specs.Policy.{verdict}
 use Rattle.nc_tables.specs.Choice.{choose, preference_cmp}
-use Rattle.nc_tables.specs.Rounds.{after}
+use Rattle.nc_tables.specs.Rounds.{after, message_at, accepted_at}
 use Rattle.nc_tables.specs.Main.{main_table}
 use Rattle.nc_tables.specs.Cases.{address, prefix, interface, route_to, neighbor, process, router, sessions_in, state, mains, Settles, paths_at}
 
@@ -28,20 +28,20 @@ pair_sessions = refl
 
 -- nothing changes behind two rounds; behind one the second router learns the route
 pub pair_settles : Settles pair 2
-unfolding base_table reaches longest after choose preference_cmp verdict
+unfolding base_table reaches longest after message_at accepted_at choose preference_cmp verdict
 pair_settles = refl
 
 pub pair_learns : paths_at (state pair 1) ≡ (([] ∷ []) ∷ []) ∷ [] ∷ []
-unfolding base_table reaches longest after choose preference_cmp verdict
+unfolding base_table reaches longest after message_at accepted_at choose preference_cmp verdict
 pair_learns = refl
 
 pub pair_learnt : paths_at (state pair 2) ≡ (([] ∷ []) ∷ []) ∷ (((65001 ∷ []) ∷ []) ∷ []) ∷ []
-unfolding base_table reaches longest after choose preference_cmp verdict
+unfolding base_table reaches longest after message_at accepted_at choose preference_cmp verdict
 pair_learnt = refl
 
 -- the second router has the connected network at distance 0, and the learnt one at 20
 pub pair_mains : map (map (λ row. row.distance)) (mains pair 2) ≡ (0 ∷ 0 ∷ []) ∷ (0 ∷ 20 ∷ []) ∷ []
-unfolding base_table reaches longest after choose preference_cmp verdict main_table
+unfolding base_table reaches longest after message_at accepted_at choose preference_cmp verdict main_table
 pair_mains = refl
 
 -- ---- a session between loopbacks of one system, over two links
@@ -73,15 +73,15 @@ summary =
 
 -- it is active from the second round on, and discards at distance 200
 pub summary_settles : Settles summary 2
-unfolding base_table reaches longest after choose preference_cmp verdict
+unfolding base_table reaches longest after message_at accepted_at choose preference_cmp verdict
 summary_settles = refl
 
 pub summary_prefixes : map (map (λ row. row.prefix.len)) (mains summary 2) ≡ (16 ∷ 24 ∷ 24 ∷ []) ∷ []
-unfolding base_table reaches longest after choose preference_cmp verdict main_table
+unfolding base_table reaches longest after message_at accepted_at choose preference_cmp verdict main_table
 summary_prefixes = refl
 
 pub summary_mains : map (map (λ row. row.distance)) (mains summary 2) ≡ (200 ∷ 0 ∷ 0 ∷ []) ∷ []
-unfolding base_table reaches longest after choose preference_cmp verdict main_table
+unfolding base_table reaches longest after message_at accepted_at choose preference_cmp verdict main_table
 summary_mains = refl
 
 -- ---- three systems, of which two prefer the path over each other
@@ -107,14 +107,14 @@ dispute =
 -- both take the path over each other, and then both take the direct one again
 pub dispute_over : paths_at (state dispute 3)
     ≡ (([] ∷ []) ∷ []) ∷ (((65002 ∷ 65000 ∷ []) ∷ []) ∷ []) ∷ (((65001 ∷ 65000 ∷ []) ∷ []) ∷ []) ∷ []
-unfolding base_table reaches longest after choose preference_cmp verdict
+unfolding base_table reaches longest after message_at accepted_at choose preference_cmp verdict
 dispute_over = refl
 
 pub dispute_direct : paths_at (state dispute 4) ≡ (([] ∷ []) ∷ []) ∷ (((65000 ∷ []) ∷ []) ∷ []) ∷ (((65000 ∷ []) ∷ []) ∷ []) ∷ []
-unfolding base_table reaches longest after choose preference_cmp verdict
+unfolding base_table reaches longest after message_at accepted_at choose preference_cmp verdict
 dispute_direct = refl
 
 -- so it goes on for ever: the state behind four rounds is that behind two
 pub dispute_repeats : state dispute 4 ≡ state dispute 2
-unfolding base_table reaches longest after choose preference_cmp verdict
+unfolding base_table reaches longest after message_at accepted_at choose preference_cmp verdict
 dispute_repeats = refl

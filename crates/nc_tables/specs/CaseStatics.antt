@@ -7,7 +7,7 @@ use Rattle.nc_tables.specs.Reach.{reaches}
 use Rattle.nc_tables.specs.Rounds.{after}
 use Rattle.nc_tables.specs.Main.{main_table}
 use Rattle.nc_tables.specs.Forwarding.{traces, all_trace}
-use Rattle.nc_tables.specs.Cases.{address, prefix, interface, route_to, router, sessions_in, state, mains}
+use Rattle.nc_tables.specs.Cases.{address, prefix, interface, route_to, router, state, mains}
 
 abbrev pub first : ConfigView
 first =
@@ -38,10 +38,10 @@ unfolding base_table reaches longest
 pair_needs_a_hop = refl
 
 -- a packet to a host behind the second router arrives by one way, and by every way
-pub pair_traces : traces pair (base_tables pair) (sessions_in pair) (state pair 0) (mains pair 0) 1 0 (address 10 2 0 9) ≡ true
+pub pair_traces : traces pair (base_tables pair) (state pair 0) (mains pair 0) 1 0 (address 10 2 0 9) ≡ true
 unfolding base_table reaches longest after main_table traces
 pair_traces = refl
 
-pub pair_traces_all : all_trace pair (base_tables pair) (sessions_in pair) (state pair 0) (mains pair 0) 1 0 (address 10 2 0 9) ≡ true
+pub pair_traces_all : all_trace pair (base_tables pair) (state pair 0) (mains pair 0) 1 0 (address 10 2 0 9) ≡ true
 unfolding base_table reaches longest after main_table all_trace
 pair_traces_all = refl

@@ -58,7 +58,7 @@ abbrev pub state : List ConfigView → ℕ → List (List BgpRowView)
 state routers rounds = after routers (base_tables routers) (sessions_in routers) rounds
 
 abbrev pub mains : List ConfigView → ℕ → List (List MainRow)
-mains routers rounds = main_tables routers (base_tables routers) (sessions_in routers) (state routers rounds)
+mains routers rounds = main_tables routers (base_tables routers) (state routers rounds)
 
 -- whether a network's state is the same after one more round
 abbrev pub Settles : List ConfigView → ℕ → Type 0

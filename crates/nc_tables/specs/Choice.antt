@@ -1,5 +1,5 @@
 -- Which candidates of a prefix are chosen.
-use Rattle.std.specs.Prelude.{ℕ, Bool, true, false, not, ◌&&◌, ◌==◌, List, [], ◌∷◌, length, take, filter, if◌then◌else◌}
+use Rattle.std.specs.Prelude.{ℕ, ◌+◌, Bool, true, false, not, ◌&&◌, ◌==◌, List, [], ◌∷◌, length, map, take, filter, if◌then◌else◌}
 use Rattle.std.specs.Ordering.{nat_cmp, ordering_then}
 use Rattle.std.specs.Str.{bytes_eq}
 use Rattle.std.specs.declared.cmp.Ordering.{Ordering}
@@ -52,12 +52,26 @@ is_equal_to relax best x =
     is_external x && ((x.route.preference == best.route.preference)
     && ((origin_rank x.route.origin == origin_rank best.route.origin) && ((x.route.metric == best.route.metric) && same_path relax x.route.path best.route.path)))
 
--- the best, and those that are used with it
-abbrev pub used_with : ℕ → Bool → List Chosen → List Chosen
+-- a candidate with its place among the candidates of its prefix
+pub record Ranked : Type 0 where
+  pub place : ℕ
+  pub candidate : Chosen
+
+-- candidates with their places, the first of which has this place
+abbrev pub ranked_from : ℕ → List Chosen → List Ranked
+ranked_from place [] = []
+ranked_from place (x ∷ xs) = record { place = place; candidate = x } ∷ ranked_from (place + 1) xs
+
+-- candidates with their places, the preferred ones first
+abbrev pub by_preference : List Chosen → List Ranked
+by_preference candidates = in_order (λ a b. preference_cmp a.candidate b.candidate) (ranked_from 0 candidates)
+
+-- the best, and those that are used with it, at most so many
+abbrev pub used_with : ℕ → Bool → List Ranked → List Ranked
 used_with limit relax [] = []
 used_with limit relax (best ∷ others) =
-    if is_external best then take limit (best ∷ filter (is_equal_to relax best) others) else best ∷ []
+    if is_external best.candidate then take limit (best ∷ filter (λ x. is_equal_to relax best.candidate x.candidate) others) else best ∷ []
 
--- the chosen ones of some candidates of a prefix, best first, at most so many
-unfoldable pub choose : ℕ → Bool → List Chosen → List Chosen
-choose limit relax candidates = used_with limit relax (in_order preference_cmp candidates)
+-- the places of those candidates of a prefix that are chosen, best first, at most so many
+unfoldable pub choose : List Chosen → ℕ → Bool → List ℕ
+choose candidates limit relax = map (λ x. x.place) (used_with limit relax (by_preference candidates))

@@ -8,7 +8,9 @@ pub mod Choice
 pub mod Rounds
 pub mod Main
 pub mod Forwarding
+pub mod Levels
 pub mod State
+pub mod Settling
 pub mod Cases
 pub mod CaseStatics
 pub mod CaseRoutes

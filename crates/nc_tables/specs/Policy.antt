@@ -3,6 +3,7 @@ use Rattle.std.specs.Prelude.{ℕ, ◌+◌, Bool, false, ◌&&◌, ◌||◌, ◌
 use Rattle.std.specs.List.{list_any, find, filter}
 use Rattle.std.specs.Option.{option_map_or}
 use Rattle.std.specs.Str.{bytes_eq}
+use Rattle.nc_types.specs.declared.TheConstants.{PATH_LIMIT}
 use Rattle.nc_types.specs.Cidr.{Cidr}
 use Rattle.nc_types.specs.Config.{ConfigView, ClauseView, PrefixListView}
 use Rattle.nc_types.specs.declared.config.ListEntry.{ListEntry}
@@ -16,9 +17,13 @@ use Rattle.nc_tables.specs.Base.{covers}
 abbrev pub is_of : Cidr → ListEntry → Bool
 is_of p e = covers e.prefix p.base && (nat_le e.low p.len && nat_le p.len e.high)
 
--- a list permits by its first entry that is of the prefix; without one it denies
+-- the entry that decides on a prefix, by its place among those of a list: the first that is of the prefix
+abbrev pub deciding_entry : List ListEntry → Cidr → Option ℕ
+deciding_entry entries p = position (is_of p) entries
+
+-- a list permits by the entry that decides; without one it denies
 abbrev pub permits : PrefixListView → Cidr → Bool
-permits l p = option_map_or (λ e. e.permit) (find (is_of p) l.entries) false
+permits l p = option_map_or (λ e. e.permit) (option_and_then (slice_get l.entries) (deciding_entry l.entries p)) false
 
 -- ---- clauses
 
@@ -66,18 +71,16 @@ pub data Verdict : Type 0 where
 -- a route with what a clause sets
 abbrev pub set_by : ClauseView → Route → Route
 set_by k r =
-    record {
-      prefix = r.prefix;
+    record r {
       path = k.prepend ++ r.path;
-      next_hop = r.next_hop;
       preference = unwrap_or k.preference r.preference;
       metric = unwrap_or k.metric r.metric;
       origin = unwrap_or k.origin r.origin;
     }
 
--- a path is of at most 250 numbers, else the route is dropped
+-- a path of more numbers than the limit: the route is dropped
 abbrev pub is_long : Route → Bool
-is_long r = nat_lt 250 (length r.path)
+is_long r = nat_lt PATH_LIMIT (length r.path)
 
 abbrev pub verdict_by : ConfigView → Route → Placed → Verdict
 verdict_by c r k =

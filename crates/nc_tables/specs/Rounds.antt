@@ -1,12 +1,12 @@
 -- How BGP routes spread: messages, what is accepted of them, rounds, and the state in which nothing changes.
-use Rattle.std.specs.Prelude.{◌≡◌, ℕ, zero, suc, ◌<◌, Bool, true, false, not, ◌&&◌, ◌||◌, ◌==◌, nat_lt, List, [], ◌∷◌, ◌++◌, length, map, Option, Some, None, option_and_then, slice_get, slice_index_or, All, AllPairs, if◌then◌else◌}
+use Rattle.std.specs.Prelude.{◌≡◌, ℕ, zero, suc, ◌<◌, ◌≤◌, Bool, true, false, not, ◌&&◌, ◌||◌, ◌==◌, nat_lt, List, [], ◌∷◌, ◌++◌, length, map, Option, Some, None, option_and_then, slice_get, slice_index_or, All, AllPairs, if◌then◌else◌}
 use Rattle.std.specs.List.{filter_map, find, flat_map, list_any, range_with_len}
 use Rattle.std.specs.declared.cmp.Ordering.TheVariants.{Less}
 use Rattle.std.specs.Option.{option_map, option_map_or}
-use Rattle.nc_types.specs.Cidr.{Cidr}
+use Rattle.nc_types.specs.declared.TheConstants.{DEFAULT_PREFERENCE, MULTIPATH_LIMIT}
+use Rattle.nc_types.specs.Cidr.{Cidr, IsCidr}
 use Rattle.nc_types.specs.Config.{ConfigView, ProcessView}
 use Rattle.nc_types.specs.Network.{up_at}
-use Rattle.nc_types.specs.declared.config.Neighbor.{Neighbor}
 use Rattle.nc_types.specs.declared.config.NetworkStatement.{NetworkStatement}
 use Rattle.nc_types.specs.declared.config.AggregateStatement.{AggregateStatement}
 use Rattle.nc_types.specs.declared.config.Reference.{Reference}
@@ -16,10 +16,11 @@ use Rattle.nc_tables.specs.declared.bgp.SessionRow.{SessionRow}
 use Rattle.nc_tables.specs.declared.bgp.Route.{Route}
 use Rattle.nc_tables.specs.declared.bgp.Chosen.{Chosen}
 use Rattle.nc_tables.specs.declared.bgp.BgpRow.{BgpRow}
+use Rattle.nc_tables.specs.declared.bgp.BgpFrom.{BgpFrom}
 use Rattle.nc_tables.specs.declared.bgp.BgpFrom.TheVariants.{Origin, Aggregate, Entry}
 use Rattle.nc_tables.specs.Base.{covers, same_prefix, prefix_cmp, is_own}
 use Rattle.nc_tables.specs.Reach.{hits, rows_of}
-use Rattle.nc_tables.specs.Sessions.{first_of, router_id}
+use Rattle.nc_tables.specs.Sessions.{End, first_of, router_id, process_of, end_at, session_in}
 use Rattle.nc_tables.specs.Policy.{Verdict, Deny, Permit, verdict, is_long}
 use Rattle.nc_tables.specs.Choice.{choose, is_learnt}
 use Rattle.nc_tables.specs.Order.{in_order}
@@ -31,6 +32,49 @@ pub record BgpRowView : Type 0 where
 
 abbrev pub bgp_row_view : BgpRow → BgpRowView
 bgp_row_view r = record { prefix = r.prefix; chosen = r.chosen.items }
+
+-- a prefix inside a shorter one
+abbrev pub is_longer_in : Cidr → Cidr → Bool
+is_longer_in p outer = nat_lt outer.len p.len && covers outer p.base
+
+-- what each item makes at its place, the first of which has this place
+abbrev pub made_from : {A B : Type 0} → (ℕ → A → Option B) → ℕ → List A → List B
+made_from make place [] = []
+made_from make place (x ∷ xs) = option_map_or (λ y. y ∷ made_from make (suc place) xs) (make place x) (made_from make (suc place) xs)
+
+-- prefixes that aren't among those behind them
+abbrev pub distinct : List Cidr → List Cidr
+distinct [] = []
+distinct (p ∷ ps) = if list_any (same_prefix p) ps then distinct ps else p ∷ distinct ps
+
+-- ---- tables
+
+-- the chosen candidates of a prefix, among the rows of a router
+abbrev pub chosen_in : List BgpRowView → Cidr → List Chosen
+chosen_in rows p = option_map_or (λ row. row.chosen) (find (λ row. same_prefix row.prefix p) rows) []
+
+-- the rows of a router: strictly in order of prefix, each with a candidate and with no more than are used at once, and each candidate
+-- a route of the row's prefix
+pub record AreBgpRows (rows : List BgpRowView) : Type 0 where
+  pub ordered : AllPairs (λ a b. prefix_cmp a.prefix b.prefix ≡ Less) rows
+  pub valid : All (λ row. IsCidr row.prefix.base row.prefix.len) rows
+  pub some : All (λ row. 0 < length row.chosen) rows
+  pub few : All (λ row. length row.chosen ≤ MULTIPATH_LIMIT) rows
+  pub own : All (λ row. All (λ x. x.route.prefix ≡ row.prefix) row.chosen) rows
+
+module _ (table : List (List BgpRowView)) where
+  -- the chosen candidates of a prefix at a router, and the best of them
+  abbrev pub chosen_at : ℕ → Cidr → List Chosen
+  chosen_at router p = chosen_in (slice_index_or table router []) p
+
+  abbrev pub best_at : ℕ → Cidr → Option Chosen
+  best_at router p = first_of (chosen_at router p)
+
+  -- an aggregate is active where a longer prefix inside it has a chosen candidate
+  abbrev pub is_active : ℕ → AggregateStatement → Bool
+  is_active router a = list_any (λ row. is_longer_in row.prefix a.prefix && nat_lt 0 (length row.chosen)) (slice_index_or table router [])
+
+-- ---- what a map makes of a route
 
 -- a route that a policy let pass, with the places of the clause and of the list that decided, where one did
 pub record Passed : Type 0 where
@@ -47,134 +91,165 @@ abbrev pub passed : ConfigView → Option Reference → Route → Option Passed
 passed c None route = Some (record { route = route; clause = None; list = None })
 passed c (Some reference) route = passed_by (verdict c reference.name route)
 
--- a route that a router itself begins: of a network or of an aggregate
-abbrev pub own_route : Cidr → Route
-own_route p = record { prefix = p; path = []; next_hop = record { 0 = 0 }; preference = 100; metric = 0; origin = Igp }
+-- ---- messages
 
--- a prefix inside a shorter one
-abbrev pub is_longer_in : Cidr → Cidr → Bool
-is_longer_in p outer = nat_lt outer.len p.len && covers outer p.base
+-- both ends of a session, and the address from which its sender starts
+pub record Link : Type 0 where
+  pub session : SessionRow
+  pub receiver : End
+  pub sender : End
+  pub source : ℕ
 
--- what each item makes at its place, the first of which has this place
-abbrev pub made_from : {A B : Type 0} → (ℕ → A → Option B) → ℕ → List A → List B
-made_from make place [] = []
-made_from make place (x ∷ xs) = option_map_or (λ y. y ∷ made_from make (suc place) xs) (make place x) (made_from make (suc place) xs)
+-- a message: over which session, of which candidate of the sender, what the sender's map made of it, and the route as it is sent
+pub record Message : Type 0 where
+  pub link : Link
+  pub best : Chosen
+  pub out : Passed
+  pub route : Route
 
--- prefixes that aren't among those behind them
-abbrev pub distinct : List Cidr → List Cidr
-distinct [] = []
-distinct (p ∷ ps) = if list_any (same_prefix p) ps then distinct ps else p ∷ distinct ps
+-- a message that is accepted, and what the receiver's map made of its route
+pub record Accepted : Type 0 where
+  pub message : Message
+  pub into : Passed
 
--- ---- before a route is sent
+-- an aggregate of the sender holds the prefix back: it sends itself alone
+abbrev pub is_held_back : ProcessView → Cidr → Bool
+is_held_back p prefix = list_any (λ a. a.summary_only && is_longer_in prefix a.prefix) p.aggregates
 
--- toward another system the metric begins anew
+-- what was learnt inside the system isn't passed on inside it
+abbrev pub is_kept_inside : Link → Chosen → Bool
+is_kept_inside k b = k.session.internal && b.internal
+
+-- before the out map: toward another system the metric begins anew
 abbrev pub outgoing : Bool → Route → Route
 outgoing true r = r
-outgoing false r = record { prefix = r.prefix; path = r.path; next_hop = r.next_hop; preference = r.preference; metric = 0; origin = r.origin }
+outgoing false r = record r { metric = 0 }
 
--- what is sent, behind the out map: toward another system the own number goes before the path, the sender is the next hop, and the
--- preference begins anew; within the system the sender is the next hop of what it begins itself, and where its statement says so
-abbrev pub sent_as : Bool → ℕ → ℕ → Bool → Route → Route
-sent_as false asn source self_hop r = record { prefix = r.prefix; path = asn ∷ r.path; next_hop = record { 0 = source }; preference = 100; metric = r.metric; origin = r.origin }
-sent_as true asn source self_hop r =
-    record { prefix = r.prefix; path = r.path; next_hop = if self_hop then record { 0 = source } else r.next_hop; preference = r.preference; metric = r.metric; origin = r.origin }
+-- what the sender's map for the receiver makes of the best candidate
+abbrev pub out_of : Link → Chosen → Option Passed
+out_of k b = passed k.sender.config k.sender.statement.map_out (outgoing k.session.internal b.route)
 
--- ---- tables
+-- toward another system the own number goes before the path, the sender is the next hop, and the preference begins anew
+abbrev pub sent_outside : ℕ → ℕ → Route → Route
+sent_outside asn source r = record r { path = asn ∷ r.path; next_hop = record { 0 = source }; preference = DEFAULT_PREFERENCE }
 
--- the chosen candidates of a prefix, among the rows of a router
-abbrev pub chosen_in : List BgpRowView → Cidr → List Chosen
-chosen_in rows p = option_map_or (λ row. row.chosen) (find (λ row. same_prefix row.prefix p) rows) []
+-- within the system the sender is the next hop of what it begins itself, and where its statement says so
+abbrev pub sent_inside : ℕ → Bool → Route → Route
+sent_inside source self_hop r = if self_hop then record r { next_hop = record { 0 = source } } else r
 
--- the session of a neighbor statement, among those of a router
-abbrev pub session_in : List SessionRow → ℕ → Option SessionRow
-session_in rows place = find (λ s. s.neighbor == place) rows
+-- a route as it is sent, behind the out map
+abbrev pub sent_over : Link → Chosen → Route → Route
+sent_over k b r =
+    if k.session.internal then sent_inside k.source (k.sender.statement.self_hop || not (is_learnt b.from)) r
+    else sent_outside k.sender.process.asn k.source r
 
--- the rows of a router: strictly in order of prefix, each with a candidate, and each candidate a route of the row's prefix
-pub record AreBgpRows (rows : List BgpRowView) : Type 0 where
-  pub ordered : AllPairs (λ a b. prefix_cmp a.prefix b.prefix ≡ Less) rows
-  pub some : All (λ row. 0 < length row.chosen) rows
-  pub own : All (λ row. All (λ x. x.route.prefix ≡ row.prefix) row.chosen) rows
+abbrev pub message_with : Link → Chosen → Passed → Option Message
+message_with k b out =
+    if is_long (sent_over k b out.route) then None else Some (record { link = k; best = b; out = out; route = sent_over k b out.route })
 
-module _ (routers : List ConfigView) (tables : List (List BaseRow)) (sessions : List (List SessionRow)) (table : List (List BgpRowView)) where
-  -- the chosen candidates of a prefix at a router
-  abbrev pub chosen_at : ℕ → Cidr → List Chosen
-  chosen_at router p = chosen_in (slice_index_or table router []) p
+-- the message over a session of the sender's best candidate: it is sent where none of these holds, in this order
+abbrev pub message_of : Link → Chosen → Option Message
+message_of k b =
+    if is_held_back k.sender.process b.route.prefix then None else (if is_kept_inside k b then None else option_and_then (message_with k b) (out_of k b))
 
+-- the path of a message holds the receiver's own system
+abbrev pub is_looped : Message → Bool
+is_looped m = list_any (λ n. n == m.link.receiver.process.asn) m.route.path
+
+-- its next hop is an address of the receiver's own
+abbrev pub has_own_hop : Message → Bool
+has_own_hop m = is_own m.link.receiver.config.interfaces m.route.next_hop.0
+
+-- the candidate that is learnt from a message which is accepted, by the place of the receiver's statement
+abbrev pub learnt_from : ℕ → Accepted → Chosen
+learnt_from place a =
+    record {
+      route = a.into.route;
+      from = Entry place;
+      internal = a.message.link.session.internal;
+      sender_id = record { 0 = router_id a.message.link.sender.config };
+      sender = a.message.link.receiver.statement.addr;
+    }
+
+module _ (sessions : List (List SessionRow)) where
   -- the session of a neighbor statement of a router
   abbrev pub session_by : ℕ → ℕ → Option SessionRow
   session_by router place = session_in (slice_index_or sessions router []) place
 
-  abbrev pub config_at : ℕ → Option ConfigView
-  config_at router = slice_get routers router
+module _ (tables : List (List BaseRow)) where
+  -- no hit leads toward the next hop of a message
+  abbrev pub is_unresolved : ℕ → Message → Bool
+  is_unresolved router m = not (nat_lt 0 (length (hits tables router m.route.next_hop.0)))
 
-  abbrev pub process_in : ℕ → Option ProcessView
-  process_in router = option_and_then (λ c. c.process) (config_at router)
+  -- what a router makes of a message: it is accepted where none of the three holds and its map permits
+  abbrev pub accepted_of : ℕ → Message → Option Accepted
+  accepted_of router m =
+      if is_looped m then None else (if has_own_hop m then None else (if is_unresolved router m then None
+      else option_map (λ into. record { message = m; into = into }) (passed m.link.receiver.config m.link.receiver.statement.map_in m.route)))
 
-  -- a prefix that an aggregate of the process holds back
-  abbrev pub is_held_back : ProcessView → Cidr → Bool
-  is_held_back p prefix = list_any (λ a. a.summary_only && is_longer_in prefix a.prefix) p.aggregates
+module _ (routers : List ConfigView) (sessions : List (List SessionRow)) where
+  -- the ends of the session of a neighbor statement
+  abbrev pub link_at : ℕ → ℕ → Option Link
+  link_at router place =
+      option_and_then (λ s. option_and_then (λ receiver. option_and_then (λ sender. option_map (λ source.
+      record { session = s; receiver = receiver; sender = sender; source = source.addr.0 })
+      (up_at routers s.peer.0 s.peer_source.0)) (end_at routers s.peer.0 s.peer_neighbor)) (end_at routers router place)) (session_by sessions router place)
 
-  -- ---- messages
+-- ---- candidates
 
-  -- what the sender of a session sends of its best candidate, by its own statement for the receiver
-  abbrev pub sent_of : SessionRow → ConfigView → ProcessView → Neighbor → Chosen → Option Passed
-  sent_of s c p m b =
-      if is_held_back p b.route.prefix || (s.internal && b.internal) then None
-      else option_and_then (λ out. option_and_then (λ source.
-      let route = sent_as s.internal p.asn source.addr.0 (m.self_hop || not (is_learnt b.from)) out.route in
-      if is_long route then None else Some (record { route = route; clause = out.clause; list = out.list }))
-      (up_at routers s.peer.0 s.peer_source.0)) (passed c m.map_out (outgoing s.internal b.route))
+-- the candidate of a prefix that a router itself begins, of a network or of an aggregate
+abbrev pub begun : Cidr → BgpFrom → Chosen
+begun p from =
+    record {
+      route = record { prefix = p; path = []; next_hop = record { 0 = 0 }; preference = DEFAULT_PREFERENCE; metric = 0; origin = Igp };
+      from = from;
+      internal = false;
+      sender_id = record { 0 = 0 };
+      sender = record { 0 = 0 };
+    }
 
+-- the prefixes that a router begins
+abbrev pub prefixes_in : ConfigView → List Cidr
+prefixes_in c = option_map_or (λ p. map (λ n. n.prefix) p.networks ++ map (λ a. a.prefix) p.aggregates) c.process []
+
+-- all prefixes that any router begins, in order
+abbrev pub prefixes : List ConfigView → List Cidr
+prefixes routers = in_order prefix_cmp (distinct (flat_map prefixes_in routers))
+
+-- those candidates of a prefix that a process chooses, best first
+abbrev pub chosen_by : ProcessView → List Chosen → List Chosen
+chosen_by p candidates = filter_map (slice_get candidates) (choose candidates p.max_paths p.relax)
+
+-- the row of a prefix, if it has a candidate
+abbrev pub row_of : Cidr → List Chosen → Option BgpRowView
+row_of prefix [] = None
+row_of prefix (x ∷ xs) = Some (record { prefix = prefix; chosen = x ∷ xs })
+
+module _ (routers : List ConfigView) (tables : List (List BaseRow)) (sessions : List (List SessionRow)) (table : List (List BgpRowView)) where
   -- the message to a neighbor statement of a router for a prefix, if one is sent
-  abbrev pub message_at : ℕ → ℕ → Cidr → Option Passed
+  unfoldable pub message_at : ℕ → ℕ → Cidr → Option Message
   message_at router place prefix =
-      option_and_then (λ s. option_and_then (λ c. option_and_then (λ p. option_and_then (λ m. option_and_then (sent_of s c p m)
-      (first_of (chosen_at s.peer.0 prefix))) (slice_get p.neighbors s.peer_neighbor)) c.process) (config_at s.peer.0)) (session_by router place)
+      option_and_then (λ k. option_and_then (message_of k) (best_at table k.session.peer.0 prefix)) (link_at routers sessions router place)
 
-  -- ---- candidates
-
-  -- a message is accepted where its path doesn't hold the own number, its next hop isn't an own address and some hit leads toward it,
-  -- and the in map permits
-  abbrev pub is_welcome : ℕ → ConfigView → ProcessView → Route → Bool
-  is_welcome router c p r =
-      not (list_any (λ n. n == p.asn) r.path) && (not (is_own c.interfaces r.next_hop.0) && nat_lt 0 (length (hits routers tables router r.next_hop.0)))
-
-  -- what a router makes of a message, with the clause and the list of its in map
-  abbrev pub accepted_of : ℕ → ConfigView → ProcessView → Neighbor → Passed → Option Passed
-  accepted_of router c p n message = if is_welcome router c p message.route then passed c n.map_in message.route else None
-
-  abbrev pub accepted_at : ℕ → ℕ → Cidr → Option Passed
-  accepted_at router place prefix =
-      option_and_then (λ c. option_and_then (λ p. option_and_then (λ n. option_and_then (accepted_of router c p n) (message_at router place prefix))
-      (slice_get p.neighbors place)) c.process) (config_at router)
+  -- what is accepted of it
+  unfoldable pub accepted_at : ℕ → ℕ → Cidr → Option Accepted
+  accepted_at router place prefix = option_and_then (accepted_of tables router) (message_at router place prefix)
 
   -- the candidate that is learnt from a neighbor
   abbrev pub entry_at : ℕ → ℕ → Cidr → Option Chosen
-  entry_at router place prefix =
-      option_and_then (λ s. option_and_then (λ sender. option_and_then (λ p. option_and_then (λ n. option_map (λ entry. record {
-        route = entry.route;
-        from = Entry place;
-        internal = s.internal;
-        sender_id = record { 0 = router_id sender };
-        sender = n.addr;
-      }) (accepted_at router place prefix)) (slice_get p.neighbors place)) (process_in router)) (config_at s.peer.0)) (session_by router place)
+  entry_at router place prefix = option_map (learnt_from place) (accepted_at router place prefix)
 
   -- a network whose prefix has a row in the base table
   abbrev pub origin_at : ℕ → ℕ → NetworkStatement → Cidr → Option Chosen
   origin_at router place n prefix =
-      if same_prefix n.prefix prefix && list_any (λ row. same_prefix row.prefix prefix) (rows_of routers tables router)
-      then Some (record { route = own_route prefix; from = Origin place; internal = false; sender_id = record { 0 = 0 }; sender = record { 0 = 0 } }) else None
+      if same_prefix n.prefix prefix && list_any (λ row. same_prefix row.prefix prefix) (rows_of tables router) then Some (begun prefix (Origin place)) else None
 
-  -- an aggregate is active where a longer prefix inside it has a chosen candidate
-  abbrev pub is_active : ℕ → AggregateStatement → Bool
-  is_active router a = list_any (λ row. is_longer_in row.prefix a.prefix && nat_lt 0 (length row.chosen)) (slice_index_or table router [])
-
+  -- an aggregate that is active
   abbrev pub aggregate_at : ℕ → ℕ → AggregateStatement → Cidr → Option Chosen
   aggregate_at router place a prefix =
-      if same_prefix a.prefix prefix && is_active router a
-      then Some (record { route = own_route prefix; from = Aggregate place; internal = false; sender_id = record { 0 = 0 }; sender = record { 0 = 0 } }) else None
+      if same_prefix a.prefix prefix && is_active table router a then Some (begun prefix (Aggregate place)) else None
 
-  -- all candidates of a prefix at a router
+  -- all candidates of a prefix at a router: its networks, its aggregates, and what it learns
   abbrev pub candidates_at : ℕ → ProcessView → Cidr → List Chosen
   candidates_at router p prefix =
       made_from (λ place n. origin_at router place n prefix) 0 p.networks
@@ -183,35 +258,31 @@ module _ (routers : List ConfigView) (tables : List (List BaseRow)) (sessions : 
 
   -- ---- rounds
 
-  abbrev pub prefixes_in : ConfigView → List Cidr
-  prefixes_in c = option_map_or (λ p. map (λ n. n.prefix) p.networks ++ map (λ a. a.prefix) p.aggregates) c.process []
+  -- what is chosen anew of a prefix at a router
+  abbrev pub chosen_anew : ℕ → Cidr → List Chosen
+  chosen_anew router prefix = option_map_or (λ p. chosen_by p (candidates_at router p prefix)) (process_of routers router) []
 
-  -- all prefixes that any router begins, in order
-  abbrev pub prefixes : List Cidr
-  prefixes = in_order prefix_cmp (distinct (flat_map prefixes_in routers))
+  -- the row of a prefix at a router in the next table
+  abbrev pub row_at : ℕ → Cidr → Option BgpRowView
+  row_at router prefix = row_of prefix (chosen_anew router prefix)
 
-  -- the row of a prefix, if it has a candidate
-  abbrev pub row_with : ProcessView → Cidr → List Chosen → Option BgpRowView
-  row_with p prefix [] = None
-  row_with p prefix (x ∷ xs) = Some (record { prefix = prefix; chosen = choose p.max_paths p.relax (x ∷ xs) })
-
-  abbrev pub round_of : ℕ → List BgpRowView
-  round_of router = option_map_or (λ p. filter_map (λ prefix. row_with p prefix (candidates_at router p prefix)) prefixes) (process_in router) []
+  abbrev pub rows_anew : ℕ → List BgpRowView
+  rows_anew router = filter_map (row_at router) (prefixes routers)
 
   -- the next table: every row anew from the candidates that come from this one
   abbrev pub round : List (List BgpRowView)
-  round = map round_of (range_with_len 0 (length routers))
+  round = map rows_anew (range_with_len 0 (length routers))
 
 -- ---- the stable state
 
-module _ (routers : List ConfigView) (tables : List (List BaseRow)) (sessions : List (List SessionRow)) where
-  -- no route anywhere
-  abbrev pub no_routes : List (List BgpRowView)
-  no_routes = map (λ c. []) routers
+-- no route anywhere
+abbrev pub no_routes : List ConfigView → List (List BgpRowView)
+no_routes routers = map (λ c. []) routers
 
+module _ (routers : List ConfigView) (tables : List (List BaseRow)) (sessions : List (List SessionRow)) where
   -- the table after so many rounds
   unfoldable pub after : ℕ → List (List BgpRowView)
-  after zero = no_routes
+  after zero = no_routes routers
   after (suc k) = round routers tables sessions (after k)
 
   -- a round changes nothing behind so many rounds

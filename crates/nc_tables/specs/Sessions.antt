@@ -1,8 +1,9 @@
 -- Which BGP sessions are established, and the router id.
-use Rattle.std.specs.Prelude.{ℕ, ◌<◌, AllPairs, Bool, false, not, ◌&&◌, ◌||◌, ◌==◌, nat_lt, List, [], ◌∷◌, length, map, filter, Option, Some, None, option_and_then, position, slice_get, if◌then◌else◌, codes}
-use Rattle.std.specs.List.{filter_map, list_any, starts_with, range_with_len, fold}
+use Rattle.std.specs.Prelude.{ℕ, ◌<◌, AllPairs, Bool, not, ◌&&◌, ◌||◌, ◌==◌, nat_lt, List, [], ◌∷◌, length, map, filter, Option, Some, None, option_and_then, position, slice_get, if◌then◌else◌, codes}
+use Rattle.std.specs.List.{filter_map, find, list_any, starts_with, range_with_len, fold}
 use Rattle.std.specs.Option.{option_map, option_map_or}
 use Rattle.std.specs.Str.{bytes_eq}
+use Rattle.nc_types.specs.declared.TheConstants.{HOP_LIMIT}
 use Rattle.nc_types.specs.Config.{ConfigView, ProcessView}
 use Rattle.nc_types.specs.Network.{up_of, up_at, owner_of}
 use Rattle.nc_types.specs.declared.config.Interface.{Interface}
@@ -37,86 +38,147 @@ router_id c =
     (let loopbacks = up_addresses (filter is_loopback c.interfaces) in
     if nat_lt 0 (length loopbacks) then greatest loopbacks else greatest (up_addresses c.interfaces))
 
--- ---- sessions
+-- ---- neighbor statements
 
--- the sessions of a router, strictly in order of its neighbor statements
-abbrev pub AreSessions : List SessionRow → Type 0
-AreSessions rows = AllPairs (λ a b. a.neighbor < b.neighbor) rows
+-- a neighbor statement, with the process and the router that have it
+pub record End : Type 0 where
+  pub config : ConfigView
+  pub process : ProcessView
+  pub statement : Neighbor
 
 -- where a session starts: an interface that is up, and its address
 pub record SourceOf : Type 0 where
   pub iface : ℕ
   pub addr : ℕ
 
--- whether a prefix of a router's interfaces that are up covers an address
-abbrev pub is_near : ConfigView → ℕ → Bool
-is_near c addr = list_any (is_toward addr) c.interfaces
+-- one side of a session: a neighbor statement by its router and its place, and where it starts
+pub record Side : Type 0 where
+  pub router : ℕ
+  pub place : ℕ
+  pub end : End
+  pub source : SourceOf
+
+module _ (routers : List ConfigView) where
+  -- the process of a router
+  abbrev pub process_of : ℕ → Option ProcessView
+  process_of router = option_and_then (λ c. c.process) (slice_get routers router)
+
+  -- the neighbor statement at a place of a router
+  abbrev pub end_at : ℕ → ℕ → Option End
+  end_at router place =
+      option_and_then (λ c. option_and_then (λ p. option_map (λ n. record { config = c; process = p; statement = n }) (slice_get p.neighbors place)) c.process)
+      (slice_get routers router)
+
+  -- the place of a router's statement for an address
+  abbrev pub place_for : ℕ → ℕ → Option ℕ
+  place_for router addr = option_and_then (λ p. position (λ n. n.addr.0 == addr) p.neighbors) (process_of router)
+
+-- ---- sessions
+
+-- both ends of a session, the first of which is the one that sees it
+pub record Sides : Type 0 where
+  pub own : Side
+  pub peer : Side
+
+-- one system, or two
+abbrev pub is_internal : Sides → Bool
+is_internal k = k.own.end.process.asn == k.peer.end.process.asn
+
+-- between two systems a peer has to be on a network of this side, but for multihop
+abbrev pub may_reach : End → Bool
+may_reach e = e.statement.multihop || list_any (is_toward e.statement.addr.0) e.config.interfaces
+
+-- what it takes that a session is established, where both sides are found, in the order in which it is told
+pub record Conditions : Type 0 where
+  -- the statement isn't shut
+  pub enabled : Bool
+  -- its address is of another router, which has the system that the statement names
+  pub other : Bool
+  pub asn : Bool
+  -- the peer's statement isn't shut, names the system of this router, and starts from the statement's address
+  pub peer_enabled : Bool
+  pub peer_asn : Bool
+  pub peer_source : Bool
+  -- it is internal, or each side may reach the other
+  pub near : Bool
+  -- each side reaches the other's address
+  pub reach : Bool
+  pub peer_reach : Bool
+
+abbrev pub are_met : Conditions → Bool
+are_met c = c.enabled && (c.other && (c.asn && (c.peer_enabled && (c.peer_asn && (c.peer_source && (c.near && (c.reach && c.peer_reach)))))))
+
+-- the session of two sides
+abbrev pub session_of : Sides → SessionRow
+session_of k =
+    record {
+      router = record { 0 = k.own.router };
+      neighbor = k.own.place;
+      peer = record { 0 = k.peer.router };
+      peer_neighbor = k.peer.place;
+      source = record { 0 = k.own.source.iface };
+      peer_source = record { 0 = k.peer.source.iface };
+      internal = is_internal k;
+    }
 
 module _ (routers : List ConfigView) (tables : List (List BaseRow)) where
-  abbrev pub process_at : ℕ → Option ProcessView
-  process_at router = option_and_then (λ c. c.process) (slice_get routers router)
-
-  abbrev pub neighbor_at : ℕ → ℕ → Option Neighbor
-  neighbor_at router place = option_and_then (λ p. slice_get p.neighbors place) (process_at router)
-
   -- the interface from which a neighbor statement starts its session: the one that it names, or that of the first hit toward it
-  abbrev pub source_iface : ℕ → Neighbor → Option ℕ
-  source_iface router n =
-      option_map_or (λ source. option_and_then (λ c. position (λ i. bytes_eq source.name i.name) c.interfaces) (slice_get routers router))
-      n.source (option_and_then (λ hit. option_map (λ exit. exit.iface) (exit_of routers tables router n.addr.0 hit)) (first_of (hits routers tables router n.addr.0)))
+  abbrev pub source_iface : ℕ → End → Option ℕ
+  source_iface router e =
+      option_map_or (λ source. position (λ i. bytes_eq source.name i.name) e.config.interfaces) e.statement.source
+      (option_and_then (λ hit. option_map (λ exit. exit.iface) (exit_of routers tables router e.statement.addr.0 hit)) (first_of (hits tables router e.statement.addr.0)))
 
-  abbrev pub source_of : ℕ → Neighbor → Option SourceOf
-  source_of router n =
-      option_and_then (λ iface. option_map (λ a. record { iface = iface; addr = a.addr.0 }) (up_at routers router iface)) (source_iface router n)
+  -- that interface and its address, if it is up
+  abbrev pub source_of : ℕ → End → Option SourceOf
+  source_of router e =
+      option_and_then (λ iface. option_map (λ a. record { iface = iface; addr = a.addr.0 }) (up_at routers router iface)) (source_iface router e)
 
-  -- a statement that isn't shut, toward this autonomous system, starts from this address
-  abbrev pub starts_from : ℕ → Neighbor → ℕ → ℕ → Option SourceOf
-  starts_from router n asn addr =
-      option_and_then (λ source. if not n.shut && ((n.remote_as == asn) && (source.addr == addr)) then Some source else None) (source_of router n)
+  -- the side of the statement at a place of a router, if it has a source
+  abbrev pub side_at : ℕ → ℕ → Option Side
+  side_at router place =
+      option_and_then (λ e. option_map (λ source. record { router = router; place = place; end = e; source = source }) (source_of router e)) (end_at routers router place)
 
-  -- between two systems a peer has to be near, but for multihop
-  abbrev pub may_reach : ℕ → Neighbor → Bool
-  may_reach router n = n.multihop || option_map_or (λ c. is_near c n.addr.0) (slice_get routers router) false
+  -- the other side: the router that owns the statement's address, by its statement for the address from which this side starts
+  abbrev pub peer_of : Side → Option Side
+  peer_of own =
+      option_and_then (λ owner. option_and_then (side_at owner.router) (place_for routers owner.router own.source.addr))
+      (owner_of routers own.end.statement.addr.0)
 
-  -- both statements allow the session, and each router reaches the other's address within 30 hops
-  abbrev pub is_open : ℕ → Neighbor → ℕ → Neighbor → Bool → Bool
-  is_open router n peer m internal =
-      (internal || (may_reach router n && may_reach peer m))
-      && (reaches routers tables 30 router n.addr.0 && reaches routers tables 30 peer m.addr.0)
-
-  -- the statement of the peer for an address, with its place
-  abbrev pub statement_for : ProcessView → ℕ → Option ℕ
-  statement_for p addr = position (λ m. m.addr.0 == addr) p.neighbors
-
-  -- the session between a statement with its source and a peer that owns the statement's address
-  abbrev pub session_with : ℕ → ProcessView → ℕ → Neighbor → SourceOf → ℕ → Option SessionRow
-  session_with router own place n source peer =
-      option_and_then (λ theirs. option_and_then (λ other. option_and_then (λ m. option_and_then (λ back.
-      let internal = own.asn == theirs.asn in
-      if (not (peer == router) && (n.remote_as == theirs.asn)) && is_open router n peer m internal
-      then Some (record {
-        router = record { 0 = router };
-        neighbor = place;
-        peer = record { 0 = peer };
-        peer_neighbor = other;
-        source = record { 0 = source.iface };
-        peer_source = record { 0 = back.iface };
-        internal = internal;
-      }) else None)
-      (starts_from peer m own.asn n.addr.0)) (slice_get theirs.neighbors other)) (statement_for theirs source.addr)) (process_at peer)
+  abbrev pub conditions_of : Sides → Conditions
+  conditions_of k =
+      record {
+        enabled = not k.own.end.statement.shut;
+        other = not (k.peer.router == k.own.router);
+        asn = k.own.end.statement.remote_as == k.peer.end.process.asn;
+        peer_enabled = not k.peer.end.statement.shut;
+        peer_asn = k.peer.end.statement.remote_as == k.own.end.process.asn;
+        peer_source = k.peer.source.addr == k.own.end.statement.addr.0;
+        near = is_internal k || (may_reach k.own.end && may_reach k.peer.end);
+        reach = reaches routers tables HOP_LIMIT k.own.router k.own.end.statement.addr.0;
+        peer_reach = reaches routers tables HOP_LIMIT k.peer.router k.peer.end.statement.addr.0;
+      }
 
   -- the session of the neighbor statement at a place of a router, if it is established
   abbrev pub session_at : ℕ → ℕ → Option SessionRow
   session_at router place =
-      option_and_then (λ own. option_and_then (λ n. if n.shut then None else option_and_then (λ source. option_and_then (λ owner.
-      session_with router own place n source owner.router) (owner_of routers n.addr.0)) (source_of router n))
-      (slice_get own.neighbors place)) (process_at router)
+      option_and_then (λ own. option_and_then (λ peer. let k : Sides = record { own = own; peer = peer } in if are_met (conditions_of k) then Some (session_of k) else None)
+      (peer_of own)) (side_at router place)
 
   -- the sessions of a router, in order of its neighbor statements
   abbrev pub sessions_of : ℕ → List SessionRow
   sessions_of router =
-      filter_map (session_at router) (range_with_len 0 (option_map_or (λ p. length p.neighbors) (process_at router) 0))
+      filter_map (session_at router) (range_with_len 0 (option_map_or (λ p. length p.neighbors) (process_of routers router) 0))
 
   -- the sessions of all routers
   abbrev pub sessions : List (List SessionRow)
   sessions = map sessions_of (range_with_len 0 (length routers))
+
+-- ---- sessions in tables
+
+-- the sessions of a router, strictly in order of its neighbor statements
+abbrev pub AreSessions : List SessionRow → Type 0
+AreSessions rows = AllPairs (λ a b. a.neighbor < b.neighbor) rows
+
+-- the session of a neighbor statement, among those of a router
+abbrev pub session_in : List SessionRow → ℕ → Option SessionRow
+session_in rows place = find (λ s. s.neighbor == place) rows

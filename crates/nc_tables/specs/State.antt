@@ -1,5 +1,6 @@
 -- The state in which a network settles: its routers with all their tables.
 use Rattle.std.specs.Prelude.{◌≡◌, ℕ, ◌≤◌, List, length, All, None}
+use Rattle.nc_types.specs.declared.TheConstants.{ROUTER_LIMIT}
 use Rattle.nc_types.specs.Config.{ConfigView}
 use Rattle.nc_types.specs.Joining.{IsValid}
 use Rattle.nc_tables.specs.declared.base.BaseRow.{BaseRow}
@@ -7,7 +8,7 @@ use Rattle.nc_tables.specs.declared.bgp.SessionRow.{SessionRow}
 use Rattle.nc_tables.specs.declared.bgp.MainRow.{MainRow}
 use Rattle.nc_tables.specs.Base.{base_tables}
 use Rattle.nc_tables.specs.Sessions.{sessions}
-use Rattle.nc_tables.specs.Rounds.{BgpRowView, no_routes, IsStable}
+use Rattle.nc_tables.specs.Rounds.{BgpRowView, AreBgpRows, no_routes, IsStable}
 use Rattle.nc_tables.specs.Main.{main_tables}
 
 -- the routers of a network, and by router the rows of each table
@@ -26,14 +27,15 @@ state_at routers bgp =
       base = base_tables routers;
       sessions = sessions routers (base_tables routers);
       bgp = bgp;
-      main = main_tables routers (base_tables routers) (sessions routers (base_tables routers)) bgp;
+      main = main_tables routers (base_tables routers) bgp;
     }
 
 -- the routers are valid together, every table is as it is defined for them, and the BGP table is the first that no round changes
 pub record IsState (s : StateView) : Type 0 where
   pub valid : IsValid s.routers
-  pub few : length s.routers ≤ 256
+  pub few : length s.routers ≤ ROUTER_LIMIT
   pub tables : s ≡ state_at s.routers s.bgp
+  pub rows : All AreBgpRows s.bgp
   pub rounds : ℕ
   pub stable : IsStable s.routers s.base s.sessions rounds s.bgp
 
@@ -43,4 +45,4 @@ HaveNoProcess routers = All (λ c. c.process ≡ None) routers
 
 -- the state of a network without BGP: it has no route of it
 unfoldable pub static_state : List ConfigView → StateView
-static_state routers = state_at routers (no_routes routers (base_tables routers) (sessions routers (base_tables routers)))
+static_state routers = state_at routers (no_routes routers)

@@ -7,12 +7,15 @@
 //! made of, that each look-up answers as its definition does, and that the tables of a `Stable` are those of its
 //! network. What the rows of a network are is said by the definitions in `specs/`, which the crates above are
 //! proved against: `Base` and `Reach` for base tables and where they lead, `Sessions`, `Policy`, `Choice` and
-//! `Rounds` for BGP, `Main` and `Forwarding` for main tables and paths, and `State` for all together. They are
-//! computed on small networks in `CaseStatics`, `CaseRoutes` and `CasePolicy`.
+//! `Rounds` for BGP, `Main` and `Forwarding` for main tables and paths, and `State` for all together. `Levels` and
+//! `Settling` have forms of reach, forwarding and the stable state that compute over many hops and rounds;
+//! [`levels_are_lawful`] and [`settling_is_lawful`] promise that they are the same. The definitions are computed on
+//! small networks in `CaseStatics`, `CaseRoutes` and `CasePolicy`.
 #![tactic(auto)]
 
 mod base;
 mod bgp;
+mod laws;
 mod longest;
 mod mains;
 mod routes;
@@ -21,11 +24,19 @@ mod stable;
 
 pub use base::{BaseFrom, BaseRow, BaseTables};
 pub use bgp::{BgpFrom, BgpRow, Chosen, MainFrom, MainRow, Path, Route, SessionRow};
+pub use laws::{levels_are_lawful, settling_is_lawful};
 pub use longest::Rows;
 pub use mains::MainTables;
 pub use routes::BgpTable;
 pub use sessions::Sessions;
 pub use stable::Stable;
 
-#[cfg(test)]
-mod tests;
+/// The administrative distance of a route that is learnt from another autonomous system (Cisco IOS command
+/// reference, `distance bgp`).
+pub const EXTERNAL_DISTANCE: u8 = 20;
+
+/// That of a route that is learnt within the own one.
+pub const INTERNAL_DISTANCE: u8 = 200;
+
+/// That of the row by which an active aggregate discards.
+pub const LOCAL_DISTANCE: u8 = 200;

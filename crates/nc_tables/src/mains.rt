@@ -1,7 +1,8 @@
-ghost use Rattle.std.specs.Prelude.{◌≡◌, ◌-◌, ◌<◌, ◌≤◌, [], All, length, map, slice_index_or};
+ghost use Rattle.std.specs.Prelude.{◌≡◌, ◌-◌, ◌^◌, ◌<◌, ◌≤◌, [], All, length, map, slice_index_or};
 ghost use Rattle.std.specs.List.{range_with_len};
 ghost use Rattle.nc_tables.specs.Base.{same_prefix};
 ghost use Rattle.nc_tables.specs.Longest.{longest, places_from, AreByPrefix};
+ghost use Rattle.nc_tables.specs.Main.{AreMainRows};
 
 use crate::bgp::MainRow;
 use crate::longest::{HasPrefix, Rows, longest_rows, rows_at, rows_with};
@@ -17,7 +18,8 @@ impl HasPrefix for MainRow {
 }
 
 /// The main tables of the routers of a network: the rows of each router, in order of prefix (address, then
-/// length), so that those of one prefix stand side by side.
+/// length), so that those of one prefix stand side by side. A router has fewer than 2^32 rows, so that a place
+/// is a `u32`.
 #[derive(Debug, Drop)]
 pub struct MainTables {
     rows: Vec<Vec<MainRow>>,
@@ -26,19 +28,19 @@ pub struct MainTables {
 impl Model for MainTables {
     ghost use Rattle.std.specs.Prelude.{List, All, map};
     ghost use Rattle.nc_tables.specs.declared.bgp.MainRow.{MainRow};
-    ghost use Rattle.nc_tables.specs.Longest.{AreByPrefix};
+    ghost use Rattle.nc_tables.specs.Main.{AreMainRows};
 
     ghost Value = { List (List MainRow) };
 
     ghost view = { λ t. map (λ rows. rows.items) t.rows.items };
 
-    ghost invariant = { λ t. All (λ rows. AreByPrefix (λ row. row.prefix) rows.items) t.rows.items };
+    ghost invariant = { λ t. All (λ rows. AreMainRows rows.items) t.rows.items };
 }
 
 impl MainTables {
     /// The tables that have these rows, a list for each router.
     pub fn from_rows(rows: Vec<Vec<MainRow>>) -> MainTables
-        requires { All (λ rows. AreByPrefix (λ row. row.prefix) rows.items) rows.items }
+        requires { All (λ rows. AreMainRows rows.items) rows.items }
         ensures { result ≡ map (λ rows. rows.items) rows.items }
     {
         MainTables { rows }
@@ -49,6 +51,7 @@ impl MainTables {
         requires { router.0 < length self.now }
         ensures rows { result.now ≡ slice_index_or self.now router.0 [] }
         ensures ordered { AreByPrefix (λ row. row.prefix) result.now }
+        ensures few { length result.now < 2 ^ 32 }
     {
         rows_at(&self.rows, router)
     }
@@ -60,6 +63,7 @@ impl MainTables {
         ensures rows { places_from (λ row. same_prefix row.prefix prefix) 0 (slice_index_or self.now router.0 []) ≡ range_with_len result.from (result.to - result.from) }
         ensures ordered { result.from ≤ result.to }
         ensures within { result.to ≤ length (slice_index_or self.now router.0 []) }
+        ensures few { result.to < 2 ^ 32 }
     {
         rows_with(self.rows(router), prefix)
     }
@@ -71,6 +75,7 @@ impl MainTables {
         ensures rows { longest (map (λ row. row.prefix) (slice_index_or self.now router.0 [])) addr.0 ≡ range_with_len result.from (result.to - result.from) }
         ensures ordered { result.from ≤ result.to }
         ensures within { result.to ≤ length (slice_index_or self.now router.0 []) }
+        ensures few { result.to < 2 ^ 32 }
     {
         longest_rows(self.rows(router), addr)
     }

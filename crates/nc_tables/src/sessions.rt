@@ -1,7 +1,6 @@
 ghost use Rattle.std.specs.Prelude.{◌≡◌, ◌<◌, [], All, length, map, slice_index_or};
 ghost use Rattle.std.specs.Option.{option_map};
-ghost use Rattle.nc_tables.specs.Sessions.{AreSessions};
-ghost use Rattle.nc_tables.specs.Rounds.{session_in};
+ghost use Rattle.nc_tables.specs.Sessions.{AreSessions, session_in};
 
 use crate::bgp::SessionRow;
 use crate::longest::rows_at;

@@ -1,7 +1,7 @@
 use Rattle.std.proofs.Common.{List, ap, sym, ◌∙◌, rules}
 use Rattle.std.proofs.lemmas.List.Sorted.{answers_always}
 use Rattle.nc_tables.specs.declared.bgp.SessionRow.{SessionRow}
-use Rattle.nc_tables.specs.Rounds.{session_in}
+use Rattle.nc_tables.specs.Sessions.{session_in}
 use Rattle.nc_tables.proofs.SessionOrder.{searchable, here_is, nowhere_is}
 use Rattle.nc_tables.proofs.sessions.Sessions.get.Goals as goal
 
