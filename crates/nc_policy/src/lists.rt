@@ -2,7 +2,7 @@
 
 ghost use Rattle.std.specs.Prelude.{◌≡◌, None, if◌then◌else◌, length, IfSome, ◌<◌};
 ghost use Rattle.nc_types.specs.Config.{config_view, list_view};
-ghost use Rattle.nc_tables.specs.Policy.{is_of, permits, list_named, reference_permits};
+ghost use Rattle.nc_tables.specs.Policy.{is_of, deciding_entry, permits, list_named, reference_permits};
 
 use nc_types::{ListEntry, Prefix, PrefixList, Reference, RouterConfig};
 
@@ -13,16 +13,22 @@ fn is_of(prefix: Prefix, entry: &ListEntry) -> bool
     entry.prefix.covers(prefix.addr()) && entry.low <= prefix.len() && prefix.len() <= entry.high
 }
 
-// Whether a list permits a prefix: by its first entry that is of the prefix.
+// The place of the entry that decides on a prefix: the first that is of it.
+fn deciding_entry(list: &PrefixList, prefix: Prefix) -> Option<usize>
+    ensures place { result ≡ deciding_entry (list_view list.now).entries prefix }
+    ensures within { IfSome result (λ place. place < length list.now.entries.items) }
+{
+    list.entries.iter().position(|entry| is_of(prefix, entry))
+}
+
+// Whether a list permits a prefix: by the entry that decides.
 fn permits(list: &PrefixList, prefix: Prefix) -> bool
     ensures { result ≡ permits (list_view list.now) prefix }
 {
-    'entries: for entry in &list.entries {
-        if is_of(prefix, entry) {
-            return entry.permit;
-        }
+    match deciding_entry(list, prefix) {
+        Some(place) => list.entries[place].permit,
+        None => false,
     }
-    false
 }
 
 // The place of the list of a name.
@@ -42,7 +48,8 @@ pub(crate) fn permitting_place(
     prefix: Prefix,
     reference: &Reference,
 ) -> Option<usize>
-    ensures place { result ≡ (if reference_permits (config_view config.now) prefix reference.now then list_named (config_view config.now) reference.now.name else None) }
+    ensures place { result ≡ (if reference_permits (config_view config.now) prefix reference.now
+        then list_named (config_view config.now) reference.now.name else None) }
     ensures within { IfSome result (λ place. place < length config.now.lists.items) }
 {
     let place = list_named(config, reference.name.bytes())?;

@@ -1,6 +1,7 @@
 //! What a router's route map makes of a route.
 
 ghost use Rattle.std.specs.Prelude.{◌≡◌, ◌++◌, None, Some, if◌then◌else◌, IfOk, nat_lt, length, ◌<◌, ◌≤◌};
+ghost use Rattle.nc_types.specs.declared.TheConstants.{PATH_LIMIT};
 ghost use Rattle.nc_types.specs.Config.{config_view, clause_view};
 ghost use Rattle.nc_types.specs.WellFormed.{IsWellFormed};
 ghost use Rattle.nc_tables.specs.Policy.{permitting_list, set_by, is_long, verdict};
@@ -8,11 +9,8 @@ ghost use Rattle.nc_policy.specs.Views.{verdict_view};
 
 use crate::clauses::{deciding, permitting_list};
 use nc_tables::{Path, Route};
-use nc_types::{Clause, Prefix, RouterConfig};
+use nc_types::{Clause, PATH_LIMIT, Prefix, RouterConfig};
 use std::alloc::{AllocError, Global};
-
-/// How many numbers a path has at most.
-const MOST_NUMBERS: usize = 250;
 
 /// What a route map makes of a route.
 #[derive(Debug, Drop)]
@@ -33,10 +31,11 @@ pub enum Verdict {
 
 // The path of a route behind the numbers that a clause prepends; `None` where it is too long.
 fn path_behind(alloc: Global, prepend: &[u32], path: &Path) -> Result<Option<Path>, AllocError>
-    ensures { IfOk result (λ longer. longer ≡ (if nat_lt 250 (length (prepend.now ++ path.now)) then None else Some (prepend.now ++ path.now))) }
+    ensures { IfOk result (λ longer. longer
+        ≡ (if nat_lt PATH_LIMIT (length (prepend.now ++ path.now)) then None else Some (prepend.now ++ path.now))) }
 {
     let numbers = path.numbers();
-    if prepend.len() > MOST_NUMBERS - numbers.len() {
+    if prepend.len() > PATH_LIMIT - numbers.len() {
         return Ok(None);
     }
     let mut longer = Vec::with_capacity(alloc, prepend.len() + numbers.len())?;
@@ -47,7 +46,8 @@ fn path_behind(alloc: Global, prepend: &[u32], path: &Path) -> Result<Option<Pat
 
 // A route with what a clause sets; `None` where its path is too long.
 fn set_by(alloc: Global, clause: &Clause, route: &Route) -> Result<Option<Route>, AllocError>
-    ensures { IfOk result (λ changed. changed ≡ (if is_long (set_by (clause_view clause.now) route.now) then None else Some (set_by (clause_view clause.now) route.now))) }
+    ensures { IfOk result (λ changed. changed ≡ (if is_long (set_by (clause_view clause.now) route.now)
+        then None else Some (set_by (clause_view clause.now) route.now))) }
 {
     let Some(path) = path_behind(alloc, &clause.prepend, &route.path)? else {
         return Ok(None);
@@ -83,7 +83,7 @@ fn list_number(config: &RouterConfig, prefix: Prefix, clause: &Clause) -> Option
 
 /// What a router's route map of this name makes of a route: the matching clause with the least number permits it,
 /// with what the clause sets, or denies it. Where there is no such map, where no clause matches, and where the
-/// path would have more than 250 numbers, the route is denied. The only error is want of memory.
+/// path would have more numbers than the limit, the route is denied. The only error is want of memory.
 pub fn apply(
     alloc: Global,
     config: &RouterConfig,

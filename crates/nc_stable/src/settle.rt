@@ -1,14 +1,13 @@
-ghost use Rattle.std.specs.Prelude.{◌≡◌, ◌^◌, ◌<◌, List, [], All, length, IfOk};
+ghost use Rattle.std.specs.Prelude.{◌≡◌, ◌^◌, ◌<◌, ℕ, List, [], All, length, IfOk, Some};
 ghost use Rattle.std.specs.List.Sorted.{IsSorted};
 ghost use Rattle.nc_types.specs.Cidr.{IsCidr};
 ghost use Rattle.nc_tables.specs.declared.base.BaseRow.{BaseRow};
-ghost use Rattle.nc_tables.specs.declared.bgp.SessionRow.{SessionRow};
 ghost use Rattle.nc_tables.specs.Base.{row_cmp, base_tables};
-ghost use Rattle.nc_tables.specs.Longest.{AreByPrefix};
 ghost use Rattle.nc_tables.specs.Sessions.{sessions};
 ghost use Rattle.nc_tables.specs.Rounds.{no_routes};
-ghost use Rattle.nc_tables.specs.Main.{main_tables};
+ghost use Rattle.nc_tables.specs.Main.{AreMainRows, main_tables};
 ghost use Rattle.nc_tables.specs.State.{HaveNoProcess, static_state};
+ghost use Rattle.nc_tables.specs.Settling.{settled};
 ghost use Rattle.nc_stable.specs.MainRows.{main_rows};
 
 use nc_base_rib::base_tables;
@@ -34,7 +33,7 @@ fn main_rows(alloc: Global, rows: &[BaseRow]) -> Result<Vec<MainRow>, AllocError
     requires ordered { IsSorted row_cmp rows.now }
     requires valid { All (λ row. IsCidr row.prefix.base row.prefix.len) rows.now }
     ensures rows { IfOk result (λ main. main.items ≡ main_rows 0 rows.now) }
-    ensures ordered { IfOk result (λ main. AreByPrefix (λ row. row.prefix) main.items) }
+    ensures valid { IfOk result (λ main. AreMainRows main.items) }
 {
     let mut main = Vec::new(alloc);
     'rows: for (place, row) in rows.iter().enumerate() {
@@ -55,7 +54,7 @@ fn main_tables(
 ) -> Result<MainTables, AllocError>
     requires none { HaveNoProcess network.now }
     requires base { base.now ≡ base_tables network.now }
-    ensures { IfOk result (λ main. main ≡ main_tables network.now base.now (sessions network.now base.now) (no_routes network.now base.now (sessions network.now base.now))) }
+    ensures { IfOk result (λ main. main ≡ main_tables network.now base.now (no_routes network.now)) }
 {
     let _count = network.element_count();
     let mut tables = Vec::new(alloc);
@@ -77,14 +76,14 @@ fn no_sessions(alloc: Global, network: &Network) -> Result<Sessions, AllocError>
 
 // The BGP table of a network that has no BGP.
 fn no_routes(alloc: Global, network: &Network) -> Result<BgpTable, AllocError>
-    ensures { IfOk result (λ none. (base : List (List BaseRow)) (rows : List (List SessionRow)) → none ≡ no_routes network.now base rows) }
+    ensures { IfOk result (λ none. none ≡ no_routes network.now) }
 {
     let lists = empty_lists(alloc, network.routers().len())?;
     Ok(BgpTable::from_rows(lists))
 }
 
 /// The state of a network in which no router has a BGP process: it has no session and no route of BGP, and
-/// the main rows of a router are its base rows.
+/// the main rows of a router are its base rows. It is the state that is computed over any number of rounds above 0.
 ///
 /// # Errors
 ///
@@ -93,6 +92,7 @@ pub fn settle_static(alloc: Global, network: Network) -> Result<Stable, AllocErr
     requires { HaveNoProcess network }
     ensures routers { IfOk result (λ state. state.routers ≡ network) }
     ensures state { IfOk result (λ state. state ≡ static_state network) }
+    ensures settled { IfOk result (λ state. (rounds : ℕ) → 0 < rounds → settled rounds network ≡ Some state) }
 {
     let base = base_tables(alloc, &network)?;
     let main = main_tables(alloc, &network, &base)?;

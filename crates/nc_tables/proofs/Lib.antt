@@ -8,8 +8,9 @@ pub mod SessionOrder
 pub mod BgpRows
 pub mod ByPrefix
 pub mod RowCount
+pub mod Ordered
 pub mod Owner
 mod ByLevels
 mod SameTables
 pub mod WithoutProcess
-mod Settled
+pub mod Settled

@@ -22,19 +22,8 @@ use Rattle.nc_types.specs.Joining.{IsValid}
 use Rattle.nc_types.specs.Network.{up_of, element_count}
 use Rattle.nc_tables.specs.declared.base.BaseRow.{BaseRow}
 use Rattle.nc_tables.specs.Base.{connected_from, static_row, statics_from, candidates, is_nearest, row_cmp, base_table, base_tables}
-use Rattle.nc_tables.specs.Order.{insert, in_order}
-
-insert_count : {X : Type 0} (cmp : X → X → Ordering) (x : X) (xs : List X) → length (insert cmp x xs) ≡ suc (length xs)
-insert_count cmp x [] = refl
-insert_count cmp x (y ∷ ys) = on (is_gt (cmp x y)) (insert_count cmp x ys)
-  where
-    on : (b : Bool) → length (insert cmp x ys) ≡ suc (length ys) → length (cond b (y ∷ insert cmp x ys) (x ∷ y ∷ ys)) ≡ suc (suc (length ys))
-    on true more = ap suc more
-    on false more = refl
-
-in_order_count : {X : Type 0} (cmp : X → X → Ordering) (xs : List X) → length (in_order cmp xs) ≡ length xs
-in_order_count cmp [] = refl
-in_order_count cmp (x ∷ xs) = insert_count cmp x (in_order cmp xs) ∙ ap suc (in_order_count cmp xs)
+use Rattle.nc_types.proofs.Few.{few_parts}
+use Rattle.nc_tables.proofs.Ordered.{length_in_order}
 
 filter_count : {X : Type 0} (test : X → Bool) (xs : List X) → length (filter test xs) ≤ length xs
 filter_count test [] = omega arith
@@ -57,23 +46,10 @@ statics_count : (is : List Interface) (place : ℕ) (ss : List StaticRoute) → 
 statics_count is place [] = omega arith
 statics_count is place (s ∷ ss) = one_more (λ (row : BaseRow). row) (statics_from is (place + 1) ss) (length ss) (static_row is place s) (statics_count is (place + 1) ss)
 
-front : (xs ys zs : List ℕ) → length xs + length ys ≤ length (xs ++ (ys ++ zs))
-front xs ys zs = let a = length-append xs (ys ++ zs) in let b = length-append ys zs in omega arith
-
--- interfaces and static routes are elements, each one of its own
-few_parts : (c : ConfigView) → IsWellFormed c → length c.interfaces + length c.statics ≤ length c.elements
-few_parts c formed =
-    let interfaces = map (λ (i : Interface). i.element) c.interfaces in
-    let statics = map (λ (s : StaticRoute). s.element) c.statics in
-    let distinct : IsDistinct nat_eq (places_of c) = IsDistinct-from_AllPairs Decides-eqb (places_of c) formed.single in
-    let few : length (places_of c) ≤ length c.elements = length-le_from_distinct_below (places_of c) (length c.elements) distinct (λ q e. All-contains (λ (k : ℕ). k < length c.elements) (places_of c) q formed.places (Contains-from_any eqb-true q (places_of c) e)) in
-    let part : length interfaces + length statics ≤ length (places_of c) = front interfaces statics _ in
-    omega (arith, few, part, length-map c.interfaces (λ (i : Interface). i.element), length-map c.statics (λ (s : StaticRoute). s.element))
-
 few_rows : (c : ConfigView) → IsWellFormed c → length (base_table c) ≤ length c.elements
 unfolding base_table
 few_rows c formed =
-    let sorted : length (base_table c) ≡ length (filter (is_nearest (candidates c)) (candidates c)) = in_order_count row_cmp (filter (is_nearest (candidates c)) (candidates c)) in
+    let sorted : length (base_table c) ≡ length (filter (is_nearest (candidates c)) (candidates c)) = length_in_order row_cmp (filter (is_nearest (candidates c)) (candidates c)) in
     let kept : length (filter (is_nearest (candidates c)) (candidates c)) ≤ length (candidates c) = filter_count (is_nearest (candidates c)) (candidates c) in
     let all : length (candidates c) ≡ length (connected_from 0 c.interfaces) + length (statics_from c.interfaces 0 c.statics) = length-append (connected_from 0 c.interfaces) (statics_from c.interfaces 0 c.statics) in
     let connected = connected_count 0 c.interfaces in

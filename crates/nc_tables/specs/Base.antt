@@ -1,5 +1,5 @@
 -- The base table of a router: its connected routes, and the static routes that can be used.
-use Rattle.std.specs.Prelude.{ℕ, ◌+◌, ◌/◌, Bool, false, not, ◌&&◌, ◌==◌, nat_lt, List, [], ◌∷◌, ◌++◌, filter, map, Option, Some, None, position, All, if◌then◌else◌}
+use Rattle.std.specs.Prelude.{ℕ, ◌+◌, ◌/◌, Bool, false, not, ◌&&◌, ◌==◌, nat_lt, List, [], ◌∷◌, ◌++◌, filter, map, Option, Some, None, option_and_then, position, slice_get, All, if◌then◌else◌}
 use Rattle.std.specs.List.{list_any}
 use Rattle.std.specs.Option.{option_map, option_map_or}
 use Rattle.std.specs.Ordering.{nat_cmp, ordering_then}
@@ -65,6 +65,11 @@ static_from is place via =
 abbrev pub static_row : List Interface → ℕ → StaticRoute → Option BaseRow
 static_row is place s =
     if nat_lt s.distance UNUSED_DISTANCE then option_map (λ from. record { prefix = s.prefix; distance = s.distance; from = from }) (static_from is place s.via) else None
+
+-- the row of the static route at a place of a router, if there is one and it can be used
+abbrev pub static_at : List ConfigView → ℕ → ℕ → Option BaseRow
+static_at routers router place =
+    option_and_then (λ c. option_and_then (λ s. static_row c.interfaces place s) (slice_get c.statics place)) (slice_get routers router)
 
 -- the rows of the static routes that can be used, the first of which has this place
 abbrev pub statics_from : List Interface → ℕ → List StaticRoute → List BaseRow

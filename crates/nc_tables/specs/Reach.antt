@@ -1,9 +1,9 @@
 -- Where the base tables of a network lead a packet.
-use Rattle.std.specs.Prelude.{ℕ, zero, suc, Bool, true, false, not, ◌&&◌, ◌||◌, ◌==◌, List, [], map, filter, Option, Some, None, option_and_then, slice_get, slice_index_or, if◌then◌else◌}
+use Rattle.std.specs.Prelude.{ℕ, zero, suc, Bool, true, false, not, ◌&&◌, ◌||◌, ◌==◌, List, [], map, filter, Option, Some, None, option_and_then, position, slice_get, slice_index_or, if◌then◌else◌}
 use Rattle.std.specs.List.{filter_map, list_any}
 use Rattle.std.specs.Option.{option_map, option_map_or}
 use Rattle.nc_types.specs.Config.{ConfigView}
-use Rattle.nc_types.specs.Network.{PlaceIn, hop_of, up_at, owner_of}
+use Rattle.nc_types.specs.Network.{PlaceIn, has_address, hop_of, up_at, owner_of}
 use Rattle.nc_tables.specs.declared.base.BaseRow.{BaseRow}
 use Rattle.nc_tables.specs.declared.base.BaseFrom.{BaseFrom}
 use Rattle.nc_tables.specs.declared.base.BaseFrom.TheVariants.{Connected, Static, Null as Discard}
@@ -59,6 +59,10 @@ module _ (routers : List ConfigView) where
   abbrev pub exit_leads : ℕ → Exit → Option PlaceIn
   exit_leads router exit =
       option_and_then (λ other. if not (other.router == router) && is_linked router exit.iface other then Some other else None) (owner_of routers exit.addr)
+
+  -- the interface of a router that is up and has an address
+  abbrev pub own_place : ℕ → ℕ → Option ℕ
+  own_place router addr = option_and_then (λ c. position (has_address addr) c.interfaces) (slice_get routers router)
 
   -- an address of one of a router's interfaces that are up
   abbrev pub owns : ℕ → ℕ → Bool

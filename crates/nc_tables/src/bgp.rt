@@ -1,4 +1,5 @@
 ghost use Rattle.std.specs.Prelude.{◌≡◌, ◌≤◌, length};
+ghost use Rattle.nc_types.specs.declared.TheConstants.{PATH_LIMIT};
 
 use nc_types::{Addr, IfaceId, OriginCode, Prefix, RouterId};
 use std::marker::Model;
@@ -20,7 +21,8 @@ pub struct SessionRow {
     pub internal: bool,
 }
 
-/// The autonomous systems through which a route came, the nearest first; at most 250 numbers.
+/// The autonomous systems through which a route came, the nearest first; at most [`nc_types::PATH_LIMIT`]
+/// numbers.
 #[derive(Debug, Drop)]
 pub struct Path {
     numbers: Vec<u32>,
@@ -28,18 +30,19 @@ pub struct Path {
 
 impl Model for Path {
     ghost use Rattle.std.specs.Prelude.{List, ℕ, ◌≤◌, length};
+    ghost use Rattle.nc_types.specs.declared.TheConstants.{PATH_LIMIT};
 
     ghost Value = { List ℕ };
 
     ghost view = { λ p. p.numbers.items };
 
-    ghost invariant = { λ p. length p.numbers.items ≤ 250 };
+    ghost invariant = { λ p. length p.numbers.items ≤ PATH_LIMIT };
 }
 
 impl Path {
-    /// A path of these numbers, at most 250.
+    /// A path of these numbers, at most [`nc_types::PATH_LIMIT`].
     pub fn new(numbers: Vec<u32>) -> Path
-        requires { length numbers.items ≤ 250 }
+        requires { length numbers.items ≤ PATH_LIMIT }
         ensures { result ≡ numbers.items }
     {
         Path { numbers }
@@ -48,7 +51,7 @@ impl Path {
     /// The numbers, the nearest first.
     pub fn numbers(&self) -> &[u32]
         ensures numbers { result.now ≡ self.now }
-        ensures few { length self.now ≤ 250 }
+        ensures few { length self.now ≤ PATH_LIMIT }
     {
         &self.numbers
     }

@@ -6,10 +6,8 @@ use Rattle.std.proofs.lemmas.List.Elements.{All-push}
 use Rattle.nc_types.specs.Network.{element_count}
 use Rattle.nc_tables.specs.declared.base.BaseRow.{BaseRow}
 use Rattle.nc_tables.specs.declared.bgp.MainRow.{MainRow}
-use Rattle.nc_tables.specs.Longest.{AreByPrefix}
-use Rattle.nc_tables.specs.Sessions.{sessions}
 use Rattle.nc_tables.specs.Rounds.{no_routes}
-use Rattle.nc_tables.specs.Main.{main_table}
+use Rattle.nc_tables.specs.Main.{AreMainRows, main_table}
 use Rattle.nc_tables.specs.Base.{base_tables, row_cmp}
 use Rattle.std.specs.List.Sorted.{IsSorted}
 use Rattle.nc_tables.proofs.RowCount.{few_base_rows}
@@ -30,10 +28,10 @@ routers-preserved c =
     let network = c.args.network.now in
     let base = c.args.base.now in
     let rows = c.in_ok-main_rows.field-0 in
-    let table = main_table network base (sessions network base) (no_routes network base (sessions network base)) in
+    let table = main_table network base (no_routes network) in
     let items = c.in_ok-push.ensures.items in
     let ordered : IsSorted row_cmp (get_or base router []) = subst (IsSorted row_cmp) c.rows-rows.ensures.rows c.rows-rows.ensures.ordered in
-    let here : rows.items ≡ table router = c.in_ok-main_rows.ensures.rows ∙ ap (main_rows 0) c.rows-rows.ensures.rows ∙ sym (main_is network c.requires.none base (sessions network base) router ordered) in
+    let here : rows.items ≡ table router = c.in_ok-main_rows.ensures.rows ∙ ap (main_rows 0) c.rows-rows.ensures.rows ∙ sym (main_is network c.requires.none base router ordered) in
     record {
       tables =
           ap (map (λ v. v.items)) items
@@ -41,5 +39,5 @@ routers-preserved c =
           ∙ ap (λ (l : List (List MainRow)). l ++ rows.items ∷ []) c.routers.invariant.tables
           ∙ ap (λ (l : List MainRow). map table (range_with_len 0 router) ++ l ∷ []) here
           ∙ sym (map-range_with_len_more table 0 router router (omega arith));
-      ordered = subst (λ l. All (λ v. AreByPrefix (λ (row : MainRow). row.prefix) v.items) l) (sym items) (All-push (λ v. AreByPrefix (λ (row : MainRow). row.prefix) v.items) c.routers.tables.items rows c.routers.invariant.ordered c.in_ok-main_rows.ensures.ordered);
+      valid = subst (λ l. All (λ v. AreMainRows v.items) l) (sym items) (All-push (λ v. AreMainRows v.items) c.routers.tables.items rows c.routers.invariant.valid c.in_ok-main_rows.ensures.valid);
     }

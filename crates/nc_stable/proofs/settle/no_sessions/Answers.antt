@@ -2,7 +2,7 @@ use Rattle.std.proofs.Common.{◌≡◌, [], length, replicate, Vec, Global, sym
 use Rattle.std.proofs.lemmas.List.{length-map}
 use Rattle.nc_types.specs.Config.{config_view}
 use Rattle.nc_tables.specs.declared.bgp.SessionRow.{SessionRow}
-use Rattle.nc_stable.proofs.WithoutBgp.{all_empty, no_sessions}
+use Rattle.nc_tables.proofs.WithoutProcess.{all_empty, no_sessions}
 use Rattle.nc_stable.proofs.settle.no_sessions.Goals as goal
 
 pub returns : goal.returns
