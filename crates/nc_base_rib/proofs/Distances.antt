@@ -14,7 +14,9 @@ use Rattle.nc_tables.specs.Base.{prefix_cmp, from_cmp, row_cmp, same_prefix, is_
 use Rattle.nc_tables.specs.Order.{in_order}
 use Rattle.nc_tables.proofs.RowOrder.{row_total}
 use Rattle.nc_base_rib.specs.Nearness.{distance_cmp}
-use Rattle.nc_base_rib.proofs.Members.{In, Rises, in_at, in_by_contains, contains_by_in, kept, was_kept, rises_by_pairs, rises_more, rises_kept, ties_rise, one_list, in_in_order, in_order_has, in_order_ascends}
+use Rattle.nc_types.proofs.Members.{In, in_at, in_by_contains, contains_by_in, in_filter, in_by_filter}
+use Rattle.nc_tables.proofs.Ordered.{in_by_order, in_its_order}
+use Rattle.nc_base_rib.proofs.Members.{Rises, rises_by_pairs, rises_more, rises_kept, ties_rise, one_list, in_order_ascends}
 
 pub distance_total : IsTotalOrder distance_cmp
 distance_total =
@@ -127,7 +129,7 @@ module _ (rows sorted : List BaseRow) (moved : IsPermutation rows sorted) (order
   back z i = in_by_contains rows z (Contains-permutation sorted rows z (IsPermutation-sym rows sorted moved) (contains_by_in sorted z i))
 
   ascends : Rises (λ a b. row_cmp a b ≡ Less) (filter (is_nearest sorted) sorted)
-  ascends = rises_more IsBehind (λ a b. row_cmp a b ≡ Less) (filter (is_nearest sorted) sorted) (λ a b i j r. comes_after a b r (unbeaten a b (was_kept (is_nearest sorted) sorted a i).0 (was_kept (is_nearest sorted) sorted b j).1)) (rises_kept IsBehind (is_nearest sorted) sorted behind)
+  ascends = rises_more IsBehind (λ a b. row_cmp a b ≡ Less) (filter (is_nearest sorted) sorted) (λ a b i j r. comes_after a b r (unbeaten a b (in_by_filter (is_nearest sorted) sorted a i).0 (in_by_filter (is_nearest sorted) sorted b j).1)) (rises_kept IsBehind (is_nearest sorted) sorted behind)
     where
       unbeaten : (a b : BaseRow) → In a sorted → is_nearest sorted b ≡ true → beats a b ≡ false
       unbeaten a b i e = any_in (λ other. beats other b) sorted a i (not_beaten (list_any (λ other. beats other b) sorted) e)
@@ -142,10 +144,10 @@ module _ (rows sorted : List BaseRow) (moved : IsPermutation rows sorted) (order
   nearest_in_order = one_list row_cmp row_total (filter (is_nearest sorted) sorted) (in_order row_cmp (filter (is_nearest rows) rows)) ascends (in_order_ascends row_cmp row_total (filter (is_nearest rows) rows) apart) to from
     where
       to : (z : BaseRow) → In z (filter (is_nearest sorted) sorted) → In z (in_order row_cmp (filter (is_nearest rows) rows))
-      to z i = let w = was_kept (is_nearest sorted) sorted z i in in_order_has row_cmp row_total (filter (is_nearest rows) rows) z (kept (is_nearest rows) rows z (back z w.0) (sym (same_test z) ∙ w.1))
+      to z i = let w = in_by_filter (is_nearest sorted) sorted z i in in_its_order row_cmp (filter (is_nearest rows) rows) z (in_filter (is_nearest rows) rows z (back z w.0) (sym (same_test z) ∙ w.1))
 
       from : (z : BaseRow) → In z (in_order row_cmp (filter (is_nearest rows) rows)) → In z (filter (is_nearest sorted) sorted)
-      from z i = let w = was_kept (is_nearest rows) rows z (in_in_order row_cmp row_total (filter (is_nearest rows) rows) z i) in kept (is_nearest sorted) sorted z (there z w.0) (same_test z ∙ w.1)
+      from z i = let w = in_by_filter (is_nearest rows) rows z (in_by_order row_cmp (filter (is_nearest rows) rows) z i) in in_filter (is_nearest sorted) sorted z (there z w.0) (same_test z ∙ w.1)
 
   -- and they stand in order
   pub nearest_sorted : IsSorted row_cmp (filter (is_nearest sorted) sorted)

@@ -1,41 +1,15 @@
 -- A router of a valid network has few interfaces and few static routes.
-use Rattle.std.proofs.Common.{◌≡◌, ℕ, ◌^◌, ◌<◌, ◌≤◌, List, [], ◌∷◌, length, map, get_or, All, refl, ap, subst, arith, Bool, true, false, nat_eq, ◌++◌, ◌||◌}
-use Rattle.std.specs.List.{list_any, IsDistinct}
-use Rattle.std.proofs.lemmas.List.{length-append, length-map, get_or-map}
-use Rattle.std.proofs.lemmas.List.Elements.{All-head, All-tail}
+use Rattle.std.proofs.Common.{◌≡◌, ℕ, ◌^◌, ◌<◌, List, length, map, get_or, Some, slice_get, sym, ap, subst, ◌∙◌, arith}
+use Rattle.std.proofs.lemmas.List.{length-map, get_or-map}
+use Rattle.std.specs.Option.{option_map}
 use Rattle.std.proofs.lemmas.List.Sums.{get_or-le-sum_by}
-use Rattle.std.proofs.lemmas.Bool.{eqb-true}
-use Rattle.std.proofs.lemmas.Bool.Decides.{Decides-eqb}
-use Rattle.std.proofs.lemmas.Map.Made.{IsDistinct-from_AllPairs}
-use Rattle.std.proofs.lemmas.Map.Steps.{length-le_from_distinct_below}
-use Rattle.nc_types.specs.declared.config.Interface.{Interface}
-use Rattle.nc_types.specs.declared.config.StaticRoute.{StaticRoute}
+use Rattle.std.proofs.lemmas.Option.{slice_get-map, slice_get-get_or}
 use Rattle.nc_types.specs.declared.config.RouterConfig.{RouterConfig}
 use Rattle.nc_types.specs.Config.{ConfigView, config_view}
-use Rattle.nc_types.specs.WellFormed.{places_of, IsWellFormed}
+use Rattle.nc_types.specs.WellFormed.{IsWellFormed}
 use Rattle.nc_types.specs.Network.{element_count}
 use Rattle.nc_types.specs.Joining.{IsValid}
-use Rattle.nc_types.proofs.Counting.{few_interfaces}
-
-below : (n q : ℕ) (ks : List ℕ) → All (λ k. k < n) ks → list_any (nat_eq q) ks ≡ true → q < n
-below n q [] each e = absurd (cc)
-below n q (k ∷ ks) each e = by_test (nat_eq q k) refl (below n q ks (All-tail (λ (k : ℕ). k < n) k ks each)) e
-  where
-    by_test : (b : Bool) → nat_eq q k ≡ b → (list_any (nat_eq q) ks ≡ true → q < n) → (nat_eq q k || list_any (nat_eq q) ks) ≡ true → q < n
-    by_test true same rest e = let here : k < n = All-head (λ (k : ℕ). k < n) k ks each in let equal : q ≡ k = eqb-true q k same in omega arith
-    by_test false other rest e = rest (rw other at e)
-
-middle : (xs ys zs : List ℕ) → length ys ≤ length (xs ++ (ys ++ zs))
-middle xs ys zs = let a = length-append xs (ys ++ zs) in let b = length-append ys zs in omega arith
-
--- a configuration has no more static routes than elements
-few_statics : (c : ConfigView) → IsWellFormed c → length c.statics ≤ length c.elements
-few_statics c formed =
-    let distinct : IsDistinct nat_eq (places_of c) = IsDistinct-from_AllPairs Decides-eqb (places_of c) formed.single in
-    let few : length (places_of c) ≤ length c.elements = length-le_from_distinct_below (places_of c) (length c.elements) distinct (λ q e. below (length c.elements) q (places_of c) formed.places e) in
-    let part : length (map (λ (s : StaticRoute). s.element) c.statics) ≤ length (places_of c) =
-    middle (map (λ (i : Interface). i.element) c.interfaces) (map (λ (s : StaticRoute). s.element) c.statics) _ in
-    omega (arith, few, part, length-map c.statics (λ (s : StaticRoute). s.element))
+use Rattle.nc_types.proofs.Few.{few_interfaces, few_statics}
 
 module _ (routers : List RouterConfig) (valid : IsValid (map config_view routers)) (count : element_count (map config_view routers) < 2 ^ 32) (k : ℕ) (d : RouterConfig) (lt : k < length routers) where
   formed_at : IsWellFormed (config_view (get_or routers k d))
@@ -52,3 +26,10 @@ module _ (routers : List RouterConfig) (valid : IsValid (map config_view routers
 
   pub statics_at : length (get_or routers k d).statics.items < 2 ^ 32
   statics_at = let few = few_statics (config_view (get_or routers k d)) formed_at in let all = elements_at in omega arith
+
+-- the configuration of a router, as the program finds it
+pub config_at : (network : List ConfigView) (routers : List RouterConfig) (router : ℕ) (config : RouterConfig) → map config_view routers ≡ network → router < length routers → config ≡ get_or routers router config
+    → slice_get network router ≡ Some (config_view config)
+config_at network routers router config is lt at =
+    ap (λ (cs : List ConfigView). slice_get cs router) (sym is) ∙ slice_get-map config_view routers router
+    ∙ ap (option_map config_view) (slice_get-get_or routers router config lt ∙ ap (λ (c : RouterConfig). Some c) (sym at))

@@ -14,7 +14,7 @@ use Rattle.nc_types.specs.Network.{up_of}
 use Rattle.nc_tables.specs.Base.{covers}
 use Rattle.nc_base_rib.specs.declared.links.Link.{Link}
 use Rattle.nc_base_rib.specs.Links.{up_in, AreApart, link_at, links_from, IsTable, IsTableOf}
-use Rattle.nc_base_rib.proofs.Members.{In, in_by_contains, contains_by_in}
+use Rattle.nc_types.proofs.Members.{In, in_by_contains, contains_by_in}
 use Rattle.nc_base_rib.proofs.Overlapping.{begins_inside, covers_above}
 
 -- ---- from interfaces to links and back

@@ -4,52 +4,13 @@ use Rattle.std.specs.List.{AllPairs}
 use Rattle.std.specs.Cmp.{IsTotalOrder}
 use Rattle.std.specs.declared.cmp.Ordering.{Ordering}
 use Rattle.std.specs.declared.cmp.Ordering.TheVariants.{Less, Equal, Greater}
-use Rattle.std.specs.Ordering.{ordering_reverse, is_lt}
+use Rattle.std.specs.Ordering.{ordering_reverse, is_gt}
 use Rattle.std.proofs.lemmas.Cmp.{tied_itself}
+use Rattle.nc_types.proofs.Members.{In, contains_by_in, in_filter, in_by_filter}
 use Rattle.nc_tables.specs.Order.{insert, in_order}
+use Rattle.nc_tables.proofs.Ordered.{in_by_insert, in_by_order}
 
 module _ {X : Type 0} where
-  -- an item of a list
-  abbrev pub In : X → List X → Type 0
-  In z [] = ⊥
-  In z (x ∷ xs) = (x ≡ z) ⊎ In z xs
-
-  pub in_at : (xs : List X) (k : ℕ) (d : X) → k < length xs → In (get_or xs k d) xs
-  in_at [] k d lt = absurd (omega arith)
-  in_at (x ∷ xs) zero d lt = inl refl
-  in_at (x ∷ xs) (suc k) d lt = inr (in_at xs k d (omega arith))
-
-  pub in_by_contains : (xs : List X) (z : X) → Contains xs z → In z xs
-  in_by_contains xs z c = subst (λ (y : X). In y xs) c.2 (in_at xs c.0 z c.1)
-
-  pub contains_by_in : (xs : List X) (z : X) → In z xs → Contains xs z
-  contains_by_in [] z h = absurd h
-  contains_by_in (x ∷ xs) z (inl e) = (zero, (omega arith), e)
-  contains_by_in (x ∷ xs) z (inr h) = let c = contains_by_in xs z h in (suc c.0, (let lt : c.0 < length xs = c.1 in omega arith), c.2)
-
-  -- ---- filters
-
-  pub kept : (p : X → Bool) (xs : List X) (z : X) → In z xs → p z ≡ true → In z (filter p xs)
-  kept p [] z h e = absurd h
-  kept p (x ∷ xs) z (inl same) e = subst (λ (b : Bool). In z (cond b (x ∷ filter p xs) (filter p xs))) (sym (ap p same ∙ e)) (inl same)
-  kept p (x ∷ xs) z (inr h) e = by_test (p x) (kept p xs z h e)
-    where
-      by_test : (b : Bool) → In z (filter p xs) → In z (cond b (x ∷ filter p xs) (filter p xs))
-      by_test true i = inr i
-      by_test false i = i
-
-  pub was_kept : (p : X → Bool) (xs : List X) (z : X) → In z (filter p xs) → In z xs × (p z ≡ true)
-  was_kept p [] z h = absurd h
-  was_kept p (x ∷ xs) z h = by_test (was_kept p xs z) (p x) refl h
-    where
-      later : In z xs × (p z ≡ true) → In z (x ∷ xs) × (p z ≡ true)
-      later r = (inr r.0, r.1)
-
-      by_test : (In z (filter p xs) → In z xs × (p z ≡ true)) → (b : Bool) → p x ≡ b → In z (cond b (x ∷ filter p xs) (filter p xs)) → In z (x ∷ xs) × (p z ≡ true)
-      by_test rest true e (inl same) = (inl same, ap p (sym same) ∙ e)
-      by_test rest true e (inr i) = later (rest i)
-      by_test rest false e i = later (rest i)
-
   -- ---- lists that rise
 
   abbrev pub Rises : (X → X → Type 0) → List X → Type 0
@@ -72,14 +33,14 @@ module _ {X : Type 0} where
   rises_kept before p (x ∷ xs) r = by_test (rises_kept before p xs r.1) (p x)
     where
       by_test : Rises before (filter p xs) → (b : Bool) → Rises before (cond b (x ∷ filter p xs) (filter p xs))
-      by_test rest true = ((λ z i. r.0 z (was_kept p xs z i).0), rest)
+      by_test rest true = ((λ z i. r.0 z (in_by_filter p xs z i).0), rest)
       by_test rest false = rest
 
   -- where the items that tie rise, for each item, each item that ties with an earlier one is behind it
   pub ties_rise : (before : X → X → Type 0) (tie : X → X → Bool) → ((x : X) → tie x x ≡ true) → (xs : List X) → ((w : X) → Rises before (filter (tie w) xs)) → Rises (λ x z. tie x z ≡ true → before x z) xs
   ties_rise before tie itself [] r = tt
   ties_rise before tie itself (x ∷ xs) r = (
-    (λ z i t. (subst (λ (b : Bool). Rises before (cond b (x ∷ filter (tie x) xs) (filter (tie x) xs))) (itself x) (r x)).0 z (kept (tie x) xs z i t)),
+    (λ z i t. (subst (λ (b : Bool). Rises before (cond b (x ∷ filter (tie x) xs) (filter (tie x) xs))) (itself x) (r x)).0 z (in_filter (tie x) xs z i t)),
     ties_rise before tie itself xs (λ w. rest w (tie w x) (r w)),
   )
     where
@@ -123,45 +84,22 @@ module _ {X : Type 0} (cmp : X → X → Ordering) (total : IsTotalOrder cmp) wh
 
   -- ---- the list in order
 
-  pub in_insert : (x : X) (ys : List X) (z : X) → In z (insert cmp x ys) → In z (x ∷ ys)
-  in_insert x [] z i = i
-  in_insert x (y ∷ ys) z i = by_test (in_insert x ys z) (is_lt (cmp x y)) i
+  greater : (x y : X) → is_gt (cmp x y) ≡ true → cmp y x ≡ Less
+  greater x y e = total.antisymm y x ∙ by_order (cmp x y) e
     where
-      later : In z (x ∷ ys) → In z (x ∷ (y ∷ ys))
-      later (inl e) = inl e
-      later (inr j) = inr (inr j)
+      by_order : (o : Ordering) → is_gt o ≡ true → ordering_reverse o ≡ Less
+      by_order Less e = absurd cc
+      by_order Equal e = absurd cc
+      by_order Greater e = refl
 
-      by_test : (In z (insert cmp x ys) → In z (x ∷ ys)) → (b : Bool) → In z (cond b (x ∷ (y ∷ ys)) (y ∷ insert cmp x ys)) → In z (x ∷ (y ∷ ys))
-      by_test rest true j = j
-      by_test rest false (inl e) = inr (inl e)
-      by_test rest false (inr j) = later (rest j)
-
-  pub insert_has : (x : X) (ys : List X) (z : X) → In z (x ∷ ys) → In z (insert cmp x ys)
-  insert_has x [] z i = i
-  insert_has x (y ∷ ys) z i = by_test (insert_has x ys z) (is_lt (cmp x y)) i
-    where
-      by_test : (In z (x ∷ ys) → In z (insert cmp x ys)) → (b : Bool) → In z (x ∷ (y ∷ ys)) → In z (cond b (x ∷ (y ∷ ys)) (y ∷ insert cmp x ys))
-      by_test rest true j = j
-      by_test rest false (inl e) = inr (rest (inl e))
-      by_test rest false (inr (inl e)) = inl e
-      by_test rest false (inr (inr j)) = inr (rest (inr j))
-
-  greater : (x y : X) → is_lt (cmp x y) ≡ false → (cmp x y ≡ Equal → ⊥) → cmp y x ≡ Less
-  greater x y e differ = total.antisymm y x ∙ by_order (cmp x y) e differ
-    where
-      by_order : (o : Ordering) → is_lt o ≡ false → (o ≡ Equal → ⊥) → ordering_reverse o ≡ Less
-      by_order Less e d = absurd cc
-      by_order Equal e d = absurd (d refl)
-      by_order Greater e d = refl
-
-  less : (o : Ordering) → is_lt o ≡ true → o ≡ Less
-  less Less e = refl
-  less Equal e = absurd cc
-  less Greater e = absurd cc
+  less : (o : Ordering) → is_gt o ≡ false → (o ≡ Equal → ⊥) → o ≡ Less
+  less Less e differ = refl
+  less Equal e differ = absurd (differ refl)
+  less Greater e differ = absurd cc
 
   insert_ascends : (x : X) (ys : List X) → Ascends ys → ((z : X) → In z ys → cmp x z ≡ Equal → ⊥) → Ascends (insert cmp x ys)
   insert_ascends x [] r differ = ((λ z i. absurd i), tt)
-  insert_ascends x (y ∷ ys) r differ = by_test (insert_ascends x ys r.1 (λ z i. differ z (inr i))) (is_lt (cmp x y)) refl
+  insert_ascends x (y ∷ ys) r differ = by_test (insert_ascends x ys r.1 (λ z i. differ z (inr i))) (is_gt (cmp x y)) refl
     where
       first : cmp x y ≡ Less → (z : X) → In z (y ∷ ys) → cmp x z ≡ Less
       first e z (inl same) = subst (λ (w : X). cmp x w ≡ Less) same e
@@ -171,23 +109,10 @@ module _ {X : Type 0} (cmp : X → X → Ordering) (total : IsTotalOrder cmp) wh
       second e z (inl same) = subst (λ (w : X). cmp y w ≡ Less) same e
       second e z (inr i) = r.0 z i
 
-      by_test : Ascends (insert cmp x ys) → (b : Bool) → is_lt (cmp x y) ≡ b → Ascends (cond b (x ∷ (y ∷ ys)) (y ∷ insert cmp x ys))
-      by_test rest true e = (first (less (cmp x y) e), r)
-      by_test rest false e = ((λ z i. second (greater x y e (differ y (inl refl))) z (in_insert x ys z i)), rest)
-
-  pub in_in_order : (xs : List X) (z : X) → In z (in_order cmp xs) → In z xs
-  in_in_order [] z i = i
-  in_in_order (x ∷ xs) z i = by_cases (in_in_order xs z) (in_insert x (in_order cmp xs) z i)
-    where
-      by_cases : (In z (in_order cmp xs) → In z xs) → In z (x ∷ in_order cmp xs) → In z (x ∷ xs)
-      by_cases rest (inl e) = inl e
-      by_cases rest (inr j) = inr (rest j)
-
-  pub in_order_has : (xs : List X) (z : X) → In z xs → In z (in_order cmp xs)
-  in_order_has [] z i = i
-  in_order_has (x ∷ xs) z (inl e) = insert_has x (in_order cmp xs) z (inl e)
-  in_order_has (x ∷ xs) z (inr i) = insert_has x (in_order cmp xs) z (inr (in_order_has xs z i))
+      by_test : Ascends (insert cmp x ys) → (b : Bool) → is_gt (cmp x y) ≡ b → Ascends (cond b (y ∷ insert cmp x ys) (x ∷ (y ∷ ys)))
+      by_test rest false e = (first (less (cmp x y) e (differ y (inl refl))), r)
+      by_test rest true e = ((λ z i. second (greater x y e) z (in_by_insert cmp x ys z i)), rest)
 
   pub in_order_ascends : (xs : List X) → Rises (λ x z. cmp x z ≡ Equal → ⊥) xs → Ascends (in_order cmp xs)
   in_order_ascends [] r = tt
-  in_order_ascends (x ∷ xs) r = insert_ascends x (in_order cmp xs) (in_order_ascends xs r.1) (λ z i. r.0 z (in_in_order xs z i))
+  in_order_ascends (x ∷ xs) r = insert_ascends x (in_order cmp xs) (in_order_ascends xs r.1) (λ z i. r.0 z (in_by_order cmp xs z i))

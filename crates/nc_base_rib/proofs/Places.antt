@@ -16,7 +16,8 @@ use Rattle.nc_tables.specs.declared.base.BaseRow.{BaseRow}
 use Rattle.nc_tables.specs.declared.base.BaseFrom.{BaseFrom}
 use Rattle.nc_tables.specs.declared.base.BaseFrom.TheVariants.{Connected, Static}
 use Rattle.nc_tables.specs.Base.{connected_from, statics_from, static_row, static_from, interface_toward, hop_is_own, candidates, rank_of, from_cmp}
-use Rattle.nc_base_rib.proofs.Members.{In, Rises, in_at}
+use Rattle.nc_types.proofs.Members.{In, in_at}
+use Rattle.nc_base_rib.proofs.Members.{Rises}
 
 -- ---- lists that rise
 

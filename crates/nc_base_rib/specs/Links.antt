@@ -1,5 +1,5 @@
 -- The interfaces of a router that are up, as links.
-use Rattle.std.specs.Prelude.{◌≡◌, ℕ, ◌+◌, Bool, true, IfSome, List, [], ◌∷◌, All, Contains, Option, Some, slice_get, option_and_then, IsPermutation}
+use Rattle.std.specs.Prelude.{◌≡◌, ℕ, ◌+◌, ◌<◌, Bool, true, false, IfSome, List, [], ◌∷◌, length, get_or, All, Contains, Option, Some, slice_get, option_and_then, IsPermutation, MatchOption}
 use Rattle.std.specs.List.Sorted.{IsNonDecreasingBy}
 use Rattle.std.specs.Option.{option_map_or}
 use Rattle.std.specs.Str.{bytes_eq}
@@ -7,8 +7,10 @@ use Rattle.nc_types.specs.declared.config.Via.{Via}
 use Rattle.nc_types.specs.declared.config.IfaceAddr.{IfaceAddr}
 use Rattle.nc_types.specs.declared.config.Interface.{Interface}
 use Rattle.nc_types.specs.Cidr.{IsCidr, Covers}
-use Rattle.nc_types.specs.Network.{up_of}
+use Rattle.nc_types.specs.declared.addr.Addr.{Addr}
+use Rattle.nc_types.specs.Network.{up_of, hop_of}
 use Rattle.nc_types.specs.Joining.{overlap, interface_by}
+use Rattle.nc_tables.specs.Base.{covers, is_toward}
 use Rattle.nc_base_rib.specs.declared.links.Link.{Link}
 
 -- the address of the interface at a place, if it is up
@@ -47,3 +49,13 @@ pub record IsTable (links : List Link) : Type 0 where
 pub record IsTableOf (is : List Interface) (links : List Link) : Type 0 where
   pub same : IsPermutation (links_from 0 is) links
   pub table : IsTable links
+
+-- the link through which an address is reached: that of the one interface which is up and whose prefix covers it
+pub record IsTheLink (is : List Interface) (addr : ℕ) (l : Link) : Type 0 where
+  pub up : up_in is l.place ≡ Some l.address
+  pub covering : covers l.address.prefix addr ≡ true
+  pub only : (k : ℕ) (d : Interface) → k < length is → is_toward addr (get_or is k d) ≡ true → k ≡ l.place
+
+-- the link of a static route's next hop, if there is one
+abbrev pub IsLinkOf : List Interface → Via → Option Link → Type 0
+IsLinkOf is via link = (hop : Addr) → hop_of via ≡ Some hop → MatchOption link (All (λ i. is_toward hop.0 i ≡ false) is) (IsTheLink is hop.0)

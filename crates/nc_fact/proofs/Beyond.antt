@@ -10,7 +10,7 @@ use Rattle.nc_types.specs.Config.{ConfigView}
 use Rattle.nc_tables.specs.declared.base.BaseRow.{BaseRow}
 use Rattle.nc_tables.specs.Base.{is_own, base_tables}
 use Rattle.nc_tables.specs.Longest.{longest}
-use Rattle.nc_tables.specs.Reach.{hits, is_hit, leads_to, owns, reaches}
+use Rattle.nc_tables.specs.Reach.{hits, is_hit, leads_to, next_places, owns, reaches}
 use Rattle.nc_tables.specs.State.{StateView, state_at, IsState}
 use Rattle.nc_tables.proofs.State.{base_count, main_count}
 use Rattle.nc_fact.specs.Facts.{base_rows, main_rows}
@@ -32,19 +32,19 @@ module _ (s : StateView) (is : IsState s) (router : ℕ) (beyond : length s.rout
   pub no_main : main_rows s router ≡ []
   no_main = get_or_past s.main router [] (omega (arith, beyond, main_count s is))
 
-  not_own : (addr : ℕ) → owns s.routers s.base router addr ≡ false
+  not_own : (addr : ℕ) → owns s.routers router addr ≡ false
   not_own addr = ap (λ (o : Option ConfigView). option_map_or (λ (c : ConfigView). is_own c.interfaces addr) o false) (slice_get_past s.routers router beyond)
 
-  no_hits : (addr : ℕ) → hits s.routers s.base router addr ≡ []
+  no_hits : (addr : ℕ) → hits s.base router addr ≡ []
   unfolding longest
-  no_hits addr = ap (λ (rows : List BaseRow). filter (is_hit s.routers s.base router) (longest (map (λ (row : BaseRow). row.prefix) rows) addr)) no_base
+  no_hits addr = ap (λ (rows : List BaseRow). filter (is_hit s.base router) (longest (map (λ (row : BaseRow). row.prefix) rows) addr)) no_base
 
   -- whatever the hops
   pub not_reached : (addr hops : ℕ) → reaches s.routers s.base hops router addr ≡ false
   unfolding reaches
   not_reached addr zero = not_own addr
   not_reached addr (suc hops) =
-      ap (λ (b : Bool). b || list_any (λ next. reaches s.routers s.base hops next.router addr) (filter_map (leads_to s.routers s.base router addr) (hits s.routers s.base router addr))) (not_own addr)
+      ap (λ (b : Bool). b || list_any (λ next. reaches s.routers s.base hops next.router addr) (next_places s.routers s.base router addr)) (not_own addr)
       ∙ ap (λ (ks : List ℕ). list_any (λ next. reaches s.routers s.base hops next.router addr) (filter_map (leads_to s.routers s.base router addr) ks)) (no_hits addr)
 
   -- the rows of the longest prefix there

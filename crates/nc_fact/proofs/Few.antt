@@ -8,22 +8,15 @@ use Rattle.nc_types.specs.declared.config.RouterConfig.{RouterConfig}
 use Rattle.nc_types.specs.Config.{config_view, ConfigView}
 use Rattle.nc_types.specs.WellFormed.{IsWellFormed}
 use Rattle.nc_types.specs.Network.{element_count}
-use Rattle.nc_types.proofs.Counting.{few_interfaces}
+use Rattle.nc_types.proofs.Few.{few_interfaces, few_in_network}
+use Rattle.nc_types.proofs.Members.{all_in, in_by_get}
 use Rattle.nc_tables.specs.State.{StateView, state_at, IsState}
 use Rattle.nc_tables.proofs.RowCount.{few_base_rows}
 use Rattle.nc_fact.specs.Facts.{base_rows}
 
--- a router has no more interfaces than the network has elements
-interfaces_in : (routers : List ConfigView) (router : ℕ) (c : ConfigView) → All IsWellFormed routers → slice_get routers router ≡ Some c → length c.interfaces ≤ element_count routers
-interfaces_in [] router c each e = absurd cc
-interfaces_in (d ∷ ds) zero c each e =
-    let same : d ≡ c = ap (λ (o : Option ConfigView). option_map_or (λ x. x) o c) e in
-    let here = few_interfaces d (All-head IsWellFormed d ds each) in
-    let is = ap (λ (x : ConfigView). length x.interfaces) same in
-    omega (arith, here, is, sum_by-cons (λ (x : ConfigView). length x.elements) d ds)
-interfaces_in (d ∷ ds) (suc router) c each e =
-    let there = interfaces_in ds router c (All-tail IsWellFormed d ds each) e in
-    omega (arith, there, sum_by-cons (λ (x : ConfigView). length x.elements) d ds)
+-- a router of some that are well formed
+pub formed_at : (routers : List ConfigView) → All IsWellFormed routers → (router : ℕ) (c : ConfigView) → slice_get routers router ≡ Some c → IsWellFormed c
+formed_at routers each router c at = all_in IsWellFormed routers each c (in_by_get routers router c at)
 
 module _ (s : StateView) (is : IsState s) (count : element_count s.routers < 2 ^ 32) where
   pub few_rows : (router : ℕ) → length (base_rows s router) < 2 ^ 32
@@ -31,13 +24,3 @@ module _ (s : StateView) (is : IsState s) (count : element_count s.routers < 2 ^
   few_rows router =
       let same = ap (λ (t : StateView). length (get_or t.base router [])) is.tables in
       omega (arith, same, few_base_rows s.routers is.valid count router)
-
-  pub interfaces_at : (router : ℕ) (c : ConfigView) → slice_get s.routers router ≡ Some c → length c.interfaces < 2 ^ 32
-  interfaces_at router c e = let few = interfaces_in s.routers router c is.valid.each e in omega (arith, few, count)
-
--- the configuration of a router, as the program finds it
-pub config_at : (s : StateView) (configs : List RouterConfig) (router : ℕ) (config : RouterConfig) → map config_view configs ≡ s.routers → router < length configs → config ≡ get_or configs router config
-    → slice_get s.routers router ≡ Some (config_view config)
-config_at s configs router config is lt at =
-    ap (λ (cs : List ConfigView). slice_get cs router) (sym is) ∙ slice_get-map config_view configs router
-    ∙ ap (option_map config_view) (slice_get-get_or configs router config lt ∙ ap (λ (c : RouterConfig). Some c) (sym at))

@@ -10,19 +10,19 @@ use Rattle.nc_fact.proofs.Places.{some_kept, among, in_range, not_in_range, and_
 
 module _ (s : StateView) (router addr from to : ℕ) (rows : longest (map (λ row. row.prefix) (base_rows s router)) addr ≡ range_with_len from (to - from)) where
   abbrev passes : ℕ → Bool
-  passes = is_hit s.routers s.base router
+  passes = is_hit s.base router
 
   abbrev places : List ℕ
   places = longest (map (λ (row : BaseRow). row.prefix) (base_rows s router)) addr
 
-  pub some_hit : nat_lt 0 (length (hits s.routers s.base router addr)) ≡ list_any (is_hit s.routers s.base router) (range_with_len from (to - from))
+  pub some_hit : nat_lt 0 (length (hits s.base router addr)) ≡ list_any (is_hit s.base router) (range_with_len from (to - from))
   some_hit = some_kept passes places ∙ ap (list_any passes) rows
 
-  the_hit : (row : ℕ) (b : Bool) → list_any (nat_eq row) (range_with_len from (to - from)) ≡ b → list_any (nat_eq row) (hits s.routers s.base router addr) ≡ (passes row && b)
+  the_hit : (row : ℕ) (b : Bool) → list_any (nat_eq row) (range_with_len from (to - from)) ≡ b → list_any (nat_eq row) (hits s.base router addr) ≡ (passes row && b)
   the_hit row b there = among passes row places ∙ ap (λ (ks : List ℕ). passes row && list_any (nat_eq row) ks) rows ∙ ap (λ (x : Bool). passes row && x) there
 
-  pub hit_there : (row : ℕ) → from ≤ row → row < to → list_any (nat_eq row) (hits s.routers s.base router addr) ≡ is_hit s.routers s.base router row
+  pub hit_there : (row : ℕ) → from ≤ row → row < to → list_any (nat_eq row) (hits s.base router addr) ≡ is_hit s.base router row
   hit_there row low high = the_hit row true (in_range from to row low high) ∙ and_true (passes row)
 
-  pub not_there : (row : ℕ) → (row < from) ⊎ (to ≤ row) → list_any (nat_eq row) (hits s.routers s.base router addr) ≡ false
+  pub not_there : (row : ℕ) → (row < from) ⊎ (to ≤ row) → list_any (nat_eq row) (hits s.base router addr) ≡ false
   not_there row out = the_hit row false (not_in_range from to row out) ∙ and_false (passes row)

@@ -23,7 +23,7 @@ module _ (s : StateView) where
   -- the next hop of a base row: that of its static route, and of a main row that is of the base table
   abbrev pub hop_from : ℕ → BaseFrom → Option ℕ
   hop_from router (base.Connected iface) = None
-  hop_from router (base.Static place iface) = next_hop s.routers s.base router place
+  hop_from router (base.Static place iface) = next_hop s.routers router place
   hop_from router (base.Null place) = None
 
   abbrev pub main_hop : ℕ → MainFrom → Option ℕ

@@ -3,26 +3,23 @@
 ghost use Rattle.std.specs.Prelude.{◌≡◌, ◌<◌, length, nat_eq, nat_lt};
 ghost use Rattle.std.specs.List.{list_any};
 ghost use Rattle.std.specs.Option.{option_map};
-ghost use Rattle.nc_tables.specs.Reach.{is_hit, hits, next_hop, exit_of, is_linked, exit_leads, leads_to};
+ghost use Rattle.nc_tables.specs.Reach.{is_hit, hits, next_hop, leads_to};
 
-use crate::rows::{base_rows, longest_rows};
-use nc_tables::{BaseFrom, Stable};
+use crate::rows::longest_rows;
+use nc_tables::Stable;
 use nc_types::{Addr, IfaceId, RouterId};
 
 /// Whether the row at a place of a router's base table doesn't discard; not where there is no such row or
 /// router. Whether it is of the longest prefix is another question.
 pub fn is_hit(state: &Stable, router: RouterId, row: u32) -> bool
-    ensures { result ≡ is_hit state.now.routers state.now.base router.0 row }
+    ensures { result ≡ is_hit state.now.base router.0 row }
 {
-    match base_rows(state, router).get(row as usize) {
-        Some(row) => !matches!(row.from, BaseFrom::Null(_)),
-        None => false,
-    }
+    nc_underlay::is_hit(state.network(), state.base(), router, row as usize)
 }
 
 /// Whether some row of the longest prefix that covers an address doesn't discard.
 pub(crate) fn has_hit(state: &Stable, router: RouterId, addr: Addr) -> bool
-    ensures { result ≡ nat_lt 0 (length (hits state.now.routers state.now.base router.0 addr.0)) }
+    ensures { result ≡ nat_lt 0 (length (hits state.now.base router.0 addr.0)) }
 {
     let rows = longest_rows(state, router, addr);
     'rows: for place in rows.from..rows.to {
@@ -35,7 +32,7 @@ pub(crate) fn has_hit(state: &Stable, router: RouterId, addr: Addr) -> bool
 
 /// Whether the row at a place is of the longest prefix that covers an address, and doesn't discard.
 pub(crate) fn hits(state: &Stable, router: RouterId, addr: Addr, row: u32) -> bool
-    ensures { result ≡ list_any (nat_eq row) (hits state.now.routers state.now.base router.0 addr.0) }
+    ensures { result ≡ list_any (nat_eq row) (hits state.now.base router.0 addr.0) }
 {
     let rows = longest_rows(state, router, addr);
     let place = row as usize;
@@ -47,61 +44,10 @@ pub(crate) fn hits(state: &Stable, router: RouterId, addr: Addr, row: u32) -> bo
 
 /// The next hop of the static route at a place of a router; `None` where it discards, and where there is no
 /// such route or router.
-pub fn next_hop(state: &Stable, router: RouterId, place: u32) -> Option<Addr>
-    ensures { option_map (λ a. a.0) result ≡ next_hop state.now.routers state.now.base router.0 place }
+pub(crate) fn next_hop(state: &Stable, router: RouterId, place: u32) -> Option<Addr>
+    ensures { option_map (λ a. a.0) result ≡ next_hop state.now.routers router.0 place }
 {
-    let config = state.network().routers().get(router.0 as usize)?;
-    let route = config.statics.get(place as usize)?;
-    route.via.hop()
-}
-
-// The way out of a router by the row at a place: the interface, and the address that is sent to there.
-fn exit_of(state: &Stable, router: RouterId, addr: Addr, row: u32) -> Option<(IfaceId, Addr)>
-    ensures { option_map (λ e. record { iface = e.0.0; addr = e.1.0 }) result ≡ exit_of state.now.routers state.now.base router.0 addr.0 row }
-{
-    let row = base_rows(state, router).get(row as usize)?;
-    match row.from {
-        BaseFrom::Connected(iface) => Some((iface, addr)),
-        BaseFrom::Static(place, iface) => {
-            let hop = next_hop(state, router, place)?;
-            Some((iface, hop))
-        }
-        BaseFrom::Null(_) => None,
-    }
-}
-
-// Whether an interface of a router and one of another are up and have one prefix.
-fn is_linked(
-    state: &Stable,
-    router: RouterId,
-    iface: IfaceId,
-    other: RouterId,
-    other_iface: IfaceId,
-) -> bool
-    ensures { result ≡ is_linked state.now.routers state.now.base router.0 iface.0 (record { router = other.0; place = other_iface.0 }) }
-{
-    let network = state.network();
-    match (network.up(router, iface), network.up(other, other_iface)) {
-        (Some(here), Some(there)) => here.prefix == there.prefix,
-        _ => false,
-    }
-}
-
-// The router, and its interface, to which a way out leads.
-fn exit_leads(
-    state: &Stable,
-    router: RouterId,
-    iface: IfaceId,
-    addr: Addr,
-) -> Option<(RouterId, IfaceId)>
-    ensures { option_map (λ o. record { router = o.0.0; place = o.1.0 }) result
-        ≡ exit_leads state.now.routers state.now.base router.0 (record { iface = iface.0; addr = addr.0 }) }
-{
-    let (other, other_iface) = state.network().owner_of(addr)?;
-    if other == router || !is_linked(state, router, iface, other, other_iface) {
-        return None;
-    }
-    Some((other, other_iface))
+    nc_underlay::next_hop(state.network(), router, place)
 }
 
 /// The router, and its interface, to which the row at a place of a router leads for an address; `None` where
@@ -115,6 +61,5 @@ pub fn leads_to(
     ensures { option_map (λ o. record { router = o.0.0; place = o.1.0 }) result
         ≡ leads_to state.now.routers state.now.base router.0 addr.0 row }
 {
-    let (iface, next) = exit_of(state, router, addr, row)?;
-    exit_leads(state, router, iface, next)
+    nc_underlay::leads_to(state.network(), state.base(), router, addr, row as usize)
 }

@@ -1,7 +1,8 @@
 //! Facts: what may be so in a network, whether it is, and what a test tests.
 //!
 //! The crate stands on `nc_types` for the network, on `nc_tables` for the state in which it settles and for the
-//! definitions of where its tables lead, and on `nc_underlay` for how far a packet comes. Its contract promises
+//! definitions of where its tables lead, on `nc_base_rib` for which static routes can be used, and on `nc_underlay`
+//! for where rows lead and how far a packet comes. Its contract promises
 //! that [`holds`] answers by the definition in `specs/Facts`, without memory and whatever numbers a fact names,
 //! that [`rank`] is the rank defined there, and that [`facts_of`] gives exactly the facts of `specs/Tested`, in
 //! order, each of which holds. What facts rest on is offered to the crates that say from which facts each
@@ -12,13 +13,11 @@
 mod exits;
 mod fact;
 mod rows;
-mod statics;
 mod tested;
 mod truth;
 
-pub use exits::{is_hit, leads_to, next_hop};
+pub use exits::{is_hit, leads_to};
 pub use fact::Fact;
-pub use rows::{base_rows, longest_rows, main_rows, rows_of_prefix};
-pub use statics::static_row;
+pub use rows::{base_rows, longest_rows, main_rows, rows_of_prefix, static_row};
 pub use tested::facts_of;
-pub use truth::{MOST_HOPS, base_of, holds, rank};
+pub use truth::{base_of, holds, rank};

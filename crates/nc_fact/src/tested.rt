@@ -61,15 +61,12 @@ fn asked_rows(
     prefix: Prefix,
     via: Option<Addr>,
 ) -> Result<Vec<Fact>, AllocError>
-    ensures { IfOk result (λ facts. facts.items ≡ filter (holds state.now) (asked_rows state.now router.0 prefix via)) }
+    ensures { IfOk result (λ facts. facts.items
+        ≡ filter (holds state.now) (asked_rows state.now router.0 prefix via)) }
 {
     let mut facts = Vec::new(alloc);
     let rows = main_rows(state, router);
     let found = main_rows_of(state, router, prefix);
-    // a fact has no place for more rows, which no memory holds
-    if found.to > u32::MAX as usize {
-        return Err(AllocError);
-    }
     'rows: for place in found.from..found.to {
         let fact = Fact::Main(router, place as u32);
         if is_tested(state, router, via, &rows[place], &fact) {

@@ -2,19 +2,16 @@
 
 ghost use Rattle.std.specs.Prelude.{◌≡◌, ◌≤◌, ◌&&◌, true, length, nat_le};
 ghost use Rattle.std.specs.List.{list_any};
+ghost use Rattle.nc_types.specs.declared.TheConstants.{HOP_LIMIT};
 ghost use Rattle.nc_tables.specs.Base.{same_prefix};
 ghost use Rattle.nc_tables.specs.Reach.{reaches};
-ghost use Rattle.nc_fact.specs.Facts.{most_hops, base_rows, base_of, hops_by, holds, rank};
+ghost use Rattle.nc_fact.specs.Facts.{base_rows, base_of, hops_by, holds, rank};
 
 use crate::exits::{has_hit, hits, leads_to};
 use crate::fact::Fact;
-use crate::rows::{base_rows, has_router, main_rows, rows_of_prefix};
-use crate::statics::static_row;
+use crate::rows::{base_rows, has_router, main_rows, rows_of_prefix, static_row};
 use nc_tables::{MainFrom, Stable};
-use nc_types::{Addr, Prefix, RouterId};
-
-/// The most hops of a path.
-pub const MOST_HOPS: u8 = 30;
+use nc_types::{Addr, HOP_LIMIT, Prefix, RouterId};
 
 // Whether a router's base table has a row of a prefix.
 fn has_prefix(state: &Stable, router: RouterId, prefix: Prefix) -> bool
@@ -26,9 +23,10 @@ fn has_prefix(state: &Stable, router: RouterId, prefix: Prefix) -> bool
 
 // Whether a packet comes from a router to the owner of an address over at most so many hops.
 fn reaches(state: &Stable, router: RouterId, addr: Addr, hops: u8) -> bool
-    ensures { result ≡ (nat_le hops most_hops && reaches state.now.routers state.now.base hops router.0 addr.0) }
+    ensures { result ≡ (nat_le hops HOP_LIMIT
+        && reaches state.now.routers state.now.base hops router.0 addr.0) }
 {
-    if MOST_HOPS < hops || !has_router(state, router) {
+    if HOP_LIMIT < hops || !has_router(state, router) {
         return false;
     }
     nc_underlay::reaches(state.network(), state.base(), router, addr, hops)
@@ -38,7 +36,7 @@ fn reaches(state: &Stable, router: RouterId, addr: Addr, hops: u8) -> bool
 fn hops_by(state: &Stable, router: RouterId, addr: Addr, row: u32, hops: u8) -> bool
     ensures { result ≡ hops_by state.now router.0 addr.0 row hops }
 {
-    if hops == 0 || MOST_HOPS < hops || !hits(state, router, addr, row) {
+    if hops == 0 || HOP_LIMIT < hops || !hits(state, router, addr, row) {
         return false;
     }
     match leads_to(state, router, addr, row) {
@@ -82,7 +80,7 @@ pub fn holds(state: &Stable, fact: &Fact) -> bool
 #[tactic(auto, unfolding(crate::specs::Facts::rank))]
 pub fn rank(_state: &Stable, fact: &Fact) -> u32
     requires { holds _state.now fact.now ≡ true }
-    ensures { result ≡ rank fact.now }
+    ensures { result ≡ rank _state.now fact.now }
 {
     match *fact {
         Fact::Element(_) => 0,

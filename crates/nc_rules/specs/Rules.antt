@@ -23,4 +23,4 @@ same_fact f g = false
 
 -- the flow graph of a state
 unfoldable pub flow_of : StateView → Flow Fact
-flow_of s = record { same = same_fact; holds = holds s; kind = kind; parents = parents s; rank = rank }
+flow_of s = record { same = same_fact; holds = holds s; kind = kind; parents = parents s; rank = rank s }

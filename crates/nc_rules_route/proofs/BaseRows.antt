@@ -4,6 +4,7 @@ use Rattle.std.specs.List.{slice_get, position}
 use Rattle.std.proofs.lemmas.List.{length-append}
 use Rattle.std.specs.Option.{option_map, option_map_or, is_some}
 use Rattle.std.specs.Str.{bytes_eq}
+use Rattle.nc_types.specs.declared.TheConstants.{UNUSED_DISTANCE}
 use Rattle.nc_types.specs.Config.{ConfigView}
 use Rattle.nc_types.specs.Network.{up_of, has_address}
 use Rattle.nc_types.specs.declared.config.IfaceAddr.{IfaceAddr}
@@ -15,7 +16,9 @@ use Rattle.nc_tables.specs.declared.base.BaseRow.{BaseRow}
 use Rattle.nc_tables.specs.declared.base.BaseFrom.{BaseFrom}
 use Rattle.nc_tables.specs.declared.base.BaseFrom.TheVariants.{Connected, Static, Null as Discard}
 use Rattle.nc_tables.specs.Base.{connected_from, covers, is_toward, interface_toward, hop_is_own, static_from, static_row, statics_from, candidates, is_nearest, row_cmp, base_table}
-use Rattle.nc_rules_route.proofs.Members.{In, in_either, in_by_filter, in_by_order, length_in_order, at_position}
+use Rattle.nc_types.proofs.Members.{In, in_either, in_by_filter}
+use Rattle.nc_tables.proofs.Ordered.{in_by_order, length_in_order}
+use Rattle.nc_rules_route.proofs.Members.{at_position}
 
 -- the interface at a place, if there is one, is up
 pub record IsUp (is : List Interface) (place : ℕ) : Type 0 where
@@ -69,7 +72,7 @@ static_leads is place (Through reference hop) from e =
     by_interface is place (Through reference hop) from (hop_is_own is (Through reference hop)) (interface_toward is (Through reference hop)) refl e
 
 pub row_leads : (is : List Interface) (place : ℕ) (route : StaticRoute) (row : BaseRow) → static_row is place route ≡ Some row → LeadsBy is place row.from
-row_leads is place route row e = by_test (nat_lt route.distance 255) (static_from is place route.via) refl e
+row_leads is place route row e = by_test (nat_lt route.distance UNUSED_DISTANCE) (static_from is place route.via) refl e
   where
     by_test : (b : Bool) (o : Option BaseFrom) → static_from is place route.via ≡ o → cond b (option_map (λ from. record { prefix = route.prefix; distance = route.distance; from = from }) o) None ≡ Some row → LeadsBy is place row.from
     by_test false o is_from e = absurd (cc)
@@ -143,7 +146,7 @@ pub row_is_made : (c : ConfigView) (row : BaseRow) → In row (base_table c) →
 unfolding base_table
 row_is_made c row h =
     by_part (in_either (connected_from 0 c.interfaces) (statics_from c.interfaces 0 c.statics) row
-    (in_by_filter (is_nearest (candidates c)) (candidates c) row (in_by_order row_cmp (filter (is_nearest (candidates c)) (candidates c)) row h)))
+    (in_by_filter (is_nearest (candidates c)) (candidates c) row (in_by_order row_cmp (filter (is_nearest (candidates c)) (candidates c)) row h)).0)
   where
     by_part : In row (connected_from 0 c.interfaces) ⊎ In row (statics_from c.interfaces 0 c.statics) → IsMadeBy c row
     by_part (inl j) =
@@ -154,42 +157,3 @@ row_is_made c row h =
         let r = is_static c.interfaces 0 c.statics row j in
         let e : 0 + r.k ≡ r.k = omega arith in
         static row r.k r.route r.at (subst (λ (n : ℕ). static_row c.interfaces n r.route ≡ Some row) e r.made)
-
--- ---- how many rows there are
-
-connected_few : (place : ℕ) (is : List Interface) → length (connected_from place is) ≤ length is
-connected_few place [] = omega arith
-connected_few place (i ∷ is) = by_up (connected_few (place + 1) is) (up_of i)
-  where
-    by_up : length (connected_from (place + 1) is) ≤ length is → (o : Option IfaceAddr) → length (option_map_or (λ a. record { prefix = a.prefix; distance = 0; from = Connected (record { 0 = place }) } ∷ connected_from (place + 1) is) o (connected_from (place + 1) is)) ≤ suc (length is)
-    by_up rest None = omega arith
-    by_up rest (Some a) = omega arith
-
-statics_few : (is : List Interface) (place : ℕ) (ss : List StaticRoute) → length (statics_from is place ss) ≤ length ss
-statics_few is place [] = omega arith
-statics_few is place (s ∷ ss) = by_row (statics_few is (place + 1) ss) (static_row is place s)
-  where
-    by_row : length (statics_from is (place + 1) ss) ≤ length ss → (o : Option BaseRow) → length (option_map_or (λ r. r ∷ statics_from is (place + 1) ss) o (statics_from is (place + 1) ss)) ≤ suc (length ss)
-    by_row rest None = omega arith
-    by_row rest (Some r) = omega arith
-
-filter_few : {X : Type 0} (p : X → Bool) (xs : List X) → length (filter p xs) ≤ length xs
-filter_few p [] = omega arith
-filter_few p (x ∷ xs) = by_test (filter_few p xs) (p x)
-  where
-    by_test : length (filter p xs) ≤ length xs → (b : Bool) → length (cond b (x ∷ filter p xs) (filter p xs)) ≤ suc (length xs)
-    by_test rest true = omega arith
-    by_test rest false = omega arith
-
--- a base table has no more rows than its router has interfaces and static routes
-pub rows_few : (c : ConfigView) → length (base_table c) ≤ length c.interfaces + length c.statics
-unfolding base_table
-rows_few c =
-    omega (
-      arith,
-      length_in_order row_cmp (filter (is_nearest (candidates c)) (candidates c)),
-      filter_few (is_nearest (candidates c)) (candidates c),
-      length-append (connected_from 0 c.interfaces) (statics_from c.interfaces 0 c.statics),
-      connected_few 0 c.interfaces,
-      statics_few c.interfaces 0 c.statics,
-    )

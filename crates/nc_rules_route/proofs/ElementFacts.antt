@@ -20,11 +20,6 @@ pub of_config : (o : Option (Bor RouterConfig)) {x : Option ConfigView} → opti
 of_config None e P each = tt
 of_config (Some b) e P each = each (config_view b.now) (sym e)
 
--- the fact of an element of a number
-pub fact_of : (o : Option ElementId) (n : ℕ) → option_map (λ e. e.0) o ≡ Some n → option_map_or (λ e. Element e ∷ []) o [] ≡ Element (record { 0 = n }) ∷ []
-fact_of None n e = absurd (none-some n e)
-fact_of (Some id) n e = ap (λ (k : ℕ). Element (record { 0 = k }) ∷ []) (same_Some id.0 n e)
-
 module _ (s : StateView) (router : ℕ) (c : ConfigView) (at : slice_get s.routers router ≡ Some c) (formed : IsWellFormed c) where
   pub interface_found : (iface place : ℕ) → option_map (λ i. i.element) (slice_get c.interfaces iface) ≡ Some place → (of_interface s router iface ≡ element_in s router place ∷ []) × (place < length c.elements)
   interface_found iface place e = by_interface (slice_get c.interfaces iface) refl e

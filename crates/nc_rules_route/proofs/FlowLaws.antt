@@ -10,22 +10,26 @@ use Rattle.nc_types.specs.declared.addr.Addr.{Addr}
 use Rattle.nc_types.specs.declared.config.RouterId.{RouterId}
 use Rattle.nc_types.specs.declared.config.Interface.{Interface}
 use Rattle.nc_types.specs.declared.config.StaticRoute.{StaticRoute}
+use Rattle.nc_types.specs.declared.TheConstants.{HOP_LIMIT}
 use Rattle.nc_types.specs.Cidr.{Cidr}
 use Rattle.nc_types.specs.Config.{ConfigView}
 use Rattle.nc_types.specs.Network.{PlaceIn, has_address}
 use Rattle.nc_tables.specs.declared.base.BaseRow.{BaseRow}
 use Rattle.nc_tables.specs.declared.bgp.MainRow.{MainRow}
-use Rattle.nc_tables.specs.Base.{static_row, same_prefix}
+use Rattle.nc_tables.specs.Base.{static_row, static_at, same_prefix}
 use Rattle.nc_tables.specs.Longest.{places_from}
-use Rattle.nc_tables.specs.Reach.{hits, leads_to, reaches}
+use Rattle.nc_tables.specs.Reach.{hits, leads_to, own_place, reaches}
 use Rattle.nc_tables.specs.State.{StateView, IsState}
 use Rattle.nc_graph.specs.declared.node.NodeKind.TheVariants.{Leaf, Any}
 use Rattle.nc_fact.specs.declared.fact.Fact.{Fact}
 use Rattle.nc_fact.specs.declared.fact.Fact.TheVariants.{Element, Connected, Static, Base, Resolve, NetSource, Reach, Hop, Main}
-use Rattle.nc_fact.specs.Facts.{most_hops, base_place, base_rows, main_rows, static_at, base_of, hops_by, holds, rank}
-use Rattle.nc_rules_route.specs.Parents.{kind, element_in, of_interface, of_static, connected_by, route_of, own_interface, hops_of, parents}
-use Rattle.nc_rules_route.proofs.Members.{In, in_by_get, in_map, in_filter, some_in, all_by_in, all_by_option, all_of_one, all_of_three, some_place, is_among, among_is, place_within}
-use Rattle.nc_rules_route.proofs.Numbers.{formed_at, interface_element, static_element}
+use Rattle.nc_fact.specs.Facts.{base_place, base_rows, main_rows, base_of, hops_by, holds, rank}
+use Rattle.nc_rules_route.specs.Parents.{kind, element_in, of_interface, of_static, connected_by, route_of, hops_of, parents}
+use Rattle.nc_types.proofs.Members.{In, in_by_get, in_map, in_filter, some_in, all_by_in, is_among, among_is}
+use Rattle.nc_tables.proofs.Ordered.{some_place, place_within}
+use Rattle.nc_rules_route.proofs.Members.{all_by_option, all_of_one, all_of_three}
+use Rattle.nc_fact.proofs.Few.{formed_at}
+use Rattle.nc_rules_route.proofs.Numbers.{interface_element, static_element}
 use Rattle.nc_rules_route.proofs.BaseRows.{found_up, address_up, row_leads}
 use Rattle.nc_rules_route.proofs.Tables.{base_of_main}
 use Rattle.nc_rules_route.proofs.Holding.{IsBelow, element_holds, connected_holds, base_holds, connected_below, route_below}
@@ -53,23 +57,23 @@ module _ (s : StateView) (is : IsState s) where
   -- ---- more of a rank
 
   all_higher : (low high : ℕ) → low ≤ high → (ps : List Fact) → All (IsBelow s low) ps → All (IsBelow s high) ps
-  all_higher low high le ps each k d lt = let here = each k d lt in (here.0, (let less : rank _ < low = here.1 in omega arith))
+  all_higher low high le ps each k d lt = let here = each k d lt in (here.0, (let less : rank s _ < low = here.1 in omega arith))
 
   -- ---- what each kind of fact follows from
 
   static_parents : (router : RouterId) (place : ℕ) → All (IsBelow s 2) (parents s (Static router place))
   unfolding parents
   static_parents router place =
-      All-append (IsBelow s 2) (of_static s router.0 place) (option_map_or (λ (r : BaseRow). connected_by s router r.from) (static_at s router.0 place) []) (all_higher 1 2 (omega arith) (of_static s router.0 place) (static_below router.0 place))
-      (all_by_option (IsBelow s 2) (λ (r : BaseRow). connected_by s router r.from) (static_at s router.0 place) (λ r found.
+      All-append (IsBelow s 2) (of_static s router.0 place) (option_map_or (λ (r : BaseRow). connected_by router r.from) (static_at s.routers router.0 place) []) (all_higher 1 2 (omega arith) (of_static s router.0 place) (static_below router.0 place))
+      (all_by_option (IsBelow s 2) (λ (r : BaseRow). connected_by router r.from) (static_at s.routers router.0 place) (λ r found.
       option_and_then_some (λ (c : ConfigView). option_and_then (λ (route : StaticRoute). static_row c.interfaces place route) (slice_get c.statics place)) (slice_get s.routers router.0) r found (λ c at is_row.
       option_and_then_some (λ (route : StaticRoute). static_row c.interfaces place route) (slice_get c.statics place) r is_row (λ route at_route made. connected_below s router c place r.from at (row_leads c.interfaces place route r made)))))
 
   base_parents : (router : RouterId) (place : ℕ) → All (IsBelow s 3) (parents s (Base router place))
   unfolding parents
   base_parents router place =
-      all_by_option (IsBelow s 3) (λ (r : BaseRow). route_of s router r.from ∷ []) (slice_get (base_rows s router.0) place) (λ r at.
-      all_of_one (IsBelow s 3) (route_of s router r.from) (route_below s is router r (in_by_get (base_rows s router.0) place r at)))
+      all_by_option (IsBelow s 3) (λ (r : BaseRow). route_of router r.from ∷ []) (slice_get (base_rows s router.0) place) (λ r at.
+      all_of_one (IsBelow s 3) (route_of router r.from) (route_below s is router r (in_by_get (base_rows s router.0) place r at)))
 
   -- rows of the base table at some places
   rows_below : (router : RouterId) (places : List ℕ) → ((place : ℕ) → In place places → place < length (base_rows s router.0)) → All (IsBelow s 4) (map (Base router) places)
@@ -78,7 +82,7 @@ module _ (s : StateView) (is : IsState s) where
 
   resolve_parents : (router : RouterId) (addr : Addr) → All (IsBelow s 4) (parents s (Resolve router addr))
   unfolding parents
-  resolve_parents router addr = rows_below router (hits s.routers s.base router.0 addr.0) (λ place i. hit_within s.routers s.base router.0 addr.0 place i)
+  resolve_parents router addr = rows_below router (hits s.base router.0 addr.0) (λ place i. hit_within s.routers s.base router.0 addr.0 place i)
 
   source_parents : (router : RouterId) (prefix : Cidr) → All (IsBelow s 4) (parents s (NetSource router prefix))
   unfolding parents
@@ -86,7 +90,7 @@ module _ (s : StateView) (is : IsState s) where
       rows_below router (places_from (λ (r : BaseRow). same_prefix r.prefix prefix) 0 (base_rows s router.0)) (λ place i.
       let lt : place < 0 + length (base_rows s router.0) = place_within (λ (r : BaseRow). same_prefix r.prefix prefix) 0 (base_rows s router.0) place i in omega arith)
 
-  own_below : (router : RouterId) (addr : Addr) (iface : ℕ) → own_interface s router.0 addr.0 ≡ Some iface → IsBelow s 2 (Connected router (record { 0 = iface }))
+  own_below : (router : RouterId) (addr : Addr) (iface : ℕ) → own_place s.routers router.0 addr.0 ≡ Some iface → IsBelow s 2 (Connected router (record { 0 = iface }))
   unfolding rank
   own_below router addr iface found =
       option_and_then_some (λ (c : ConfigView). position (has_address addr.0) c.interfaces) (slice_get s.routers router.0) iface found (λ c at is_own.
@@ -96,17 +100,17 @@ module _ (s : StateView) (is : IsState s) where
   unfolding rank
   hops_below router addr hops k d lt =
       let by_row = λ (row : ℕ). Hop router addr row hops in
-      let rows = hits s.routers s.base router.0 addr.0 in
+      let rows = hits s.base router.0 addr.0 in
       let holding = filter_passes (holds s) (map by_row rows) in
-      let ranks : All (λ (p : Fact). rank p < 6 + 2 * hops) (filter (holds s) (map by_row rows)) =
-      All-filter (holds s) (λ (p : Fact). rank p < 6 + 2 * hops) (map by_row rows) (All-map (λ (p : Fact). rank p < 6 + 2 * hops) by_row rows (λ k d lt. omega arith)) in
+      let ranks : All (λ (p : Fact). rank s p < 6 + 2 * hops) (filter (holds s) (map by_row rows)) =
+      All-filter (holds s) (λ (p : Fact). rank s p < 6 + 2 * hops) (map by_row rows) (All-map (λ (p : Fact). rank s p < 6 + 2 * hops) by_row rows (λ k d lt. omega arith)) in
       (holding k d lt, ranks k d lt)
 
   reach_parents : (router : RouterId) (addr : Addr) (hops : ℕ) → All (IsBelow s (6 + 2 * hops)) (parents s (Reach router addr hops))
   unfolding parents
-  reach_parents router addr hops = by_own (own_interface s router.0 addr.0) refl
+  reach_parents router addr hops = by_own (own_place s.routers router.0 addr.0) refl
     where
-      by_own : (o : Option ℕ) → own_interface s router.0 addr.0 ≡ o → All (IsBelow s (6 + 2 * hops)) (option_map_or (λ iface. Connected router (record { 0 = iface }) ∷ []) o (hops_of s router addr hops))
+      by_own : (o : Option ℕ) → own_place s.routers router.0 addr.0 ≡ o → All (IsBelow s (6 + 2 * hops)) (option_map_or (λ iface. Connected router (record { 0 = iface }) ∷ []) o (hops_of s router addr hops))
       by_own None found = hops_below router addr hops
       by_own (Some iface) found =
           all_higher 2 (6 + 2 * hops) (omega arith) (Connected router (record { 0 = iface }) ∷ []) (all_of_one (IsBelow s 2) (Connected router (record { 0 = iface })) (own_below router addr iface found))
@@ -117,15 +121,15 @@ module _ (s : StateView) (is : IsState s) where
   unfolding holds rank
   hop_below router addr row zero next e leads = absurd (cc)
   hop_below router addr row (suc hops) next e leads =
-      let within = both_hold (nat_lt hops most_hops) _ e in
-      let hit = both_hold (list_any (nat_eq row) (hits s.routers s.base router.0 addr.0)) _ within.1 in
+      let within = both_hold (nat_lt hops HOP_LIMIT) _ e in
+      let hit = both_hold (list_any (nat_eq row) (hits s.base router.0 addr.0)) _ within.1 in
       let reached : reaches s.routers s.base hops next.router addr.0 ≡ true =
       sym (ap (λ (o : Option PlaceIn). option_map_or (λ n. reaches s.routers s.base hops n.router addr.0) o false) leads) ∙ hit.1 in
-      let lt : hops < most_hops = ltb-true hops most_hops within.0 in
-      let is_row : row < length (base_rows s router.0) = hit_within s.routers s.base router.0 addr.0 row (among_is row (hits s.routers s.base router.0 addr.0) hit.0) in
+      let lt : hops < HOP_LIMIT = ltb-true hops HOP_LIMIT within.0 in
+      let is_row : row < length (base_rows s router.0) = hit_within s.routers s.base router.0 addr.0 row (among_is row (hits s.base router.0 addr.0) hit.0) in
       let less : suc hops - 1 ≡ hops = omega arith in
       let on : holds s (Reach (record { 0 = next.router }) addr (suc hops - 1)) ≡ true =
-      subst (λ (n : ℕ). (nat_le n most_hops && reaches s.routers s.base n next.router addr.0) ≡ true) (sym less) (hold_both (nat_le hops most_hops) (reaches s.routers s.base hops next.router addr.0) (le-leb hops most_hops (omega arith)) reached) in
+      subst (λ (n : ℕ). (nat_le n HOP_LIMIT && reaches s.routers s.base n next.router addr.0) ≡ true) (sym less) (hold_both (nat_le hops HOP_LIMIT) (reaches s.routers s.base hops next.router addr.0) (le-leb hops HOP_LIMIT (omega arith)) reached) in
       all_of_three (IsBelow s (5 + 2 * suc hops)) (Base router row) (Connected (record { 0 = next.router }) (record { 0 = next.place })) (Reach (record { 0 = next.router }) addr (suc hops - 1))
       (base_holds s router row is_row, omega arith) (next_up s.routers s.base router.0 addr.0 row next leads, omega arith) (on, omega arith)
 
@@ -145,7 +149,7 @@ module _ (s : StateView) (is : IsState s) where
   -- ---- the laws
 
   -- each parent holds and has a lower rank
-  pub parents_below : (f : Fact) → holds s f ≡ true → All (λ p. (holds s p ≡ true) × (rank p < rank f)) (parents s f)
+  pub parents_below : (f : Fact) → holds s f ≡ true → All (λ p. (holds s p ≡ true) × (rank s p < rank s f)) (parents s f)
   unfolding holds parents rank
   parents_below (Element e) h = All-nil (IsBelow s 0)
   parents_below (Connected router iface) h = interface_below router.0 iface.0
@@ -158,26 +162,26 @@ module _ (s : StateView) (is : IsState s) where
   parents_below (Main router row) h = all_higher 4 140000 (omega arith) (parents s (Main router row)) (main_parents router row)
 
   -- a hop by which a packet comes to the owner of an address that is not the router's own
-  hop_holds : (router : RouterId) (addr : Addr) (hops : ℕ) → hops ≤ most_hops → (on : GoesOn s.routers s.base hops router.0 addr.0) → holds s (Hop router addr on.row hops) ≡ true
+  hop_holds : (router : RouterId) (addr : Addr) (hops : ℕ) → hops ≤ HOP_LIMIT → (on : GoesOn s.routers s.base hops router.0 addr.0) → holds s (Hop router addr on.row hops) ≡ true
   unfolding holds
   hop_holds router addr hops within on =
-      let lt : on.less < most_hops = let count = on.count in omega arith in
+      let lt : on.less < HOP_LIMIT = let count = on.count in omega arith in
       subst (λ (n : ℕ). hops_by s router.0 addr.0 on.row n ≡ true) (sym on.count)
-      (hold_both (nat_lt on.less most_hops) _ (lt-ltb on.less most_hops lt) (hold_both (list_any (nat_eq on.row) (hits s.routers s.base router.0 addr.0)) _ (is_among on.row (hits s.routers s.base router.0 addr.0) on.hit)
+      (hold_both (nat_lt on.less HOP_LIMIT) _ (lt-ltb on.less HOP_LIMIT lt) (hold_both (list_any (nat_eq on.row) (hits s.base router.0 addr.0)) _ (is_among on.row (hits s.base router.0 addr.0) on.hit)
       (ap (λ (o : Option PlaceIn). option_map_or (λ n. reaches s.routers s.base on.less n.router addr.0) o false) on.leads ∙ on.reached)))
 
   reach_chosen : (router : RouterId) (addr : Addr) (hops : ℕ) → holds s (Reach router addr hops) ≡ true → 0 < length (parents s (Reach router addr hops))
   unfolding holds parents
-  reach_chosen router addr hops e = by_own (own_interface s router.0 addr.0) refl
+  reach_chosen router addr hops e = by_own (own_place s.routers router.0 addr.0) refl
     where
-      by_own : (o : Option ℕ) → own_interface s router.0 addr.0 ≡ o → 0 < length (option_map_or (λ iface. Connected router (record { 0 = iface }) ∷ []) o (hops_of s router addr hops))
+      by_own : (o : Option ℕ) → own_place s.routers router.0 addr.0 ≡ o → 0 < length (option_map_or (λ iface. Connected router (record { 0 = iface }) ∷ []) o (hops_of s router addr hops))
       by_own (Some iface) found = omega arith
       by_own None found =
-          let both = both_hold (nat_le hops most_hops) (reaches s.routers s.base hops router.0 addr.0) e in
+          let both = both_hold (nat_le hops HOP_LIMIT) (reaches s.routers s.base hops router.0 addr.0) e in
           let on = goes_on s.routers s.base hops router.0 addr.0 (not_own s.routers s.base router.0 addr.0 found) both.1 in
-          let rows = hits s.routers s.base router.0 addr.0 in
+          let rows = hits s.base router.0 addr.0 in
           some_in (hops_of s router addr hops) (Hop router addr on.row hops)
-          (in_filter (holds s) (map (λ (row : ℕ). Hop router addr row hops) rows) (Hop router addr on.row hops) (in_map (λ (row : ℕ). Hop router addr row hops) rows on.row on.hit) (hop_holds router addr hops (leb-true hops most_hops both.0) on))
+          (in_filter (holds s) (map (λ (row : ℕ). Hop router addr row hops) rows) (Hop router addr on.row hops) (in_map (λ (row : ℕ). Hop router addr row hops) rows on.row on.hit) (hop_holds router addr hops (leb-true hops HOP_LIMIT both.0) on))
 
   -- what follows from any of its parents has one
   pub parents_some : (f : Fact) → holds s f ≡ true → kind f ≡ Any → 0 < length (parents s f)
@@ -187,8 +191,8 @@ module _ (s : StateView) (is : IsState s) where
   parents_some (Static router place) h k = absurd (cc)
   parents_some (Base router row) h k = absurd (cc)
   parents_some (Resolve router addr) h k =
-      let lt : 0 < length (hits s.routers s.base router.0 addr.0) = ltb-true 0 (length (hits s.routers s.base router.0 addr.0)) h in
-      omega (arith, length-map (hits s.routers s.base router.0 addr.0) (Base router))
+      let lt : 0 < length (hits s.base router.0 addr.0) = ltb-true 0 (length (hits s.base router.0 addr.0)) h in
+      omega (arith, length-map (hits s.base router.0 addr.0) (Base router))
   parents_some (NetSource router prefix) h k =
       let places = places_from (λ (r : BaseRow). same_prefix r.prefix prefix) 0 (base_rows s router.0) in
       let lt : 0 < length places = some_place (λ (r : BaseRow). same_prefix r.prefix prefix) 0 (base_rows s router.0) h in

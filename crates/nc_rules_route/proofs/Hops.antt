@@ -11,7 +11,9 @@ use Rattle.nc_tables.specs.declared.base.BaseRow.{BaseRow}
 use Rattle.nc_tables.specs.Base.{same_prefix, is_own}
 use Rattle.nc_tables.specs.Longest.{is_longest, longest}
 use Rattle.nc_tables.specs.Reach.{rows_of, is_hit, hits, exit_of, is_linked, exit_leads, leads_to, owns, reaches}
-use Rattle.nc_rules_route.proofs.Members.{In, in_by_filter, in_by_filter_map, place_within, some_passes, none_passes}
+use Rattle.nc_types.proofs.Members.{In, in_by_filter, in_by_filter_map, some_passes}
+use Rattle.nc_tables.proofs.Ordered.{place_within}
+use Rattle.nc_rules_route.proofs.Members.{none_passes}
 
 pub both_hold : (a b : Bool) → (a && b) ≡ true → (a ≡ true) × (b ≡ true)
 both_hold true b e = (refl, e)
@@ -23,15 +25,15 @@ hold_both false b e f = absurd (cc)
 
 module _ (routers : List ConfigView) (tables : List (List BaseRow)) where
   -- a hit is a row of the table
-  pub hit_within : (router addr row : ℕ) → In row (hits routers tables router addr) → row < length (rows_of routers tables router)
+  pub hit_within : (router addr row : ℕ) → In row (hits tables router addr) → row < length (rows_of tables router)
   unfolding longest
   hit_within router addr row i =
-      let prefixes = map (λ (r : BaseRow). r.prefix) (rows_of routers tables router) in
-      let lt : row < 0 + length prefixes = place_within (is_longest prefixes addr) 0 prefixes row (in_by_filter (is_hit routers tables router) (longest prefixes addr) row i) in
-      omega (arith, length-map (rows_of routers tables router) (λ (r : BaseRow). r.prefix))
+      let prefixes = map (λ (r : BaseRow). r.prefix) (rows_of tables router) in
+      let lt : row < 0 + length prefixes = place_within (is_longest prefixes addr) 0 prefixes row (in_by_filter (is_hit tables router) (longest prefixes addr) row i).0 in
+      omega (arith, length-map (rows_of tables router) (λ (r : BaseRow). r.prefix))
 
   -- the interface to which a row leads is up
-  linked_up : (router iface : ℕ) (other : PlaceIn) → is_linked routers tables router iface other ≡ true → is_some (up_at routers other.router other.place) ≡ true
+  linked_up : (router iface : ℕ) (other : PlaceIn) → is_linked routers router iface other ≡ true → is_some (up_at routers other.router other.place) ≡ true
   linked_up router iface other e = by_ends (up_at routers router iface) (up_at routers other.router other.place) e
     where
       by_ends : (here there : Option IfaceAddr) → option_map_or (λ a. option_map_or (λ b. same_prefix a.prefix b.prefix) there false) here false ≡ true → is_some there ≡ true
@@ -41,10 +43,10 @@ module _ (routers : List ConfigView) (tables : List (List BaseRow)) where
 
   pub next_up : (router addr row : ℕ) (next : PlaceIn) → leads_to routers tables router addr row ≡ Some next → is_some (up_at routers next.router next.place) ≡ true
   next_up router addr row next e =
-      option_and_then_some (exit_leads routers tables router) (exit_of routers tables router addr row) next e (λ exit is_exit leads.
+      option_and_then_some (exit_leads routers router) (exit_of routers tables router addr row) next e (λ exit is_exit leads.
       option_and_then_some _ (owner_of routers exit.addr) next leads (λ other is_owner linked.
-      let here = cond_some (not (other.router == router) && is_linked routers tables router exit.iface other) other next linked in
-      subst (λ (p : PlaceIn). is_some (up_at routers p.router p.place) ≡ true) here.1 (linked_up router exit.iface other (both_hold (not (other.router == router)) (is_linked routers tables router exit.iface other) here.0).1)))
+      let here = cond_some (not (other.router == router) && is_linked routers router exit.iface other) other next linked in
+      subst (λ (p : PlaceIn). is_some (up_at routers p.router p.place) ≡ true) here.1 (linked_up router exit.iface other (both_hold (not (other.router == router)) (is_linked routers router exit.iface other) here.0).1)))
 
   -- a hit by which a packet comes to the owner of an address over so many hops
   pub record GoesOn (hops router addr : ℕ) : Type 0 where
@@ -52,18 +54,18 @@ module _ (routers : List ConfigView) (tables : List (List BaseRow)) where
     pub row : ℕ
     pub next : PlaceIn
     pub count : hops ≡ suc less
-    pub hit : In row (hits routers tables router addr)
+    pub hit : In row (hits tables router addr)
     pub leads : leads_to routers tables router addr row ≡ Some next
     pub reached : reaches routers tables less next.router addr ≡ true
 
   -- from a router that doesn't own an address a packet goes on by some hit
-  pub goes_on : (hops router addr : ℕ) → owns routers tables router addr ≡ false → reaches routers tables hops router addr ≡ true → GoesOn hops router addr
+  pub goes_on : (hops router addr : ℕ) → owns routers router addr ≡ false → reaches routers tables hops router addr ≡ true → GoesOn hops router addr
   unfolding reaches
   goes_on zero router addr other e = absurd (cc)
   goes_on (suc hops) router addr other e =
-      let on : list_any (λ (next : PlaceIn). reaches routers tables hops next.router addr) (filter_map (leads_to routers tables router addr) (hits routers tables router addr)) ≡ true = second (owns routers tables router addr) _ other e in
-      let passed = some_passes (λ (next : PlaceIn). reaches routers tables hops next.router addr) (filter_map (leads_to routers tables router addr) (hits routers tables router addr)) on in
-      let made = in_by_filter_map (leads_to routers tables router addr) (hits routers tables router addr) passed.0 passed.1 in
+      let on : list_any (λ (next : PlaceIn). reaches routers tables hops next.router addr) (filter_map (leads_to routers tables router addr) (hits tables router addr)) ≡ true = second (owns routers router addr) _ other e in
+      let passed = some_passes (λ (next : PlaceIn). reaches routers tables hops next.router addr) (filter_map (leads_to routers tables router addr) (hits tables router addr)) on in
+      let made = in_by_filter_map (leads_to routers tables router addr) (hits tables router addr) passed.0 passed.1 in
       record { less = hops; row = made.0; next = passed.0; count = refl; hit = made.1; leads = made.2; reached = passed.2 }
     where
       second : (a b : Bool) → a ≡ false → (a || b) ≡ true → b ≡ true
@@ -71,7 +73,7 @@ module _ (routers : List ConfigView) (tables : List (List BaseRow)) where
       second false b e f = f
 
   -- a router that has no interface with an address doesn't own it
-  pub not_own : (router addr : ℕ) → option_and_then (λ c. position (has_address addr) c.interfaces) (slice_get routers router) ≡ None → owns routers tables router addr ≡ false
+  pub not_own : (router addr : ℕ) → option_and_then (λ c. position (has_address addr) c.interfaces) (slice_get routers router) ≡ None → owns routers router addr ≡ false
   not_own router addr e = by_router (slice_get routers router) e
     where
       by_router : (o : Option ConfigView) → option_and_then (λ c. position (has_address addr) c.interfaces) o ≡ None → option_map_or (λ c. is_own c.interfaces addr) o false ≡ false

@@ -8,11 +8,11 @@ use Rattle.nc_types.specs.Config.{ConfigView}
 use Rattle.nc_tables.specs.declared.base.BaseRow.{BaseRow}
 use Rattle.nc_tables.specs.declared.bgp.MainRow.{MainRow}
 use Rattle.nc_tables.specs.Base.{base_table, base_tables}
-use Rattle.nc_tables.specs.Sessions.{sessions}
 use Rattle.nc_tables.specs.Main.{main_table}
 use Rattle.nc_tables.specs.State.{StateView, state_at, IsState}
 use Rattle.nc_fact.specs.Facts.{base_place, base_rows, main_rows}
-use Rattle.nc_rules_route.proofs.Members.{In, get_by_range, get_past}
+use Rattle.nc_types.proofs.Members.{In}
+use Rattle.nc_rules_route.proofs.Members.{get_by_range, get_past}
 use Rattle.nc_rules_route.proofs.MainRows.{main_of_row}
 
 module _ (s : StateView) (is : IsState s) where
@@ -38,7 +38,7 @@ module _ (s : StateView) (is : IsState s) where
 
   -- the main table of a router is as it is defined
   abbrev Mains : ℕ → List MainRow
-  Mains router = main_table s.routers (base_tables s.routers) (sessions s.routers (base_tables s.routers)) s.bgp router
+  Mains router = main_table s.routers (base_tables s.routers) s.bgp router
 
   main_is : s.main ≡ map Mains (range_with_len 0 (length s.routers))
   unfolding state_at
@@ -61,5 +61,5 @@ module _ (s : StateView) (is : IsState s) where
   -- the base row that a main row is of exists
   pub base_of_main : (router : ℕ) (m : MainRow) → In m (main_rows s router) → (place : ℕ) → base_place m.from ≡ Some place → place < length (base_rows s router)
   base_of_main router m i place of =
-      let lt = main_of_row s.routers (base_tables s.routers) (sessions s.routers (base_tables s.routers)) s.bgp router m (in_main router m i) place of in
+      let lt = main_of_row s.routers (base_tables s.routers) s.bgp router m (in_main router m i) place of in
       subst (λ (t : List (List BaseRow)). place < length (slice_index_or t router [])) (sym base_is) lt

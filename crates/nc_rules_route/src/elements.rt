@@ -1,33 +1,14 @@
 //! The elements that the parts of a router's configuration are.
 
-ghost use Rattle.std.specs.Prelude.{◌≡◌, ◌+◌, ◌<◌, [], ◌∷◌, length, take, Some, slice_get, option_and_then};
+ghost use Rattle.std.specs.Prelude.{◌≡◌, [], ◌∷◌, slice_get};
 ghost use Rattle.std.specs.Option.{option_map, option_map_or};
-ghost use Rattle.nc_types.specs.Config.{ConfigView, config_view};
-ghost use Rattle.nc_types.specs.Network.{element_count};
+ghost use Rattle.nc_types.specs.Config.{config_view};
 ghost use Rattle.nc_fact.specs.declared.fact.Fact.TheVariants as fact;
 ghost use Rattle.nc_rules_route.specs.Parents.{of_interface, of_static};
 
 use crate::configs::config_of;
 use nc_tables::Stable;
 use nc_types::{ElementId, IfaceId, RouterConfig, RouterId};
-
-// The first line of the element at a place.
-fn first_line(config: &RouterConfig, place: u32) -> Option<u32>
-    ensures { result ≡ option_and_then (λ e. slice_get e.lines 0) (slice_get (config_view config.now).elements place) }
-{
-    let element = config.elements.get(place as usize)?;
-    element.lines.first().copied()
-}
-
-// The number of the element at a place of a router, which is found by the element's first line.
-fn element_at(state: &Stable, router: RouterId, place: u32) -> Option<ElementId>
-    ensures { (c : ConfigView) → slice_get state.now.routers router.0 ≡ Some c → place < length c.elements
-        → option_map (λ e. e.0) result ≡ Some (element_count (take router.0 state.now.routers) + place) }
-{
-    let config = config_of(state, router)?;
-    let line = first_line(config, place)?;
-    state.network().owner(router, line)
-}
 
 // The place of the element that an interface is.
 fn interface_place(config: &RouterConfig, iface: IfaceId) -> Option<u32>
@@ -55,7 +36,7 @@ pub(crate) fn interface_element(
 {
     let config = config_of(state, router)?;
     let place = interface_place(config, iface)?;
-    element_at(state, router, place)
+    Some(state.network().element_id(router, place))
 }
 
 /// The element of the static route at a place of a router; `None` where there is no such route or router.
@@ -64,5 +45,5 @@ pub(crate) fn static_element(state: &Stable, router: RouterId, place: u32) -> Op
 {
     let config = config_of(state, router)?;
     let element = static_place(config, place)?;
-    element_at(state, router, element)
+    Some(state.network().element_id(router, element))
 }

@@ -11,7 +11,7 @@ ghost use Rattle.nc_rules_route.specs.Parents.{kind, parents};
 pub fn rules_are_lawful()
     // Each parent of a fact that holds does too, and has a lower rank.
     ensures below { (s : StateView) → IsState s → (f : Fact) → holds s f ≡ true
-        → All (λ p. (holds s p ≡ true) × (rank p < rank f)) (parents s f) }
+        → All (λ p. (holds s p ≡ true) × (rank s p < rank s f)) (parents s f) }
 
     // What follows from any of its parents has one.
     ensures chosen { (s : StateView) → IsState s → (f : Fact) → holds s f ≡ true → kind f ≡ Any → 0 < length (parents s f) }

@@ -1,51 +1,20 @@
 //! What follows from a way to the owner of an address.
 
-ghost use Rattle.std.specs.Prelude.{◌≡◌, ◌++◌, ◌<◌, ◌&&◌, true, length, take, position, OnOk, IfSome};
-ghost use Rattle.std.specs.Option.{option_map};
-ghost use Rattle.nc_types.specs.Network.{has_address};
+ghost use Rattle.std.specs.Prelude.{◌≡◌, ◌++◌, ◌&&◌, true, length, take, OnOk};
 ghost use Rattle.nc_tables.specs.Reach.{is_hit};
 ghost use Rattle.nc_fact.specs.declared.fact.Fact.TheVariants as fact;
 ghost use Rattle.nc_fact.specs.Facts.{holds};
-ghost use Rattle.nc_rules_route.specs.Parents.{own_interface, hops_of, parents};
+ghost use Rattle.nc_rules_route.specs.Parents.{hops_of, parents};
 
-use crate::configs::config_of;
 use nc_fact::{Fact, holds, is_hit, leads_to, longest_rows};
 use nc_tables::Stable;
-use nc_types::{Addr, IfaceId, Interface, RouterId};
+use nc_types::{Addr, RouterId};
+use nc_underlay::own_interface;
 use std::alloc::AllocError;
-
-// Whether an interface is up and has an address.
-fn has_address(interface: &Interface, addr: Addr) -> bool
-    ensures { result ≡ has_address addr.0 interface.now }
-{
-    match interface.up() {
-        Some(address) => address.addr == addr,
-        None => false,
-    }
-}
-
-// The place of the interface that is up and has an address.
-fn place_with(interfaces: &[Interface], addr: Addr) -> Option<usize>
-    ensures place { result ≡ position (has_address addr.0) interfaces.now }
-    ensures within { IfSome result (λ place. place < length interfaces.now) }
-{
-    interfaces
-        .iter()
-        .position(|interface| has_address(interface, addr))
-}
-
-// The interface of a router that is up and has an address.
-fn own_interface(state: &Stable, router: RouterId, addr: Addr) -> Option<IfaceId>
-    ensures { option_map (λ i. i.0) result ≡ own_interface state.now router.0 addr.0 }
-{
-    let config = config_of(state, router)?;
-    let place = place_with(&config.interfaces, addr)?;
-    Some(IfaceId(place as u32))
-}
 
 // Whether a row that doesn't discard makes a hop that holds.
 fn leads_on(state: &Stable, router: RouterId, row: u32, hop: &Fact) -> bool
-    ensures { result ≡ (is_hit state.now.routers state.now.base router.0 row && holds state.now hop.now) }
+    ensures { result ≡ (is_hit state.now.base router.0 row && holds state.now hop.now) }
 {
     is_hit(state, router, row) && holds(state, hop)
 }
@@ -85,7 +54,7 @@ pub(crate) fn push_reach(
     ensures ok { OnOk result (into.new.items ≡ into.old.items ++ parents state.now (fact.Reach router addr hops)) }
     ensures kept { take (length into.old.items) into.new.items ≡ into.old.items }
 {
-    match own_interface(state, router, addr) {
+    match own_interface(state.network(), router, addr) {
         Some(iface) => {
             into.push(Fact::Connected(router, iface))?;
             Ok(())

@@ -2,9 +2,9 @@
 
 ghost use Rattle.std.specs.Prelude.{◌≡◌, ◌++◌, [], ◌∷◌, length, take, slice_get, OnOk};
 ghost use Rattle.std.specs.Option.{option_map_or};
-ghost use Rattle.nc_tables.specs.State.{StateView};
+ghost use Rattle.nc_tables.specs.Base.{static_at};
 ghost use Rattle.nc_fact.specs.declared.fact.Fact.TheVariants as fact;
-ghost use Rattle.nc_fact.specs.Facts.{base_rows, static_at};
+ghost use Rattle.nc_fact.specs.Facts.{base_rows};
 ghost use Rattle.nc_rules_route.specs.Parents.{connected_by, route_of, parents};
 
 use crate::elements::{interface_element, static_element};
@@ -33,7 +33,7 @@ pub(crate) fn push_connected(
 // The interface through which the next hop of a static route is reached; none of one that discards.
 fn interface_of(state: &Stable, router: RouterId, place: u32) -> Option<IfaceId>
     ensures { option_map_or (λ iface. fact.Connected router iface ∷ []) result []
-        ≡ option_map_or (λ row. connected_by state.now router row.from) (static_at state.now router.0 place) [] }
+        ≡ option_map_or (λ row. connected_by router row.from) (static_at state.now.routers router.0 place) [] }
 {
     match static_row(state, router, place)?.from {
         BaseFrom::Static(_, iface) => Some(iface),
@@ -63,7 +63,7 @@ pub(crate) fn push_static(
 
 // The route that a row of a base table is of.
 fn route_of(router: RouterId, from: BaseFrom) -> Fact
-    ensures { (state : StateView) → result ≡ route_of state router from }
+    ensures { result ≡ route_of router from }
 {
     match from {
         BaseFrom::Connected(iface) => Fact::Connected(router, iface),

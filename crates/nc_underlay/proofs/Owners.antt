@@ -1,6 +1,7 @@
 -- The owner of an address is the one router that has it, in a network that is valid.
 use Rattle.std.proofs.Common.{◌≡◌, ℕ, zero, suc, ◌+◌, ◌<◌, ◌≤◌, Bool, true, false, cond, ◌||◌, nat_eq, List, [], ◌∷◌, ◌++◌, length, Option, Some, None, position, slice_get, refl, sym, ap, ◌∙◌, arith}
 use Rattle.std.specs.List.{list_any, filter_map, flat_map, position_from, cons_option}
+use Rattle.std.specs.Prelude.{option_and_then}
 use Rattle.std.specs.Option.{option_map, option_map_or, is_some}
 use Rattle.std.proofs.lemmas.Bool.{eqb-true, eq-eqb}
 use Rattle.std.proofs.lemmas.Bool.Decides.{nat_tests}
@@ -10,27 +11,10 @@ use Rattle.nc_types.specs.declared.config.IfaceAddr.{IfaceAddr}
 use Rattle.nc_types.specs.Config.{ConfigView}
 use Rattle.nc_types.specs.Network.{PlaceIn, up_of, has_address, owner_from, owner_of}
 use Rattle.nc_types.specs.Joining.{Clash, Numbered, Used, numbered_from, with_later, used_by, same_address, IsValid}
-use Rattle.nc_tables.specs.declared.base.BaseRow.{BaseRow}
-use Rattle.nc_tables.specs.Reach.{owns}
+use Rattle.nc_tables.specs.Reach.{own_place, owns}
+use Rattle.nc_tables.proofs.Owner.{owner_from_low}
 use Rattle.nc_underlay.specs.Levels.{flag, any_flagged}
 use Rattle.nc_underlay.proofs.Flagging.{not_true, not_left, same_truth, flagged_in, flagged_out}
-
-pub some_is : {A : Type 0} (x y : A) → Some x ≡ Some y → x ≡ y
-some_is {A} x y e = ap (λ (o : Option A). option_map_or (λ v. v) o x) e
-
--- ---- the owner's number
-
-owner_from_within : (n : ℕ) (cs : List ConfigView) (addr : ℕ) (o : PlaceIn) → owner_from n cs addr ≡ Some o → (n ≤ o.router) × (o.router < n + length cs)
-owner_from_within n [] addr o e = absurd cc
-owner_from_within n (c ∷ cs) addr o e = by_place (position (has_address addr) c.interfaces) e (owner_from_within (n + 1) cs addr o)
-  where
-    by_place : (p : Option ℕ) → option_map_or {U = Option PlaceIn} (λ place. Some (record { router = n; place = place })) p (owner_from (n + 1) cs addr) ≡ Some o
-        → (owner_from (n + 1) cs addr ≡ Some o → (n + 1 ≤ o.router) × (o.router < n + 1 + length cs)) → (n ≤ o.router) × (o.router < n + suc (length cs))
-    by_place (Some place) e later = let is : n ≡ o.router = ap (λ (p : PlaceIn). p.router) (some_is (record { router = n; place = place }) o e) in (omega (arith, is), omega (arith, is))
-    by_place None e later = let found = later e in (omega (arith, found.0), omega (arith, found.1))
-
-pub owner_within : (cs : List ConfigView) (addr : ℕ) (o : PlaceIn) → owner_of cs addr ≡ Some o → o.router < length cs
-owner_within cs addr o e = let found = owner_from_within 0 cs addr o e in omega (arith, found.1)
 
 -- ---- one address, one router
 
@@ -114,7 +98,7 @@ module _ (addr : ℕ) where
   -- a router has the address exactly where it is the owner
   owned_from : (n : ℕ) (cs : List ConfigView) (r : ℕ) → with_later shared (numbered_from n cs) ≡ [] → owns_at cs r ≡ option_map_or (λ o. nat_eq o.router (n + r)) (owner_from n cs addr) false
   owned_from n [] r none = refl
-  owned_from n (c ∷ cs) zero none = by_place (position (has_address addr) c.interfaces) (owner_from (n + 1) cs addr) (placed c.interfaces) (λ o e. (owner_from_within (n + 1) cs addr o e).0)
+  owned_from n (c ∷ cs) zero none = by_place (position (has_address addr) c.interfaces) (owner_from (n + 1) cs addr) (placed c.interfaces) (λ o e. owner_from_low (n + 1) cs addr o e)
     where
       by_place : (p : Option ℕ) (q : Option PlaceIn) → is_some p ≡ list_any (has_address addr) c.interfaces → ((o : PlaceIn) → q ≡ Some o → n + 1 ≤ o.router)
           → list_any (has_address addr) c.interfaces ≡ option_map_or (λ (o : PlaceIn). nat_eq o.router (n + 0)) (option_map_or {U = Option PlaceIn} (λ place. Some (record { router = n; place = place })) p q) false
@@ -134,20 +118,63 @@ module _ (addr : ℕ) where
           not_true (owns_at cs r) (later_free n (n + 1) c cs r (sym is) (empty_left (flat_map (shared (record { router = n; config = c })) (numbered_from (n + 1) cs)) (with_later shared (numbered_from (n + 1) cs)) none)) ∙ sym far
       by_place None is later = let e : n + 1 + r ≡ n + suc r = omega arith in later ∙ ap (λ (k : ℕ). option_map_or (λ (o : PlaceIn). nat_eq o.router k) (owner_from (n + 1) cs addr) false) e
 
+  -- and its interface is that of the owner
+  abbrev place_at : List ConfigView → ℕ → Option ℕ
+  place_at cs router = option_and_then (λ (c : ConfigView). position (has_address addr) c.interfaces) (slice_get cs router)
+
+  abbrev pub place_by : ℕ → Option PlaceIn → Option ℕ
+  place_by router q = option_and_then (λ (o : PlaceIn). cond (nat_eq o.router router) (Some o.place) None) q
+
+  none_is : (o : Option ℕ) → is_some o ≡ false → o ≡ None
+  none_is None e = refl
+  none_is (Some k) e = absurd cc
+
+  no_place : (cs : List ConfigView) (r : ℕ) → owns_at cs r ≡ false → place_at cs r ≡ None
+  no_place [] r none = refl
+  no_place (c ∷ cs) zero none = none_is (position (has_address addr) c.interfaces) (placed c.interfaces ∙ none)
+  no_place (c ∷ cs) (suc r) none = no_place cs r none
+
+  placed_from : (n : ℕ) (cs : List ConfigView) (r : ℕ) → with_later shared (numbered_from n cs) ≡ [] → place_at cs r ≡ place_by (n + r) (owner_from n cs addr)
+  placed_from n [] r none = refl
+  placed_from n (c ∷ cs) zero none = by_place (position (has_address addr) c.interfaces) (owner_from (n + 1) cs addr) (λ o e. owner_from_low (n + 1) cs addr o e)
+    where
+      by_place : (p : Option ℕ) (q : Option PlaceIn) → ((o : PlaceIn) → q ≡ Some o → n + 1 ≤ o.router)
+          → p ≡ place_by (n + 0) (option_map_or {U = Option PlaceIn} (λ place. Some (record { router = n; place = place })) p q)
+      by_place (Some place) q low = ap (λ (b : Bool). cond b (Some place) None) (sym (eq-eqb n (n + 0) (omega arith)))
+      by_place None None low = refl
+      by_place None (Some o) low =
+          let le : n + 1 ≤ o.router = low o refl in
+          let far : nat_eq o.router (n + 0) ≡ false = grind (arith, nat_tests) in
+          ap (λ (b : Bool). cond b (Some o.place) None) (sym far)
+  placed_from n (c ∷ cs) (suc r) none =
+      by_place (position (has_address addr) c.interfaces) (placed c.interfaces) (placed_from (n + 1) cs r (empty_right (flat_map (shared (record { router = n; config = c })) (numbered_from (n + 1) cs)) (with_later shared (numbered_from (n + 1) cs)) none))
+    where
+      by_place : (p : Option ℕ) → is_some p ≡ list_any (has_address addr) c.interfaces → place_at cs r ≡ place_by (n + 1 + r) (owner_from (n + 1) cs addr)
+          → place_at cs r ≡ place_by (n + suc r) (option_map_or {U = Option PlaceIn} (λ place. Some (record { router = n; place = place })) p (owner_from (n + 1) cs addr))
+      by_place (Some place) is later =
+          let far : nat_eq n (n + suc r) ≡ false = grind (arith, nat_tests) in
+          no_place cs r (not_true (owns_at cs r) (later_free n (n + 1) c cs r (sym is) (empty_left (flat_map (shared (record { router = n; config = c })) (numbered_from (n + 1) cs)) (with_later shared (numbered_from (n + 1) cs)) none)))
+          ∙ ap (λ (b : Bool). cond b (Some place) None) (sym far)
+      by_place None is later = let e : n + 1 + r ≡ n + suc r = omega arith in later ∙ ap (λ (k : ℕ). place_by k (owner_from (n + 1) cs addr)) e
+
+-- the interface of a router that has an address
+pub own_is : (routers : List ConfigView) → IsValid routers → (addr router : ℕ) → own_place routers router addr ≡ place_by addr router (owner_of routers addr)
+own_is routers valid addr router = let e : 0 + router ≡ router = omega arith in placed_from addr 0 routers router valid.addresses ∙ ap (λ (k : ℕ). place_by addr k (owner_of routers addr)) e
+
 -- ---- flagged owners
 
-module _ (routers : List ConfigView) (tables : List (List BaseRow)) (valid : IsValid routers) (addr : ℕ) where
-  owned : (r : ℕ) → owns routers tables r addr ≡ option_map_or (λ o. nat_eq o.router r) (owner_of routers addr) false
+module _ (routers : List ConfigView) (valid : IsValid routers) (addr : ℕ) where
+  owned : (r : ℕ) → owns routers r addr ≡ option_map_or (λ o. nat_eq o.router r) (owner_of routers addr) false
   owned r = let e : 0 + r ≡ r = omega arith in owned_from addr 0 routers r valid.addresses ∙ ap (λ (k : ℕ). option_map_or (λ (o : PlaceIn). nat_eq o.router k) (owner_of routers addr) false) e
 
-  owned_by : (q : Option PlaceIn) (r : ℕ) → owner_of routers addr ≡ q → owns routers tables r addr ≡ option_map_or (λ o. nat_eq o.router r) q false
+  owned_by : (q : Option PlaceIn) (r : ℕ) → owner_of routers addr ≡ q → owns routers r addr ≡ option_map_or (λ o. nat_eq o.router r) q false
   owned_by q r e = owned r ∙ ap (λ (p : Option PlaceIn). option_map_or (λ (o : PlaceIn). nat_eq o.router r) p false) e
 
-  pub no_owner : (flags : List Bool) (count : ℕ) → owner_of routers addr ≡ None → any_flagged flags (λ r. owns routers tables r addr) count ≡ false
-  no_owner flags count e = not_true (any_flagged flags (λ r. owns routers tables r addr) count) (λ is. let found = flagged_out flags (λ r. owns routers tables r addr) count is in let none : owns routers tables found.0 addr ≡ false = owned_by None found.0 e in let some : owns routers tables found.0 addr ≡ true = found.3 in absurd cc)
+  pub no_owner : (flags : List Bool) (count : ℕ) → owner_of routers addr ≡ None → any_flagged flags (λ r. owns routers r addr) count ≡ false
+  no_owner flags count e = not_true (any_flagged flags (λ r. owns routers r addr) count) (λ is. let found = flagged_out flags (λ r. owns routers r addr) count is in let none : owns routers found.0 addr ≡ false = owned_by None found.0 e in let some : owns routers found.0 addr ≡ true = found.3 in absurd cc)
 
-  pub the_owner : (flags : List Bool) (count : ℕ) (o : PlaceIn) → owner_of routers addr ≡ Some o → o.router < count → flag flags o.router ≡ any_flagged flags (λ r. owns routers tables r addr) count
+  pub the_owner : (flags : List Bool) (count : ℕ) (o : PlaceIn) → owner_of routers addr ≡ Some o → o.router < count → flag flags o.router ≡ any_flagged flags (λ r. owns routers r addr) count
   the_owner flags count o e lt =
-      same_truth (flag flags o.router) (any_flagged flags (λ r. owns routers tables r addr) count)
-      (λ is. flagged_in flags (λ r. owns routers tables r addr) count o.router lt is (owned_by (Some o) o.router e ∙ eq-eqb o.router o.router refl))
-      (λ is. let found = flagged_out flags (λ r. owns routers tables r addr) count is in let same : o.router ≡ found.0 = eqb-true o.router found.0 (sym (owned_by (Some o) found.0 e) ∙ found.3) in ap (flag flags) same ∙ found.2)
+      same_truth (flag flags o.router) (any_flagged flags (λ r. owns routers r addr) count)
+      (λ is. flagged_in flags (λ r. owns routers r addr) count o.router lt is (owned_by (Some o) o.router e ∙ eq-eqb o.router o.router refl))
+      (λ is. let found = flagged_out flags (λ r. owns routers r addr) count is in let same : o.router ≡ found.0 = eqb-true o.router found.0 (sym (owned_by (Some o) found.0 e) ∙ found.3) in ap (flag flags) same ∙ found.2)

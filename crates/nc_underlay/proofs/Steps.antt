@@ -9,7 +9,7 @@ use Rattle.nc_tables.specs.declared.base.BaseRow.{BaseRow}
 use Rattle.nc_tables.specs.Reach.{hits, leads_to, owns, reaches}
 use Rattle.nc_underlay.specs.Levels.{flag, any_flagged, is_next}
 use Rattle.nc_underlay.proofs.Flagging.{same_truth, or_left, or_right, not_left, not_true, flagged_in, flagged_out}
-use Rattle.nc_underlay.proofs.Hits.{leads_within}
+use Rattle.nc_tables.proofs.Owner.{next_within}
 
 -- ---- routers to which places lead
 
@@ -61,7 +61,7 @@ module _ (routers : List ConfigView) (tables : List (List BaseRow)) (addr : ℕ)
   within_hops hops router = reaches routers tables hops router addr
 
   abbrev owning : ℕ → Bool
-  owning router = owns routers tables router addr
+  owning router = owns routers router addr
 
   last_hop : (router : ℕ) → within_hops 0 router ≡ owning router
   unfolding reaches
@@ -72,7 +72,7 @@ module _ (routers : List ConfigView) (tables : List (List BaseRow)) (addr : ℕ)
   unfolding reaches
   last_level left level none = ap (λ (n : ℕ). any_flagged level (within_hops n) (length routers)) none
 
-  one_hop : (hops router : ℕ) → within_hops (suc hops) router ≡ (owning router || list_any (λ next. within_hops hops next.router) (filter_map (leads_to routers tables router addr) (hits routers tables router addr)))
+  one_hop : (hops router : ℕ) → within_hops (suc hops) router ≡ (owning router || list_any (λ next. within_hops hops next.router) (filter_map (leads_to routers tables router addr) (hits tables router addr)))
   unfolding reaches
   one_hop hops router = refl
 
@@ -83,12 +83,12 @@ module _ (routers : List ConfigView) (tables : List (List BaseRow)) (addr : ℕ)
   by_next : (hops router k : ℕ) → is_next routers tables router addr k ≡ true → within_hops hops k ≡ true → within_hops (suc hops) router ≡ true
   unfolding is_next
   by_next hops router k next there =
-      one_hop hops router ∙ or_right (owning router) _ (next_some (within_hops hops) (leads_to routers tables router addr) (length routers) (leads_within routers tables router addr) (hits routers tables router addr) k next there)
+      one_hop hops router ∙ or_right (owning router) _ (next_some (within_hops hops) (leads_to routers tables router addr) (length routers) (next_within routers tables router addr) (hits tables router addr) k next there)
 
   the_next : (hops router : ℕ) → owning router ≡ false → within_hops (suc hops) router ≡ true → (k : ℕ) × (k < length routers) × (is_next routers tables router addr k ≡ true) × (within_hops hops k ≡ true)
   unfolding is_next
   the_next hops router none is =
-      some_next (within_hops hops) (leads_to routers tables router addr) (length routers) (leads_within routers tables router addr) (hits routers tables router addr) (not_left (owning router) _ (sym (one_hop hops router) ∙ is) none)
+      some_next (within_hops hops) (leads_to routers tables router addr) (length routers) (next_within routers tables router addr) (hits tables router addr) (not_left (owning router) _ (sym (one_hop hops router) ∙ is) none)
 
   -- an owner among the flagged routers
   pub found : (hops : ℕ) (level : List Bool) → any_flagged level owning (length routers) ≡ true → any_flagged level (within_hops hops) (length routers) ≡ true

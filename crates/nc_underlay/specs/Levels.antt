@@ -21,4 +21,4 @@ module _ (routers : List ConfigView) (tables : List (List BaseRow)) where
 
   -- whether a hit of a router leads to another router
   unfoldable pub is_next : ℕ → ℕ → ℕ → Bool
-  is_next router addr other = list_any (leads_there router addr other) (hits routers tables router addr)
+  is_next router addr other = list_any (leads_there router addr other) (hits tables router addr)

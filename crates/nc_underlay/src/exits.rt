@@ -1,25 +1,49 @@
 //! Where a row of a base table leads.
 
-ghost use Rattle.std.specs.Prelude.{◌≡◌, ◌<◌, List, IfSome, length, nat_eq, not, ◌&&◌};
+ghost use Rattle.std.specs.Prelude.{◌≡◌, ◌<◌, IfSome, length};
 ghost use Rattle.std.specs.Option.{option_map};
-ghost use Rattle.nc_tables.specs.declared.base.BaseRow.{BaseRow};
-ghost use Rattle.nc_tables.specs.Reach.{next_hop, exit_of, is_linked, exit_leads, leads_to};
+ghost use Rattle.nc_tables.specs.Reach.{rows_of, is_hit, next_hop, exit_of, is_linked, exit_leads, leads_to, own_place};
 
-use nc_tables::{BaseFrom, BaseTables};
+use nc_tables::{BaseFrom, BaseRow, BaseTables};
 use nc_types::{Addr, IfaceId, Network, RouterId};
 
 /// A way out of a router.
 #[derive(Clone, Copy, Debug, PartialEq, Eq)]
-pub(crate) struct Exit {
+struct Exit {
     /// The interface.
-    pub(crate) iface: IfaceId,
+    iface: IfaceId,
     /// The address that is sent to there.
-    pub(crate) addr: Addr,
+    addr: Addr,
 }
 
-// The next hop of the static route at a place of a router.
-fn next_hop(network: &Network, router: RouterId, place: u32) -> Option<Addr>
-    ensures { (tables : List (List BaseRow)) → option_map (λ a. a.0) result ≡ next_hop network.now tables router.0 place }
+/// The rows of a router's base table, by place; none where there is no such router. There is a table for each
+/// router of the network.
+pub fn base_rows<'a>(network: &Network, base: &'a BaseTables, router: RouterId) -> &'a [BaseRow]
+    requires { length base.now ≡ length network.now }
+    ensures { result.now ≡ rows_of base.now router.0 }
+{
+    if (router.0 as usize) >= network.routers().len() {
+        return &[];
+    }
+    base.rows(router)
+}
+
+/// Whether the row at a place of a router's base table doesn't discard; not where there is no such row or
+/// router. Whether it is of the longest prefix is another question.
+pub fn is_hit(network: &Network, base: &BaseTables, router: RouterId, place: usize) -> bool
+    requires { length base.now ≡ length network.now }
+    ensures { result ≡ is_hit base.now router.0 place }
+{
+    match base_rows(network, base, router).get(place) {
+        Some(row) => !matches!(row.from, BaseFrom::Null(_)),
+        None => false,
+    }
+}
+
+/// The next hop of the static route at a place of a router; `None` where it discards, and where there is no
+/// such route or router.
+pub fn next_hop(network: &Network, router: RouterId, place: u32) -> Option<Addr>
+    ensures { option_map (λ a. a.0) result ≡ next_hop network.now router.0 place }
 {
     let config = network.routers().get(router.0 as usize)?;
     let route = config.statics.get(place as usize)?;
@@ -34,10 +58,11 @@ fn exit_of(
     addr: Addr,
     place: usize,
 ) -> Option<Exit>
-    requires { router.0 < length base.now }
-    ensures { option_map (λ e. record { iface = e.iface.0; addr = e.addr.0 }) result ≡ exit_of network.now base.now router.0 addr.0 place }
+    requires { length base.now ≡ length network.now }
+    ensures { option_map (λ e. record { iface = e.iface.0; addr = e.addr.0 }) result
+        ≡ exit_of network.now base.now router.0 addr.0 place }
 {
-    let row = base.rows(router).get(place)?;
+    let row = base_rows(network, base, router).get(place)?;
     match row.from {
         BaseFrom::Connected(iface) => Some(Exit { iface, addr }),
         BaseFrom::Static(route, iface) => {
@@ -56,7 +81,7 @@ fn is_linked(
     other: RouterId,
     other_iface: IfaceId,
 ) -> bool
-    ensures { (tables : List (List BaseRow)) → result ≡ is_linked network.now tables router.0 iface.0 (record { router = other.0; place = other_iface.0 }) }
+    ensures { result ≡ is_linked network.now router.0 iface.0 (record { router = other.0; place = other_iface.0 }) }
 {
     match (network.up(router, iface), network.up(other, other_iface)) {
         (Some(here), Some(there)) => here.prefix == there.prefix,
@@ -64,31 +89,45 @@ fn is_linked(
     }
 }
 
-// The router to which a way out leads.
-fn exit_leads(network: &Network, router: RouterId, exit: Exit) -> Option<RouterId>
-    ensures leads { (tables : List (List BaseRow)) → option_map (λ r. r.0) result
-        ≡ option_map (λ o. o.router) (exit_leads network.now tables router.0 (record { iface = exit.iface.0; addr = exit.addr.0 })) }
-    ensures within { IfSome result (λ r. r.0 < length network.now) }
+// The router, and its interface, to which a way out leads.
+fn exit_leads(network: &Network, router: RouterId, exit: Exit) -> Option<(RouterId, IfaceId)>
+    ensures { option_map (λ o. record { router = o.0.0; place = o.1.0 }) result
+        ≡ exit_leads network.now router.0 (record { iface = exit.iface.0; addr = exit.addr.0 }) }
 {
     let (other, iface) = network.owner_of(exit.addr)?;
     if other == router || !is_linked(network, router, exit.iface, other, iface) {
         return None;
     }
-    Some(other)
+    Some((other, iface))
 }
 
-/// The router to which the row at a place of a router leads for an address.
-pub(crate) fn leads_to(
+/// The router, and its interface, to which the row at a place of a router leads for an address; `None` where
+/// it leads nowhere, and where there is no such row or router. Whether the row is a hit is another question.
+pub fn leads_to(
     network: &Network,
     base: &BaseTables,
     router: RouterId,
     addr: Addr,
     place: usize,
-) -> Option<RouterId>
-    requires { router.0 < length base.now }
-    ensures leads { option_map (λ r. r.0) result ≡ option_map (λ o. o.router) (leads_to network.now base.now router.0 addr.0 place) }
-    ensures within { IfSome result (λ r. r.0 < length network.now) }
+) -> Option<(RouterId, IfaceId)>
+    requires { length base.now ≡ length network.now }
+    ensures leads { option_map (λ o. record { router = o.0.0; place = o.1.0 }) result
+        ≡ leads_to network.now base.now router.0 addr.0 place }
+    ensures within { IfSome result (λ o. o.0.0 < length network.now) }
 {
     let exit = exit_of(network, base, router, addr, place)?;
     exit_leads(network, router, exit)
+}
+
+/// The interface of a router that is up and has an address; `None` where it has none such, and where there is no
+/// such router.
+pub fn own_interface(network: &Network, router: RouterId, addr: Addr) -> Option<IfaceId>
+    ensures { option_map (λ i. i.0) result ≡ own_place network.now router.0 addr.0 }
+{
+    let _routers = network.routers();
+    let (owner, iface) = network.owner_of(addr)?;
+    if owner == router {
+        return Some(iface);
+    }
+    None
 }

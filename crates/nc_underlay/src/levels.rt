@@ -1,31 +1,28 @@
 //! Routers by levels, as flags.
 
-ghost use Rattle.std.specs.Prelude.{◌≡◌, ◌<◌, ◌≤◌, ◌||◌, ◌==◌, ℕ, List, false, length};
+ghost use Rattle.std.specs.Prelude.{◌≡◌, ◌<◌, ◌≤◌, ◌||◌, ◌==◌, ℕ, false, length};
+ghost use Rattle.nc_types.specs.declared.TheConstants.{ROUTER_LIMIT};
 ghost use Rattle.nc_types.specs.Joining.{IsValid};
-ghost use Rattle.nc_tables.specs.declared.base.BaseRow.{BaseRow};
 ghost use Rattle.nc_tables.specs.Reach.{owns};
 ghost use Rattle.nc_underlay.specs.Levels.{flag, any_flagged, is_next};
 
 use crate::exits::leads_to;
 use nc_tables::BaseTables;
-use nc_types::{Addr, Network, RouterId};
-
-/// How many routers a network has at most.
-pub(crate) const MOST_ROUTERS: usize = 256;
+use nc_types::{Addr, Network, ROUTER_LIMIT, RouterId};
 
 // No router is flagged.
-fn no_flags() -> [bool; MOST_ROUTERS]
+fn no_flags() -> [bool; ROUTER_LIMIT]
     ensures flags { (other : ℕ) → flag result other ≡ false }
-    ensures len { length result ≡ 256 }
+    ensures len { length result ≡ ROUTER_LIMIT }
 {
-    [false; MOST_ROUTERS]
+    [false; ROUTER_LIMIT]
 }
 
 /// The flag of one router alone.
-pub(crate) fn flag_alone(router: RouterId) -> [bool; MOST_ROUTERS]
-    requires { router.0 < 256 }
+pub(crate) fn flag_alone(router: RouterId) -> [bool; ROUTER_LIMIT]
+    requires { router.0 < ROUTER_LIMIT }
     ensures flags { (other : ℕ) → flag result other ≡ (other == router.0) }
-    ensures len { length result ≡ 256 }
+    ensures len { length result ≡ ROUTER_LIMIT }
 {
     let mut flags = no_flags();
     flags[router.0 as usize] = true;
@@ -35,13 +32,15 @@ pub(crate) fn flag_alone(router: RouterId) -> [bool; MOST_ROUTERS]
 // Flags the routers to which the hits of a router lead.
 fn flag_next(network: &Network, base: &BaseTables, router: RouterId, addr: Addr, flags: &mut [bool])
     requires router { router.0 < length base.now }
+    requires tables { length base.now ≡ length network.now }
     requires room { length network.now ≤ length flags.old }
     ensures len { length flags.new ≡ length flags.old }
-    ensures flags { (other : ℕ) → flag flags.new other ≡ (flag flags.old other || is_next network.now base.now router.0 addr.0 other) }
+    ensures flags { (other : ℕ) → flag flags.new other
+        ≡ (flag flags.old other || is_next network.now base.now router.0 addr.0 other) }
 {
     let rows = base.longest(router, addr);
     'rows: for place in rows.from..rows.to {
-        if let Some(other) = leads_to(network, base, router, addr, place) {
+        if let Some((other, _)) = leads_to(network, base, router, addr, place) {
             flags[other.0 as usize] = true;
         }
     }
@@ -52,14 +51,15 @@ pub(crate) fn next_level(
     network: &Network,
     base: &BaseTables,
     addr: Addr,
-    level: &[bool; MOST_ROUTERS],
+    level: &[bool; ROUTER_LIMIT],
     count: usize,
-) -> [bool; MOST_ROUTERS]
+) -> [bool; ROUTER_LIMIT]
     requires count { count ≡ length network.now }
-    requires few { count ≤ 256 }
+    requires few { count ≤ ROUTER_LIMIT }
     requires tables { length base.now ≡ length network.now }
-    ensures len { length result ≡ 256 }
-    ensures flags { (other : ℕ) → flag result other ≡ any_flagged level.now (λ router. is_next network.now base.now router addr.0 other) (length network.now) }
+    ensures len { length result ≡ ROUTER_LIMIT }
+    ensures flags { (other : ℕ) → flag result other
+        ≡ any_flagged level.now (λ router. is_next network.now base.now router addr.0 other) (length network.now) }
 {
     let mut next = no_flags();
     'routers: for router in 0..count {
@@ -71,10 +71,10 @@ pub(crate) fn next_level(
 }
 
 /// Whether a flagged router owns an address.
-pub(crate) fn has_owner(network: &Network, addr: Addr, level: &[bool; MOST_ROUTERS]) -> bool
+pub(crate) fn has_owner(network: &Network, addr: Addr, level: &[bool; ROUTER_LIMIT]) -> bool
     requires valid { IsValid network.now }
-    requires few { length network.now ≤ 256 }
-    ensures { (tables : List (List BaseRow)) → result ≡ any_flagged level.now (λ router. owns network.now tables router addr.0) (length network.now) }
+    requires few { length network.now ≤ ROUTER_LIMIT }
+    ensures { result ≡ any_flagged level.now (λ router. owns network.now router addr.0) (length network.now) }
 {
     match network.owner_of(addr) {
         Some((owner, _)) => level[owner.0 as usize],

@@ -5,4 +5,4 @@ use Rattle.nc_fact.proofs.exits.has_hit.Given as goal
 
 -- no row so far is a hit
 abbrev pub invariant-rows : goal.invariant-rows
-invariant-rows l = list_any (is_hit l.state.routers l.state.base l.router.0) (range_with_len l.initial.place (l.place - l.initial.place)) ≡ false
+invariant-rows l = list_any (is_hit l.state.base l.router.0) (range_with_len l.initial.place (l.place - l.initial.place)) ≡ false

@@ -1,18 +1,13 @@
-use Rattle.std.proofs.Common.{◌<◌, ◌^◌, length, sym, ap, arith, get_or, [], List}
+use Rattle.std.proofs.Common.{◌<◌, ◌^◌, length, ap, arith, get_or, [], List}
 use Rattle.nc_types.specs.Network.{element_count}
 use Rattle.nc_tables.specs.declared.base.BaseRow.{BaseRow}
-use Rattle.nc_fact.proofs.Beyond.{beyond_by, no_base}
 use Rattle.nc_fact.proofs.Few.{few_rows}
 use Rattle.nc_fact.proofs.rows.base_rows.Goals as goal
 
-pub returns-then-not-has_router-clause-rows : goal.returns-then-not-has_router-clause-rows
-returns-then-not-has_router-clause-rows c =
-    sym (no_base c.args.state.now c.has_router.ensures.state c.args.router.0 (beyond_by c.has_router.result c.args.router.0 (length c.args.state.now.routers) c.has_router.ensures.within.1 c.if-not-has_router.true))
-
 pub returns-clause-few : goal.returns-clause-few
 returns-clause-few c =
-    let counted = ap element_count c.network.ensures.network in
+    let counted = ap element_count c.network-network.ensures.network in
     let count : element_count c.args.state.now.routers < 2 ^ 32 = omega (arith, counted, c.element_count-count.ensures, c.element_count-count.type_inv) in
-    let rows = ap (λ (rs : List BaseRow). length rs) c.rows.ensures.rows in
+    let rows = ap (λ (rs : List BaseRow). length rs) c.base_rows.ensures in
     let table = ap (λ (ts : List (List BaseRow)). length (get_or ts c.args.router.0 [])) c.base.ensures.base in
     omega (arith, rows, table, few_rows c.args.state.now c.base.ensures.state count c.args.router.0)

@@ -15,11 +15,11 @@ pub rows-preserved : goal.rows-preserved
 rows-preserved c =
     let rows = c.main_rows-rows in
     let fact : Fact = Main c.args.router c.rows.place in
-    let within = ap (λ (rs : List MainRow). length rs) rows.ensures in
+    let within = ap (λ (rs : List MainRow). length rs) rows.ensures.rows in
     let lt : c.rows.place < length rows.result.now = omega (arith, within, c.rows-test.true, c.main_rows_of-found.ensures.within) in
     let step : (b : Bool) → (has_hop c.args.state.now c.args.router.0 c.args.via c.index-rows-place.result && holds c.args.state.now fact) ≡ b
     → c.rows.facts.items ++ cond b (fact ∷ []) [] ≡ facts_at c.args.state.now c.args.router c.args.via (range_with_len c.main_rows_of-found.result.from (c.rows.place + 1 - c.main_rows_of-found.result.from)) =
-    λ b is. facts_step c.args.state.now c.args.router c.args.via rows.result.now c.main_rows_of-found.result.from c.rows.place c.index-rows-place.result b c.rows.facts.items rows.ensures c.rows.auto.place lt c.index-rows-place.is is c.rows.invariant in
+    λ b is. facts_step c.args.state.now c.args.router c.args.via rows.result.now c.main_rows_of-found.result.from c.rows.place c.index-rows-place.result b c.rows.facts.items rows.ensures.rows c.rows.auto.place lt c.index-rows-place.is is c.rows.invariant in
     elim c.if-is_tested.branch [
       | then-is_tested+in_ok-push w ↦ ap (λ (v : Vec Fact Global). v.items) w.facts-is ∙ w.in_ok-push.ensures.items ∙ step true (sym c.is_tested.ensures ∙ w.if-is_tested.true)
       | else-is_tested w ↦ ap (λ (v : Vec Fact Global). v.items) w.facts-is ∙ sym (append-nil c.rows.facts.items) ∙ step false (sym c.is_tested.ensures ∙ w.if-is_tested.false)

@@ -10,7 +10,7 @@ pub rows-preserved : goal.rows-preserved
 rows-preserved c =
     let s = c.args.state.now in
     let hop = λ (row : ℕ). Hop c.args.router c.args.addr row c.args.hops in
-    let hit = is_hit s.routers s.base c.args.router.0 in
+    let hit = is_hit s.base c.args.router.0 in
     let from = c.longest_rows-rows.result.from in
     let place = c.rows.place in
     let more = kept_more hop hit (holds s) from place c.rows.auto.place in

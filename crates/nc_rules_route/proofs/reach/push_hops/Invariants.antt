@@ -7,4 +7,4 @@ use Rattle.nc_rules_route.proofs.reach.push_hops.Given as goal
 
 -- the hops so far
 abbrev pub invariant-rows : goal.invariant-rows
-invariant-rows l = l.into.items ≡ l.fn.into.items ++ filter (holds l.state) (made_between (λ row. Hop l.router l.addr row l.hops) (is_hit l.state.routers l.state.base l.router.0) l.initial.place l.place)
+invariant-rows l = l.into.items ≡ l.fn.into.items ++ filter (holds l.state) (made_between (λ row. Hop l.router l.addr row l.hops) (is_hit l.state.base l.router.0) l.initial.place l.place)

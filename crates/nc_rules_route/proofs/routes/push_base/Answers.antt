@@ -8,6 +8,5 @@ use Rattle.nc_rules_route.proofs.routes.push_base.Goals as goal
 pub returns-in_ok-push-clause-ok : goal.returns-in_ok-push-clause-ok
 unfolding parents
 returns-in_ok-push-clause-ok c =
-    let s = c.args.state.now in
-    c.in_ok-push.ensures.items ∙ ap (λ (f : Fact). c.args.into.now.items ++ f ∷ []) (c.route_of.ensures s)
-    ∙ ap (λ (o : Option BaseRow). c.args.into.now.items ++ option_map_or (λ r. route_of s c.args.router r.from ∷ []) o []) c.in-Some.ensures
+    c.in_ok-push.ensures.items ∙ ap (λ (f : Fact). c.args.into.now.items ++ f ∷ []) c.route_of.ensures
+    ∙ ap (λ (o : Option BaseRow). c.args.into.now.items ++ option_map_or (λ r. route_of c.args.router r.from ∷ []) o []) c.in-Some.ensures

@@ -8,7 +8,7 @@ use Rattle.nc_rules_route.proofs.rows.push_resolve.Goals.{then-is_hit+in_ok-push
 pub rows-preserved : goal.rows-preserved
 rows-preserved c =
     let row = Base c.args.router in
-    let hit = is_hit c.args.state.now.routers c.args.state.now.base c.args.router.0 in
+    let hit = is_hit c.args.state.now.base c.args.router.0 in
     let from = c.longest_rows-longest.result.from in
     let place = c.rows.place in
     let more = made_more row hit from place c.rows.auto.place in

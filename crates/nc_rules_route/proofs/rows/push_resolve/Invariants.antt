@@ -6,4 +6,4 @@ use Rattle.nc_rules_route.proofs.rows.push_resolve.Given as goal
 
 -- the hits so far
 abbrev pub invariant-rows : goal.invariant-rows
-invariant-rows l = l.into.items ≡ l.fn.into.items ++ made_between (Base l.router) (is_hit l.state.routers l.state.base l.router.0) l.initial.place l.place
+invariant-rows l = l.into.items ≡ l.fn.into.items ++ made_between (Base l.router) (is_hit l.state.base l.router.0) l.initial.place l.place

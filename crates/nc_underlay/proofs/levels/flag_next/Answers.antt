@@ -14,7 +14,7 @@ rows-preserved c = record {
       (elim c.match-leads_to.branch [
         | in-Some w ↦
             ap (λ fs. flag fs other) w.flags-is ∙ flagged_one c.rows.flags w.in-Some.other.0 other (omega (arith, w.in-Some.ensures.within, c.requires.room, c.rows.auto.flags))
-            ∙ ap (λ b. flag c.rows.flags other || b) (sym (leads_there_is c.args.network.now c.args.base.now c.args.router.0 c.args.addr.0 other c.rows.place (Some w.in-Some.other.0) w.in-Some.ensures.leads))
+            ∙ ap (λ b. flag c.rows.flags other || b) (sym (leads_there_is c.args.network.now c.args.base.now c.args.router.0 c.args.addr.0 other c.rows.place (Some (record { router = w.in-Some.other.0; place = w.in-Some.field-0-1.0 })) w.in-Some.ensures.leads))
         | in_default w ↦
             ap (λ fs. flag fs other) w.flags-is ∙ sym (or_false (flag c.rows.flags other))
             ∙ ap (λ b. flag c.rows.flags other || b) (sym (leads_there_is c.args.network.now c.args.base.now c.args.router.0 c.args.addr.0 other c.rows.place None w.in_default.ensures.leads))

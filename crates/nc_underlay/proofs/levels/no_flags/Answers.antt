@@ -1,3 +1,4 @@
+use Rattle.nc_types.specs.declared.TheConstants.{ROUTER_LIMIT}
 use Rattle.std.proofs.Common.{◌≡◌, ℕ, zero, suc, false, get_or, replicate, refl}
 use Rattle.nc_underlay.proofs.levels.no_flags.Goals as goal
 
@@ -7,4 +8,4 @@ none (suc n) zero = refl
 none (suc n) (suc k) = none n k
 
 pub returns-clause-flags : goal.returns-clause-flags
-returns-clause-flags c other = none 256 other
+returns-clause-flags c other = none ROUTER_LIMIT other

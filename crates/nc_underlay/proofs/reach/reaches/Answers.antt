@@ -10,15 +10,15 @@ levels-init c = record {
 
 pub returns-then-has_owner : goal.returns-then-has_owner
 returns-then-has_owner c =
-    sym (c.levels.invariant.answer ∙ found c.args.network.now c.args.base.now c.args.addr.0 c.levels.left c.levels.level (sym (c.has_owner.ensures c.args.base.now) ∙ c.if-has_owner.true))
+    sym (c.levels.invariant.answer ∙ found c.args.network.now c.args.base.now c.args.addr.0 c.levels.left c.levels.level (sym c.has_owner.ensures ∙ c.if-has_owner.true))
 
 pub levels-preserved : goal.levels-preserved
 levels-preserved c = record {
-  answer = c.levels.invariant.answer ∙ passed c.args.network.now c.args.base.now c.args.addr.0 c.levels.left (c.levels.left - 1) c.levels.level c.next_level-level.result (omega arith) (sym (c.has_owner.ensures c.args.base.now) ∙ c.if-has_owner.false) c.next_level-level.ensures.flags;
+  answer = c.levels.invariant.answer ∙ passed c.args.network.now c.args.base.now c.args.addr.0 c.levels.left (c.levels.left - 1) c.levels.level c.next_level-level.result (omega arith) (sym c.has_owner.ensures ∙ c.if-has_owner.false) c.next_level-level.ensures.flags;
   size = c.next_level-level.ensures.len;
 }
 
 pub returns : goal.returns
 returns c =
     let none : c.levels.left ≡ 0 = omega arith in
-    c.has_owner-2.ensures c.args.base.now ∙ sym (c.levels.invariant.answer ∙ last_level c.args.network.now c.args.base.now c.args.addr.0 c.levels.left c.levels.level none)
+    c.has_owner-2.ensures ∙ sym (c.levels.invariant.answer ∙ last_level c.args.network.now c.args.base.now c.args.addr.0 c.levels.left c.levels.level none)
