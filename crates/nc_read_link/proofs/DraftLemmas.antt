@@ -13,7 +13,7 @@ use Rattle.nc_read_link.specs.declared.setting.Setting.TheVariants.{Address, NoA
 use Rattle.nc_read_link.specs.declared.draft.Draft.{Draft}
 use Rattle.nc_lines.specs.Parts.{Numbered}
 use Rattle.nc_lines.proofs.PartLemmas.{last_from, no_fault, a_fault, not_stated, stated}
-use Rattle.nc_read_link.specs.Interfaces.{InterfacePart, InterfaceStatement, line_says, setting_says, interface_fault, interface_statements, lines_in, name_in, interface_in, address_by, shut_by}
+use Rattle.nc_read_link.specs.Interfaces.{InterfacePart, InterfaceStatement, line_says, setting_says, interface_fault, interface_statements, lines_in, interface_in, address_by, shut_by}
 use Rattle.nc_read_link.specs.Drafts.{address_behind, shut_behind, part_of, finished}
 
 -- ---- what a line says
@@ -103,12 +103,11 @@ tells_line name d l cause block inside e =
     ap (λ (f : Option Fault). made name f (address_behind d.address (interface_statements (l ∷ block))) (shut_behind d.shut (interface_statements (l ∷ block))) (d.lines.items ++ lines_in (l ∷ block))) (a_fault line_says l block cause (indented_says l inside ∙ e))
 
 -- the first line of a block finds nothing set
-pub started : (name : List ℕ) (d : Draft) (block : List Numbered) → d.address ≡ None → d.shut ≡ false → d.lines.items ≡ [] → name ≡ name_in block → finished name d block ≡ interface_in block
+pub started : (name : List ℕ) (d : Draft) (block : List Numbered) → d.address ≡ None → d.shut ≡ false → d.lines.items ≡ [] → finished name d block ≡ interface_in name block
 unfolding finished interface_in
-started name d block none opened bare named =
+started name d block none opened bare =
     let ss = interface_statements block in
-    ap (λ (name : List ℕ). made name (interface_fault block) (address_behind d.address ss) (shut_behind d.shut ss) (d.lines.items ++ lines_in block)) named
-    ∙ made_same (name_in block) _ _ _ _ _ _ _ _ refl
+    made_same name _ _ _ _ _ _ _ _ refl
     (ap (λ (a : Option (ℕ × IfaceAddr)). address_behind a ss) none ∙ last_from None (filter_map (λ (s : InterfaceStatement). address_by s.line s.setting) ss))
     (ap (λ (b : Bool). shut_behind b ss) opened ∙ last_from false (filter_map (λ (s : InterfaceStatement). shut_by s.setting) ss))
     (ap (λ (ls : List ℕ). ls ++ lines_in block) bare)

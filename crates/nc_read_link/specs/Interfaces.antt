@@ -11,7 +11,7 @@ use Rattle.nc_types.specs.declared.fault.Cause.TheVariants.{Syntax, Unsupported}
 use Rattle.nc_lines.specs.Lines.{words_of, is_indented}
 use Rattle.nc_lines.specs.Numbers.{address_of}
 use Rattle.nc_lines.specs.Statements.{Reading, Outside, Faulty, Says, after, begins, alone_says, said_of}
-use Rattle.nc_lines.specs.Parts.{Numbered, Stated, first_of, fault_in, statements_in}
+use Rattle.nc_lines.specs.Parts.{Numbered, Stated, fault_in, statements_in}
 use Rattle.nc_read_link.specs.declared.setting.Setting.{Setting}
 use Rattle.nc_read_link.specs.declared.setting.Setting.TheVariants.{Address, NoAddress, Shut}
 
@@ -91,10 +91,6 @@ interface_statements block = statements_in line_says block
 abbrev pub lines_in : List Numbered → List ℕ
 lines_in block = map (λ l. l.line) (filter (λ l. not (is_indented l.text) || is_some (said_of (line_says l))) block)
 
--- the word behind `interface` in the first line
-abbrev pub name_in : List Numbered → List ℕ
-name_in block = unwrap_or (option_and_then (λ l. option_and_then first_of (after (codes "interface" ∷ []) (words_of l.text))) (first_of block)) []
-
 -- what a statement says of the address: its line and the address, or that there is none
 abbrev pub address_by : ℕ → Setting → Option (Option (ℕ × IfaceAddr))
 address_by line (Address a) = Some (Some (line, a))
@@ -124,7 +120,7 @@ interface_of name ss =
       element = 0;
     }
 
--- the interface of a block, or the fault of its first faulty line
-unfoldable pub interface_in : List Numbered → Result InterfacePart Fault
-interface_in block =
-    option_map_or Err (interface_fault block) (Ok (record { interface = interface_of (name_in block) (interface_statements block); lines = lines_in block }))
+-- the interface of this name that its block makes, or the fault of the first faulty line
+unfoldable pub interface_in : List ℕ → List Numbered → Result InterfacePart Fault
+interface_in name block =
+    option_map_or Err (interface_fault block) (Ok (record { interface = interface_of name (interface_statements block); lines = lines_in block }))

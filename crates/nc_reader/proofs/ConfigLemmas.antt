@@ -1,10 +1,10 @@
 -- The parts of a file are those of the definitions, and make its configuration.
-use Rattle.std.proofs.Common.{◌≡◌, ℕ, suc, ◌+◌, ◌≤◌, Bool, List, [], ◌∷◌, ◌++◌, length, map, Option, Some, None, Result, Ok, Err, refl, sym, ap, ◌∙◌, arith}
+use Rattle.std.proofs.Common.{◌≡◌, ℕ, zero, suc, ◌+◌, ◌<◌, ◌≤◌, Bool, List, [], ◌∷◌, ◌++◌, length, map, take, get_or, Option, Some, None, Result, Ok, Err, refl, sym, ap, ◌∙◌, arith}
 use Rattle.std.specs.List.{filter_map, cons_option, list_any}
 use Rattle.std.specs.Option.{option_map_or}
 use Rattle.std.specs.Str.{bytes_eq}
 use Rattle.std.proofs.lemmas.Bool.{cond_both}
-use Rattle.std.proofs.lemmas.List.{length-map, length_push}
+use Rattle.std.proofs.lemmas.List.{length-map, length_push, take_all}
 use Rattle.nc_types.specs.Config.{ElementView, ConfigView, ClauseView, PrefixListView}
 use Rattle.nc_types.specs.Faults.{lowest}
 use Rattle.nc_types.specs.declared.config.Interface.{Interface}
@@ -16,22 +16,48 @@ use Rattle.nc_lines.specs.declared.block.Block.{Block}
 use Rattle.nc_lines.specs.Parts.{numbered}
 use Rattle.nc_read_link.specs.Interfaces.{InterfacePart, interface_in}
 use Rattle.nc_read_link.specs.Statics.{static_at}
+use Rattle.nc_reader.specs.Parts.{interfaces_by}
 use Rattle.nc_reader.specs.Groups.{Keyed, Group, with_key, keys_from, of_key, groups}
 use Rattle.nc_reader.specs.Roles.{Role, Passed, Wrong, Names, Within, Routes, Placed, roles_from}
 use Rattle.nc_reader.specs.Configuration.{Routed, RoutePart, RouteKeyView, key_of, same_key, route_part, routed, name_of, within_at, blocks_of, interfaces_of, route_at, route_lines, routes_of, statics_of, ok_of, faults_of, pieces_of, in_order, place_of, first_in, with_place, route_with_place, config_of, configuration}
 
 -- ---- what is read of blocks
 
-pub read-blocks : (lines : List (List ℕ)) (blocks : List Block) (gs : List (Group (List ℕ) ℕ)) → map (λ b. b.lines.items) blocks ≡ map (λ g. g.values) gs
-    → map (λ b. interface_in (numbered lines b.lines.items)) blocks ≡ map (λ g. interface_in (numbered lines g.values)) gs
-read-blocks lines [] [] same = refl
-read-blocks lines [] (g ∷ gs) same = absurd cc
-read-blocks lines (b ∷ blocks) [] same = absurd cc
-read-blocks lines (b ∷ blocks) (g ∷ gs) same =
+pub read-blocks : (lines names : List (List ℕ)) (blocks : List Block) (gs : List (Group (List ℕ) ℕ)) → names ≡ map (λ g. g.key) gs → map (λ b. b.lines.items) blocks ≡ map (λ g. g.values) gs
+    → interfaces_by lines names blocks ≡ map (λ g. interface_in g.key (numbered lines g.values)) gs
+read-blocks lines [] [] [] named same = refl
+read-blocks lines [] [] (g ∷ gs) named same = absurd cc
+read-blocks lines [] (b ∷ blocks) [] named same = refl
+read-blocks lines [] (b ∷ blocks) (g ∷ gs) named same = absurd cc
+read-blocks lines (n ∷ names) blocks [] named same = absurd cc
+read-blocks lines (n ∷ names) [] (g ∷ gs) named same = absurd cc
+read-blocks lines (n ∷ names) (b ∷ blocks) (g ∷ gs) named same =
+    let key : n ≡ g.key = cc in
+    let keys : names ≡ map (λ (g : Group (List ℕ) ℕ). g.key) gs = cc in
     let first : b.lines.items ≡ g.values = cc in
     let rest : map (λ (b : Block). b.lines.items) blocks ≡ map (λ (g : Group (List ℕ) ℕ). g.values) gs = cc in
-    ap (λ (ks : List ℕ). interface_in (numbered lines ks) ∷ map (λ b. interface_in (numbered lines b.lines.items)) blocks) first
-    ∙ ap (λ (rs : List (Result InterfacePart Fault)). interface_in (numbered lines g.values) ∷ rs) (read-blocks lines blocks gs rest)
+    ap (λ (ks : List ℕ). interface_in n (numbered lines ks) ∷ interfaces_by lines names blocks) first
+    ∙ ap (λ (name : List ℕ). interface_in name (numbered lines g.values) ∷ interfaces_by lines names blocks) key
+    ∙ ap (λ (rs : List (Result InterfacePart Fault)). interface_in g.key (numbered lines g.values) ∷ rs) (read-blocks lines names blocks gs keys rest)
+
+-- the next interface
+pub interfaces_by-more : (lines names : List (List ℕ)) (blocks : List Block) (k : ℕ) (name : List ℕ) (block : Block) → length names ≡ length blocks → k < length blocks → name ≡ get_or names k name → block ≡ get_or blocks k block
+    → interfaces_by lines (take (k + 1) names) (take (k + 1) blocks) ≡ interfaces_by lines (take k names) (take k blocks) ++ interface_in name (numbered lines block.lines.items) ∷ []
+interfaces_by-more lines names blocks k name block len lt named read = let e : k + 1 ≡ suc k = omega arith in rw e (by_places names blocks k len lt named read)
+  where
+    by_places : (names : List (List ℕ)) (blocks : List Block) (k : ℕ) → length names ≡ length blocks → k < length blocks → name ≡ get_or names k name → block ≡ get_or blocks k block
+        → interfaces_by lines (take (suc k) names) (take (suc k) blocks) ≡ interfaces_by lines (take k names) (take k blocks) ++ interface_in name (numbered lines block.lines.items) ∷ []
+    by_places [] blocks k len lt named read = absurd (omega arith)
+    by_places (n ∷ names) [] k len lt named read = absurd (omega arith)
+    by_places (n ∷ names) (b ∷ blocks) zero len lt named read =
+        ap (λ (m : List ℕ). interface_in m (numbered lines b.lines.items) ∷ []) (sym named) ∙ ap (λ (c : Block). interface_in name (numbered lines c.lines.items) ∷ []) (sym read)
+    by_places (n ∷ names) (b ∷ blocks) (suc k) len lt named read =
+        ap (λ (rs : List (Result InterfacePart Fault)). interface_in n (numbered lines b.lines.items) ∷ rs) (by_places names blocks k (omega arith) (omega arith) named read)
+
+-- all of them
+pub interfaces_by-all : (lines names : List (List ℕ)) (blocks : List Block) (k : ℕ) → length names ≡ length blocks → length blocks ≤ k → interfaces_by lines (take k names) (take k blocks) ≡ interfaces_by lines names blocks
+interfaces_by-all lines names blocks k len past =
+    ap (λ (ns : List (List ℕ)). interfaces_by lines ns (take k blocks)) (take_all k names (omega arith)) ∙ ap (interfaces_by lines names) (take_all k blocks past)
 
 -- ---- how many parts there are
 
@@ -81,7 +107,7 @@ few-parts lines m n own others =
     let with_its_key : Routed → Keyed RouteKeyView Routed = λ r. record { key = key_of r.route; value = r } in
     let keyed_read : List (Keyed RouteKeyView Routed) = map with_its_key read in
     let interfaces : m ≤ length ps =
-    omega (arith, own, length-filter_map ok_of (interfaces_of lines rs), length-map (blocks_of rs) (λ g. interface_in (numbered lines g.values)), length-groups bytes_eq ps) in
+    omega (arith, own, length-filter_map ok_of (interfaces_of lines rs), length-map (blocks_of rs) (λ g. interface_in g.key (numbered lines g.values)), length-groups bytes_eq ps) in
     let statics : n ≤ length read =
     omega (arith, others, length-filter_map (λ (g : Group RouteKeyView Routed). route_part g.values) (groups same_key keyed_read), length-groups same_key keyed_read, length-map read with_its_key) in
     let statements : length read ≤ length (route_lines rs) =

@@ -11,13 +11,13 @@ use Rattle.nc_lines.specs.Lines.{line_at}
 use Rattle.nc_lines.specs.Blocks.{is_open, header_of}
 use Rattle.nc_lines.specs.declared.block.Block.{Block}
 use Rattle.nc_reader.specs.Roles.{Role, Passed, Wrong, Names, Within, Routes, Placed, block_of, role_of, roles_from}
-use Rattle.nc_reader.specs.Groups.{groups}
+use Rattle.nc_reader.specs.Groups.{Group, of_key, groups}
 use Rattle.nc_reader.specs.Gathering.{IsLine, Gathers, sketch}
 use Rattle.nc_reader.specs.Readings.{lines_in}
 use Rattle.nc_reader.specs.Steps.{Kind, Banner, Idle, Member, Heads, kind_of, Sketch, IsSteady, blank, with_value, put_at, joined, stepped}
 use Rattle.nc_reader.specs.declared.gather.Draft.{Draft}
 use Rattle.nc_reader.specs.declared.gather.Gathered.{Gathered}
-use Rattle.nc_reader.proofs.GroupLemmas.{place_known, place_with_key, known-with_key}
+use Rattle.nc_reader.proofs.GroupLemmas.{keys_of, place_known, place_with_key, known-with_key}
 use Rattle.nc_reader.proofs.KindLemmas.{role_by, open_by, block_by, role_is, open_is, block_is}
 use Rattle.nc_reader.proofs.SeenLemmas.{Sees, within_of, IsBlock, sees_more}
 
@@ -195,13 +195,21 @@ All-unmap : {X Y : Type 0} (P : Y → Type 0) (f : X → Y) (xs : List X) → Al
 All-unmap P f [] all = All-nil (λ x. P (f x))
 All-unmap P f (x ∷ xs) all = All-cons (λ x. P (f x)) x xs (All-head P (f x) (map f xs) all) (All-unmap P f xs (All-tail P (f x) (map f xs) all))
 
-pub all_gathered : (lines : List (List ℕ)) (count : ℕ) (d : Draft) (g : Gathered) → length lines ≤ count → IsSoFar lines count (sketch d) → g.name ≡ d.name → g.interfaces ≡ d.blocks → g.routes ≡ d.routes → g.fault ≡ d.fault → Gathers lines g
-all_gathered lines count d g none h name interfaces routes fault =
+abbrev group_by : {K V : Type 0} → (K → List V) → K → Group K V
+group_by f key = record { key = key; values = f key }
+
+keys_are : {K V : Type 0} (f : K → List V) (keys : List K) → map (λ (g : Group K V). g.key) (map (λ (key : K). group_by f key) keys) ≡ keys
+keys_are f [] = refl
+keys_are {K} f (key ∷ keys) = ap (λ (ks : List K). key ∷ ks) (keys_are f keys)
+
+pub all_gathered : (lines : List (List ℕ)) (count : ℕ) (d : Draft) (g : Gathered) → length lines ≤ count → IsSoFar lines count (sketch d) → g.name ≡ d.name → g.names ≡ d.names → g.interfaces ≡ d.blocks → g.routes ≡ d.routes → g.fault ≡ d.fault → Gathers lines g
+all_gathered lines count d g none h name names interfaces routes fault =
     let seen : h.seen ≡ roles_from [] lines =
     sym (append-nil h.seen) ∙ sym (ap (λ (rs : List Placed). h.seen ++ rs) (roles_end h.earlier)) ∙ sym (ap (λ (ls : List (List ℕ)). h.seen ++ roles_from h.earlier ls) (drop_all count lines none)) ∙ sym h.whole in
     let sees = subst (λ (rs : List Placed). Sees rs (sketch d)) seen h.gathered in
     record {
       name = name ∙ sees.name;
+      names = ap (λ ns. ns.keys) names ∙ sees.names ∙ sym (keys_are (λ (key : List ℕ). of_key bytes_eq key (within_of (roles_from [] lines))) (keys_of bytes_eq (within_of (roles_from [] lines))));
       interfaces = ap (λ bs. lines_in bs.items) interfaces ∙ sees.blocks;
       routes = ap (λ rs. rs.items) routes ∙ sees.routes;
       fault = fault ∙ sees.fault;

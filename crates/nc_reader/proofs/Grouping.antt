@@ -1,14 +1,14 @@
 -- Groups: each key has one, in order of first mention, with the values of that key in order.
-use Rattle.std.proofs.Common.{◌≡◌, ℕ, ◌<◌, Bool, true, false, cond, List, [], ◌∷◌, ◌++◌, map, refl, sym, ap, ◌∙◌, subst, arith, inl, inr, filter}
+use Rattle.std.proofs.Common.{◌≡◌, ℕ, Bool, false, cond, List, [], ◌∷◌, ◌++◌, map, refl, sym, ap, ◌∙◌, subst, inl, inr, filter}
 use Rattle.std.specs.Prelude.{◌⊎◌, ◌≢◌}
 use Rattle.std.specs.Bool.{Decides}
 use Rattle.std.specs.List.{list_any}
-use Rattle.std.proofs.lemmas.Bool.{cases_Bool, cond_both, or_parts, both_ways, false_from_ne_true}
+use Rattle.std.proofs.lemmas.Bool.{cases_Bool, cond_both, or_parts, both_ways}
 use Rattle.std.proofs.lemmas.List.{append-nil}
 use Rattle.std.proofs.lemmas.List.Folds.{list_any-append}
 use Rattle.nc_reader.specs.Groups.{Keyed, Group, keys_from, of_key, groups}
 use Rattle.nc_reader.proofs.GroupLemmas.{passed_by, taken}
-use Rattle.nc_reader.proofs.Members.{Has, has_map, has_passed, Pairs, pairs_weaker, pairs_map, Ascends, ascends_map, ascends_filter, ascends_within, ascends_one}
+use Rattle.nc_reader.proofs.Members.{Has, has_map, has_passed, Pairs, pairs_map, Ascends, ascends_map, ascends_filter, ascends_one}
 
 abbrev pub IsSame : {K : Type 0} → (K → K → Bool) → Type 0
 IsSame {K} same = (a b : K) → Decides (same a b) (a ≡ b)
@@ -60,11 +60,6 @@ fresh_new {K} same known (x ∷ keys) key h =
 fresh_other : {K : Type 0} (same : K → K → Bool) (known keys : List K) (x key : K) → Has (fresh same (known ++ x ∷ []) keys) key → same key x ≡ false
 fresh_other same known keys x key h = (or_parts (same key x) false (or_parts _ _ (sym (list_any-append (same key) known (x ∷ [])) ∙ fresh_new same (known ++ x ∷ []) keys key h)).1).0
 
-fresh_unknown : {K : Type 0} (same : K → K → Bool) → IsSame same → (known keys : List K) (x key : K) → list_any (same x) known ≡ true → Has (fresh same known keys) key → same key x ≡ false
-fresh_unknown {K} same is known keys x key old h =
-    false_from_ne_true (same key x)
-    (λ (e : same key x ≡ true). both_ways (list_any (same x) known) (subst (λ (k : K). list_any (same k) known ≡ false) ((is key x).0 e) (fresh_new same known keys key h)) old)
-
 fresh_mentioned : {K : Type 0} (same : K → K → Bool) (known keys : List K) (key : K) → Has (fresh same known keys) key → Has keys key
 fresh_mentioned same known [] key h = absurd h
 fresh_mentioned same known (x ∷ keys) key h =
@@ -100,46 +95,6 @@ some_of_key {K} {V} same is key (p ∷ ps) (inr later) =
       | inr other ↦ let found = some_of_key same is key ps later in (found.0, found.1, passed_by same key p ps other ∙ found.2)
     ]
 
--- the number of the first value
-abbrev pub lead : {V : Type 0} → (V → ℕ) → List V → ℕ
-lead f [] = 0
-lead f (v ∷ vs) = f v
-
-abbrev Leads : {K V : Type 0} → (K → K → Bool) → (V → ℕ) → List (Keyed K V) → K → K → Type 0
-Leads same f ps a b = lead f (of_key same a ps) < lead f (of_key same b ps)
-
-leads_more : {K V : Type 0} (same : K → K → Bool) (f : V → ℕ) (p : Keyed K V) (ps : List (Keyed K V)) (a b : K) → same a p.key ≡ false → same b p.key ≡ false → Leads same f ps a b → Leads same f (p ∷ ps) a b
-leads_more {K} {V} same f p ps a b other_a other_b less =
-    subst (λ (vs : List V). lead f vs < lead f (of_key same b (p ∷ ps))) (sym (passed_by same a p ps other_a))
-    (subst (λ (vs : List V). lead f (of_key same a ps) < lead f vs) (sym (passed_by same b p ps other_b)) less)
-
-leads_first : {K V : Type 0} (same : K → K → Bool) → IsSame same → (f : V → ℕ) (high : ℕ) (p : Keyed K V) (ps : List (Keyed K V)) (key : K) → Ascends (λ (q : Keyed K V). f q.value) (f p.value) high ps
-    → Has (map (λ q. q.key) ps) key → same key p.key ≡ false → Leads same f (p ∷ ps) p.key key
-leads_first {K} {V} same is f high p ps key up h other =
-    let some = some_of_key same is key ps h in
-    let first = has_of_key same is key ps some.0 (subst (λ (vs : List V). Has vs some.0) (sym some.2) (inl refl)) in
-    let above = (ascends_within (λ (q : Keyed K V). f q.value) (f p.value) high ps up first.0 first.1).0 in
-    let at : lead f (of_key same key (p ∷ ps)) ≡ f some.0 = ap (lead f) (passed_by same key p ps other ∙ some.2) in
-    let from : lead f (of_key same p.key (p ∷ ps)) ≡ f p.value = ap (lead f) (taken same p.key p ps ((is p.key p.key).1 refl)) in
-    let same_value : f first.0.value ≡ f some.0 = ap f first.3 in
-    omega (arith, above, at, from, same_value)
-
-leads : {K V : Type 0} (same : K → K → Bool) → IsSame same → (f : V → ℕ) (known : List K) (low high : ℕ) (ps : List (Keyed K V)) → Ascends (λ (q : Keyed K V). f q.value) low high ps
-    → Pairs (Leads same f ps) (fresh same known (map (λ p. p.key) ps))
-leads same is f known low high [] up = tt
-leads {K} {V} same is f known low high (p ∷ ps) up =
-    let keys = map (λ (q : Keyed K V). q.key) ps in
-    cond_both (list_any (same p.key) known) (fresh same known keys) (p.key ∷ fresh same (known ++ p.key ∷ []) keys) (Pairs (Leads same f (p ∷ ps)))
-    (λ old. pairs_weaker (Leads same f ps) (Leads same f (p ∷ ps)) (fresh same known keys)
-    (λ a b ha hb. leads_more same f p ps a b (fresh_unknown same is known keys p.key a old ha) (fresh_unknown same is known keys p.key b old hb))
-    (leads same is f known (f p.value) high ps up.2))
-    (λ new. (
-      λ key h. leads_first same is f high p ps key up.2 (fresh_mentioned same (known ++ p.key ∷ []) keys key h) (fresh_other same known keys p.key key h),
-      pairs_weaker (Leads same f ps) (Leads same f (p ∷ ps)) (fresh same (known ++ p.key ∷ []) keys)
-          (λ a b ha hb. leads_more same f p ps a b (fresh_other same known keys p.key a ha) (fresh_other same known keys p.key b hb))
-          (leads same is f (known ++ p.key ∷ []) (f p.value) high ps up.2),
-    ))
-
 -- ---- groups
 
 abbrev group_of : {K V : Type 0} → (K → K → Bool) → List (Keyed K V) → K → Group K V
@@ -157,12 +112,6 @@ grouped {K} {V} same is ps g h =
     let key : found.0 ≡ g.key = ap (λ (g : Group K V). g.key) found.2 in
     let some = some_of_key same is g.key ps (subst (λ (k : K). Has keys k) key (fresh_mentioned same [] keys found.0 found.1)) in
     (own, (some.0, some.1, ◌∙◌ {c = some.0 ∷ some.1} own some.2))
-
-pub groups_lead : {K V : Type 0} (same : K → K → Bool) → IsSame same → (f : V → ℕ) (low high : ℕ) (ps : List (Keyed K V)) → Ascends (λ (q : Keyed K V). f q.value) low high ps
-    → Pairs (λ g h. lead f g.values < lead f h.values) (groups same ps)
-groups_lead {K} {V} same is f low high ps up =
-    subst (Pairs (λ (g h : Group K V). lead f g.values < lead f h.values)) (sym (groups_fresh same ps))
-    (pairs_map (group_of same ps) (Leads same f ps) (λ (g h : Group K V). lead f g.values < lead f h.values) (fresh same [] (map (λ (p : Keyed K V). p.key) ps)) (λ a b ha hb less. less) (leads same is f [] low high ps up))
 
 pub groups_keys : {K V : Type 0} (same : K → K → Bool) → IsSame same → (ps : List (Keyed K V)) → Pairs (λ g h. g.key ≢ h.key) (groups same ps)
 groups_keys {K} {V} same is ps =

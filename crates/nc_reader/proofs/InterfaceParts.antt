@@ -1,23 +1,21 @@
 -- The lines and names of interfaces, from their groups.
-use Rattle.std.proofs.Common.{◌≡◌, ℕ, ◌<◌, ◌≤◌, Bool, true, false, cond, ◌||◌, not, List, [], ◌∷◌, length, map, Option, Some, None, Ok, Err, refl, sym, ap, ◌∙◌, subst, arith, filter, codes}
-use Rattle.std.specs.Prelude.{◌≢◌, is_some, unwrap_or, option_and_then}
+use Rattle.std.proofs.Common.{◌≡◌, ℕ, ◌<◌, Bool, true, false, cond, ◌||◌, not, List, [], ◌∷◌, length, map, Option, Some, None, Ok, Err, refl, sym, ap, ◌∙◌, subst, arith, filter}
+use Rattle.std.specs.Prelude.{◌≢◌, is_some}
 use Rattle.std.specs.List.{filter_map}
 use Rattle.std.specs.Option.{option_map_or}
 use Rattle.std.specs.Str.{bytes_eq}
-use Rattle.std.proofs.lemmas.Bool.{cond_both, or_left, not_from_false}
+use Rattle.std.proofs.lemmas.Bool.{or_left, not_from_false}
 use Rattle.std.proofs.lemmas.Slice.Eq.{bytes_eq-Decides}
 use Rattle.nc_types.specs.declared.fault.Fault.{Fault}
-use Rattle.nc_types.specs.declared.fault.Cause.TheVariants.{Syntax, Unsupported}
-use Rattle.nc_lines.specs.Lines.{words_of, is_indented, line_at}
-use Rattle.nc_lines.specs.Statements.{after, said_of}
-use Rattle.nc_lines.specs.Parts.{Numbered, first_of, numbered}
-use Rattle.nc_read_link.specs.Interfaces.{InterfacePart, line_says, interface_fault as fault_in, interface_statements as statements_in, lines_in, name_in, interface_of, interface_in}
+use Rattle.nc_lines.specs.Lines.{is_indented, line_at}
+use Rattle.nc_lines.specs.Statements.{said_of}
+use Rattle.nc_lines.specs.Parts.{Numbered, numbered}
+use Rattle.nc_read_link.specs.Interfaces.{InterfacePart, line_says, interface_fault as fault_in, interface_statements as statements_in, lines_in, interface_of, interface_in}
 use Rattle.nc_reader.specs.Groups.{Keyed, Group}
-use Rattle.nc_reader.specs.Roles.{Role, Passed, Wrong, Names, Within, Routes, Placed, hostname_role, interface_role, is_unsupported, read_role, header_role, roles_from}
-use Rattle.nc_reader.specs.Configuration.{blocks_of, interfaces_of, ok_of, first_in}
-use Rattle.nc_types.specs.WellFormed.{is_name}
+use Rattle.nc_reader.specs.Roles.{Placed, roles_from}
+use Rattle.nc_reader.specs.Configuration.{blocks_of, interfaces_of, ok_of}
 use Rattle.nc_reader.proofs.Members.{Has, has_kept, has_passed, Pairs, pairs_kept, Ascends, ascends_filter, kept_map}
-use Rattle.nc_reader.proofs.Grouping.{IsSame, lead, grouped, groups_lead, groups_keys, group_ascends}
+use Rattle.nc_reader.proofs.Grouping.{IsSame, grouped, groups_keys, group_ascends}
 use Rattle.nc_reader.proofs.LineOrder.{withins, withins_ascend, roles_ascend, Starts, begun}
 
 -- ---- lines of a block
@@ -48,47 +46,14 @@ ok_part : (o : Option Fault) (x p : InterfacePart) → ok_of (option_map_or Err 
 ok_part None x p e = cc
 ok_part (Some fault) x p e = absurd cc
 
-pub part_of : (block : List Numbered) (p : InterfacePart) → ok_of (interface_in block) ≡ Some p → record { interface = interface_of (name_in block) (statements_in block); lines = lines_in block } ≡ p
+pub part_of : (name : List ℕ) (block : List Numbered) (p : InterfacePart) → ok_of (interface_in name block) ≡ Some p → record { interface = interface_of name (statements_in block); lines = lines_in block } ≡ p
 unfolding interface_in
-part_of block p e = ok_part (fault_in block) (record { interface = interface_of (name_in block) (statements_in block); lines = lines_in block }) p e
-
--- ---- the name of an interface
-
-abbrev NamedBy : List (List ℕ) → List ℕ → Type 0
-NamedBy words name = option_and_then first_of (after (codes "interface" ∷ []) words) ≡ Some name
-
-hostname_opens_none : (words : List (List ℕ)) (name : List ℕ) → hostname_role words ≡ Within name → ⊥
-hostname_opens_none [] name = λ e. absurd cc
-hostname_opens_none (a ∷ []) name = cond_both (is_name a) (Names a) (Wrong Syntax) (λ (r : Role). r ≡ Within name → ⊥) (λ _ e. absurd cc) (λ _ e. absurd cc)
-hostname_opens_none (a ∷ b ∷ words) name = λ e. absurd cc
-
-interface_named : (o : Option (List (List ℕ))) (other : Role) (name : List ℕ) → (other ≡ Within name → ⊥) → option_map_or interface_role o other ≡ Within name → option_and_then first_of o ≡ Some name
-interface_named None other name differ e = absurd (differ e)
-interface_named (Some []) other name differ e = absurd cc
-interface_named (Some (a ∷ words)) other name differ e = let same : a ≡ name = cc in ap (λ (n : List ℕ). Some n) same
-
-past_hostname : (o : Option (List (List ℕ))) (rest : Role) (name : List ℕ) → option_map_or hostname_role o rest ≡ Within name → rest ≡ Within name
-past_hostname None rest name e = e
-past_hostname (Some words) rest name e = absurd (hostname_opens_none words name e)
-
-routes_open_none : (o : Option (List (List ℕ))) (name : List ℕ) → option_map_or (λ (rest : List (List ℕ)). Routes) o Passed ≡ Within name → ⊥
-routes_open_none None name e = absurd cc
-routes_open_none (Some words) name e = absurd cc
-
-read_named : (words : List (List ℕ)) (name : List ℕ) → read_role words ≡ Within name → NamedBy words name
-unfolding read_role
-read_named words name e =
-    interface_named (after (codes "interface" ∷ []) words) _ name (routes_open_none (after (codes "ip" ∷ codes "route" ∷ []) words) name)
-    (past_hostname (after (codes "hostname" ∷ []) words) _ name e)
-
-header_named : (words : List (List ℕ)) (name : List ℕ) → header_role words ≡ Within name → NamedBy words name
-header_named words name = cond_both (is_unsupported words) (Wrong Unsupported) (read_role words) (λ (r : Role). r ≡ Within name → NamedBy words name) (λ _ e. absurd cc) (λ _ e. read_named words name e)
+part_of name block p e = ok_part (fault_in block) (record { interface = interface_of name (statements_in block); lines = lines_in block }) p e
 
 -- ---- an interface
 
 pub record IsPart (lines : List (List ℕ)) (g : Group (List ℕ) ℕ) (p : InterfacePart) : Type 0 where
   pub named : p.interface.name ≡ g.key
-  pub first : first_in p.lines ≡ lead (λ (k : ℕ). k) g.values
   pub some : 0 < length p.lines
   pub ascend : Ascends (λ (k : ℕ). k) 0 (length lines) p.lines
   pub own : (k : ℕ) → Has p.lines k → Has g.values k
@@ -96,13 +61,12 @@ pub record IsPart (lines : List (List ℕ)) (g : Group (List ℕ) ℕ) (p : Inte
 pub bytes_same : IsSame bytes_eq
 bytes_same = bytes_eq-Decides
 
-begun_part : (lines : List (List ℕ)) (name : List ℕ) (k : ℕ) (ks : List ℕ) → Starts lines name (k ∷ ks) → Ascends (λ (k : ℕ). k) 0 (length lines) (k ∷ ks)
-    → IsPart lines (record { key = name; values = k ∷ ks }) (record { interface = interface_of (name_in (numbered lines (k ∷ ks))) (statements_in (numbered lines (k ∷ ks))); lines = lines_in (numbered lines (k ∷ ks)) })
+begun_part : (lines : List (List ℕ)) (name : List ℕ) (k : ℕ) (ks : List ℕ) → Starts lines (k ∷ ks) → Ascends (λ (k : ℕ). k) 0 (length lines) (k ∷ ks)
+    → IsPart lines (record { key = name; values = k ∷ ks }) (record { interface = interface_of name (statements_in (numbered lines (k ∷ ks))); lines = lines_in (numbered lines (k ∷ ks)) })
 begun_part lines name k ks starts up =
-    let is : lines_in (numbered lines (k ∷ ks)) ≡ k ∷ filter (stays lines) ks = lines_begun lines k ks starts.0 in
+    let is : lines_in (numbered lines (k ∷ ks)) ≡ k ∷ filter (stays lines) ks = lines_begun lines k ks starts in
     record {
-      named = ap (λ (o : Option (List ℕ)). unwrap_or o []) (header_named (words_of (line_at k lines)) name starts.1);
-      first = ap first_in is;
+      named = refl;
       some = omega (arith, ap length is);
       ascend = subst (Ascends (λ (k : ℕ). k) 0 (length lines)) (sym (lines_kept lines (k ∷ ks))) (ascends_filter (stays lines) (λ (k : ℕ). k) 0 (length lines) (k ∷ ks) up);
       own = λ l h. (has_passed (stays lines) (k ∷ ks) l (subst (λ (ls : List ℕ). Has ls l) (lines_kept lines (k ∷ ks)) h)).0;
@@ -115,7 +79,7 @@ pub pairs_ascend : (lines : List (List ℕ)) → Ascends (λ (p : Keyed (List �
 pairs_ascend lines = withins_ascend 0 (length lines) (roles_from [] lines) (file_ascends lines)
 
 abbrev pub part_at : List (List ℕ) → Group (List ℕ) ℕ → Option InterfacePart
-part_at lines g = ok_of (interface_in (numbered lines g.values))
+part_at lines g = ok_of (interface_in g.key (numbered lines g.values))
 
 pub is_part : (lines : List (List ℕ)) (g : Group (List ℕ) ℕ) (p : InterfacePart) → Has (blocks_of (roles_from [] lines)) g → part_at lines g ≡ Some p → IsPart lines g p
 is_part lines g p h e =
@@ -124,11 +88,11 @@ is_part lines g p h e =
     let k : ℕ = of_it.1.0 in
     let ks : List ℕ = of_it.1.1 in
     let is : g.values ≡ k ∷ ks = of_it.1.2 in
-    let begins : Starts lines g.key (k ∷ ks) = subst (Starts lines g.key) (sym of_it.0 ∙ is) (begun lines g.key) in
+    let begins : Starts lines (k ∷ ks) = subst (Starts lines) (sym of_it.0 ∙ is) (begun lines g.key) in
     let up : Ascends (λ (k : ℕ). k) 0 (length lines) (k ∷ ks) = subst (Ascends (λ (k : ℕ). k) 0 (length lines)) is (group_ascends bytes_eq bytes_same (λ (k : ℕ). k) 0 (length lines) ps (pairs_ascend lines) g h) in
     let whole : record { key = g.key; values = k ∷ ks } ≡ g = ap (λ (vs : List ℕ). record { key = g.key; values = vs }) (sym is) in
-    let made : record { interface = interface_of (name_in (numbered lines (k ∷ ks))) (statements_in (numbered lines (k ∷ ks))); lines = lines_in (numbered lines (k ∷ ks)) } ≡ p =
-    part_of (numbered lines (k ∷ ks)) p (ap (λ (vs : List ℕ). ok_of (interface_in (numbered lines vs))) (sym is) ∙ e) in
+    let made : record { interface = interface_of g.key (statements_in (numbered lines (k ∷ ks))); lines = lines_in (numbered lines (k ∷ ks)) } ≡ p =
+    part_of g.key (numbered lines (k ∷ ks)) p (ap (λ (vs : List ℕ). ok_of (interface_in g.key (numbered lines vs))) (sym is) ∙ e) in
     subst (λ (g : Group (List ℕ) ℕ). IsPart lines g p) whole (subst (IsPart lines (record { key = g.key; values = k ∷ ks })) made (begun_part lines g.key k ks begins up))
 
 -- ---- all interfaces
@@ -137,7 +101,7 @@ abbrev pub parts_of : List (List ℕ) → List InterfacePart
 parts_of lines = filter_map ok_of (interfaces_of lines (roles_from [] lines))
 
 parts_at : (lines : List (List ℕ)) → parts_of lines ≡ filter_map (part_at lines) (blocks_of (roles_from [] lines))
-parts_at lines = kept_map ok_of (λ (g : Group (List ℕ) ℕ). interface_in (numbered lines g.values)) (blocks_of (roles_from [] lines))
+parts_at lines = kept_map ok_of (λ (g : Group (List ℕ) ℕ). interface_in g.key (numbered lines g.values)) (blocks_of (roles_from [] lines))
 
 pub has_part : (lines : List (List ℕ)) (p : InterfacePart) → Has (parts_of lines) p → (g : Group (List ℕ) ℕ) × Has (blocks_of (roles_from [] lines)) g × (part_at lines g ≡ Some p)
 has_part lines p h = has_kept (part_at lines) (blocks_of (roles_from [] lines)) p (subst (λ (ps : List InterfacePart). Has ps p) (parts_at lines) h)

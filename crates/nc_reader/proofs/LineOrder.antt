@@ -77,19 +77,16 @@ opener_of (Names a) name e = absurd cc
 opener_of (Within a) name e = let same : a ≡ name = cc in ap Within same
 opener_of Routes name e = absurd cc
 
--- an unindented header of this interface, or an indented line in its block
-abbrev Opens : List ℕ → List ℕ → Type 0
-Opens line name = (is_indented line ≡ false) × (header_role (words_of line) ≡ Within name)
-
-within_cases : (earlier : List (List ℕ)) (line : List ℕ) (later : List (List ℕ)) (name : List ℕ) → role_of earlier line later ≡ Within name → Opens line name ⊎ (block_of earlier ≡ Some name)
+-- an unindented line, or an indented one in the block of the interface
+within_cases : (earlier : List (List ℕ)) (line : List ℕ) (later : List (List ℕ)) (name : List ℕ) → role_of earlier line later ≡ Within name → (is_indented line ≡ false) ⊎ (block_of earlier ≡ Some name)
 unfolding role_of
 within_cases earlier line later name =
-    cond_both (is_open earlier) _ _ (λ (r : Role). r ≡ Within name → Opens line name ⊎ (block_of earlier ≡ Some name)) (λ _ e. absurd cc)
-    (λ _. cond_both (begins_banner line) _ _ (λ (r : Role). r ≡ Within name → Opens line name ⊎ (block_of earlier ≡ Some name))
-    (λ _. cond_both (not (has_mark line)) _ _ (λ (r : Role). r ≡ Within name → Opens line name ⊎ (block_of earlier ≡ Some name)) (λ _ e. absurd cc)
-    (λ _. cond_both _ (Wrong Syntax) Passed (λ (r : Role). r ≡ Within name → Opens line name ⊎ (block_of earlier ≡ Some name)) (λ _ e. absurd cc) (λ _ e. absurd cc)))
-    (λ _. cond_both (is_idle (words_of line)) _ _ (λ (r : Role). r ≡ Within name → Opens line name ⊎ (block_of earlier ≡ Some name)) (λ _ e. absurd cc)
-    (λ _. cond_both (is_indented line) _ _ (λ (r : Role). r ≡ Within name → Opens line name ⊎ (block_of earlier ≡ Some name)) (λ _ e. inr (member_of (block_of earlier) name e)) (λ outer e. inl (outer, e)))))
+    cond_both (is_open earlier) _ _ (λ (r : Role). r ≡ Within name → (is_indented line ≡ false) ⊎ (block_of earlier ≡ Some name)) (λ _ e. absurd cc)
+    (λ _. cond_both (begins_banner line) _ _ (λ (r : Role). r ≡ Within name → (is_indented line ≡ false) ⊎ (block_of earlier ≡ Some name))
+    (λ _. cond_both (not (has_mark line)) _ _ (λ (r : Role). r ≡ Within name → (is_indented line ≡ false) ⊎ (block_of earlier ≡ Some name)) (λ _ e. absurd cc)
+    (λ _. cond_both _ (Wrong Syntax) Passed (λ (r : Role). r ≡ Within name → (is_indented line ≡ false) ⊎ (block_of earlier ≡ Some name)) (λ _ e. absurd cc) (λ _ e. absurd cc)))
+    (λ _. cond_both (is_idle (words_of line)) _ _ (λ (r : Role). r ≡ Within name → (is_indented line ≡ false) ⊎ (block_of earlier ≡ Some name)) (λ _ e. absurd cc)
+    (λ _. cond_both (is_indented line) _ _ (λ (r : Role). r ≡ Within name → (is_indented line ≡ false) ⊎ (block_of earlier ≡ Some name)) (λ _ e. inr (member_of (block_of earlier) name e)) (λ outer e. inl outer))))
 
 header_plain : (earlier : List (List ℕ)) (line : List ℕ) (later : List (List ℕ)) → is_passed earlier line ≡ false → role_of earlier line later ≡ header_role (words_of line)
 unfolding role_of
@@ -111,36 +108,36 @@ block_next earlier line later name e =
     opened None = None
     opened (Some header) = opened_by (header_role (words_of header))
 
--- the first of these lines, if there is one, is a header of the interface
-abbrev pub Starts : List (List ℕ) → List ℕ → List ℕ → Type 0
-Starts lines name [] = Unit {0}
-Starts lines name (k ∷ ks) = (is_indented (line_at k lines) ≡ false) × (header_role (words_of (line_at k lines)) ≡ Within name)
+-- the first of these lines, if there is one, isn't indented
+abbrev pub Starts : List (List ℕ) → List ℕ → Type 0
+Starts lines [] = Unit {0}
+Starts lines (k ∷ ks) = is_indented (line_at k lines) ≡ false
 
 starts_more : (whole : List (List ℕ)) (name : List ℕ) (n : ℕ) (role : Role) (rest : List (Keyed (List ℕ) ℕ))
-    → (role ≡ Within name → Opens (line_at n whole) name) → ((role ≡ Within name → ⊥) → Starts whole name (of_key bytes_eq name rest)) → Starts whole name (of_key bytes_eq name (cons_option (within_at n role) rest))
+    → (role ≡ Within name → is_indented (line_at n whole) ≡ false) → ((role ≡ Within name → ⊥) → Starts whole (of_key bytes_eq name rest)) → Starts whole (of_key bytes_eq name (cons_option (within_at n role) rest))
 starts_more whole name n Passed rest first later = later (λ e. absurd cc)
 starts_more whole name n (Wrong cause) rest first later = later (λ e. absurd cc)
 starts_more whole name n (Names a) rest first later = later (λ e. absurd cc)
 starts_more whole name n (Within a) rest first later =
     let p : Keyed (List ℕ) ℕ = record { key = a; value = n } in
     elim (cases_Bool (bytes_eq name a)) [
-      | inl same ↦ subst (Starts whole name) (sym (taken bytes_eq name p rest same)) (first (ap Within (sym ((bytes_eq-Decides name a).0 same))))
+      | inl same ↦ subst (Starts whole) (sym (taken bytes_eq name p rest same)) (first (ap Within (sym ((bytes_eq-Decides name a).0 same))))
       | inr other ↦
-          subst (Starts whole name) (sym (passed_by bytes_eq name p rest other))
+          subst (Starts whole) (sym (passed_by bytes_eq name p rest other))
           (later (λ (e : Within a ≡ Within name). both_ways (bytes_eq name a) other ((bytes_eq-Decides name a).1 (let same : a ≡ name = cc in sym same))))
     ]
 starts_more whole name n Routes rest first later = later (λ e. absurd cc)
 
 -- outside a block of the interface its next line is a header
 starts : (whole earlier lines : List (List ℕ)) (name : List ℕ) → ((k : ℕ) → get_or whole (length earlier + k) [] ≡ get_or lines k []) → (block_of earlier ≡ Some name → ⊥)
-    → Starts whole name (of_key bytes_eq name (withins (roles_from earlier lines)))
+    → Starts whole (of_key bytes_eq name (withins (roles_from earlier lines)))
 unfolding roles_from
 starts whole earlier [] name at outside = tt
 starts whole earlier (line ∷ later) name at outside =
     let text : line_at (length earlier + 1) whole ≡ line = (let e : length earlier + 1 - 1 ≡ length earlier + 0 = omega arith in ap (λ (k : ℕ). get_or whole k []) e ∙ at 0) in
     starts_more whole name (length earlier + 1) (role_of earlier line later) (withins (roles_from (line ∷ earlier) later))
     (λ is. elim (within_cases earlier line later name is) [
-      | inl opens ↦ subst (λ (text : List ℕ). Opens text name) (sym text) opens
+      | inl opens ↦ subst (λ (text : List ℕ). is_indented text ≡ false) (sym text) opens
       | inr inside ↦ absurd (outside inside)
     ])
     (λ other. starts whole (line ∷ earlier) later name
@@ -151,6 +148,6 @@ starts whole earlier (line ∷ later) name at outside =
     ]))
 
 -- the first line of an interface is a header
-pub begun : (lines : List (List ℕ)) (name : List ℕ) → Starts lines name (of_key bytes_eq name (withins (roles_from [] lines)))
+pub begun : (lines : List (List ℕ)) (name : List ℕ) → Starts lines (of_key bytes_eq name (withins (roles_from [] lines)))
 unfolding header_of
 begun lines name = starts lines [] lines name (λ k. let e : 0 + k ≡ k = omega arith in ap (λ (k : ℕ). get_or lines k []) e) (λ e. absurd cc)

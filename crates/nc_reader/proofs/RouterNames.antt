@@ -1,5 +1,5 @@
 -- The router's name is that of a line of the file.
-use Rattle.std.proofs.Common.{◌≡◌, ℕ, ◌<◌, ◌≤◌, true, not, ◌&&◌, List, [], ◌∷◌, length, Option, Some, None, ap, subst, arith, inl, inr, codes}
+use Rattle.std.proofs.Common.{◌≡◌, ℕ, true, not, ◌&&◌, List, [], ◌∷◌, Option, Some, None, ap, subst, inl, inr, codes}
 use Rattle.std.specs.List.{filter_map, list_any}
 use Rattle.std.specs.Option.{option_map_or}
 use Rattle.std.proofs.lemmas.Bool.{cond_both}
@@ -10,8 +10,7 @@ use Rattle.nc_lines.specs.Blocks.{is_idle, begins_banner, has_mark, leaves_open,
 use Rattle.nc_lines.specs.Statements.{after}
 use Rattle.nc_reader.specs.Roles.{Role, Passed, Wrong, Names, Within, Routes, Placed, hostname_role, interface_role, is_unsupported, read_role, block_of, member_role, role_of, roles_from}
 use Rattle.nc_reader.specs.Configuration.{name_at, name_of}
-use Rattle.nc_reader.proofs.Members.{Has, has_kept, ascends_within}
-use Rattle.nc_reader.proofs.LineOrder.{roles_ascend}
+use Rattle.nc_reader.proofs.Members.{Has, has_kept}
 use Rattle.nc_reader.proofs.Addresses.{last_has}
 
 abbrev IsNamed : Role → Type 0

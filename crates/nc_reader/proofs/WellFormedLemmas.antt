@@ -109,7 +109,7 @@ parts_covered : (lines : List (List ℕ)) (p : InterfacePart) → Has (parts_of 
 parts_covered lines p h =
     let at = has_part lines p h in
     let block = numbered lines at.0.values in
-    subst (λ (p : InterfacePart). IfSome p.interface.address IsCovered) (part_of block p at.2) (block_covered block)
+    subst (λ (p : InterfacePart). IfSome p.interface.address IsCovered) (part_of at.0.key block p at.2) (block_covered block)
 
 -- ---- a configuration of such elements
 

@@ -43,7 +43,7 @@ blocks_of rs = groups bytes_eq (filter_map (λ r. within_at r.line r.role) rs)
 
 -- what the blocks of each interface make
 abbrev pub interfaces_of : List (List ℕ) → List Placed → List (Result InterfacePart Fault)
-interfaces_of lines rs = map (λ g. interface_in (numbered lines g.values)) (blocks_of rs)
+interfaces_of lines rs = map (λ g. interface_in g.key (numbered lines g.values)) (blocks_of rs)
 
 -- ---- static routes
 

@@ -13,9 +13,10 @@ use Rattle.nc_reader.specs.Configuration.{name_of, blocks_of, route_lines, wrong
 abbrev pub IsLine : List (List ℕ) → ℕ → Type 0
 IsLine lines k = (0 < k) × (k ≤ length lines)
 
--- the name, the blocks, the static routes and the lowest wrong line are those of the whole file
+-- the name, the interfaces with their blocks, the static routes and the lowest wrong line are those of the whole file
 pub record Gathers (lines : List (List ℕ)) (g : Gathered) : Type 0 where
   pub name : g.name ≡ name_of (roles_from [] lines)
+  pub names : g.names.keys ≡ map (λ group. group.key) (blocks_of (roles_from [] lines))
   pub interfaces : map (λ b. b.lines.items) g.interfaces.items ≡ map (λ group. group.values) (blocks_of (roles_from [] lines))
   pub routes : g.routes.items ≡ route_lines (roles_from [] lines)
   pub fault : g.fault ≡ lowest (filter_map (λ r. wrong_at r.line r.role) (roles_from [] lines))

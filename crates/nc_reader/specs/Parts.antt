@@ -10,7 +10,9 @@ use Rattle.nc_types.specs.declared.fault.Fault.{Fault}
 use Rattle.nc_types.specs.declared.fault.ConfigFault.{ConfigFault}
 use Rattle.nc_types.specs.declared.fault.ConfigFault.TheVariants.{Bad, Memory}
 use Rattle.nc_types.specs.declared.config.StaticRoute.{StaticRoute}
-use Rattle.nc_read_link.specs.Interfaces.{InterfacePart}
+use Rattle.nc_lines.specs.declared.block.Block.{Block}
+use Rattle.nc_lines.specs.Parts.{numbered}
+use Rattle.nc_read_link.specs.Interfaces.{InterfacePart, interface_in}
 use Rattle.nc_reader.specs.declared.interfaces.InterfaceLines.{InterfaceLines}
 use Rattle.nc_reader.specs.declared.routes.RouteKey.{RouteKey}
 use Rattle.nc_reader.specs.declared.routes.RouteLines.{RouteLines}
@@ -33,6 +35,12 @@ interface_part p = record { interface = p.interface; lines = p.lines.items }
 -- these are the interfaces that were read, without those that are wrong
 abbrev pub AreInterfaces : List InterfaceLines → List (Result InterfacePart Fault) → Type 0
 AreInterfaces parts read = map interface_part parts ≡ filter_map ok_of read
+
+-- what the blocks of interfaces make, each with its name
+abbrev pub interfaces_by : List (List ℕ) → List (List ℕ) → List Block → List (Result InterfacePart Fault)
+interfaces_by lines [] blocks = []
+interfaces_by lines (name ∷ names) [] = []
+interfaces_by lines (name ∷ names) (block ∷ blocks) = interface_in name (numbered lines block.lines.items) ∷ interfaces_by lines names blocks
 
 -- a static route with the lines of its statements
 abbrev pub static_part : RouteLines → RoutePart

@@ -19,7 +19,9 @@ use std::alloc::{AllocError, Global};
 pub(crate) struct Gathered {
     /// The line of the name in force, and the name.
     pub(crate) name: Option<(u32, Text)>,
-    /// The lines of the blocks of each interface, in order of first mention.
+    /// The names of interfaces, in order of first mention.
+    pub(crate) names: IndexSet<Text>,
+    /// The lines of the blocks of each interface.
     pub(crate) interfaces: Vec<Block>,
     /// The lines of static routes.
     pub(crate) routes: Vec<u32>,
@@ -147,6 +149,7 @@ pub(crate) fn gather(alloc: Global, lines: &Lines) -> Result<Gathered, AllocErro
     }
     Ok(Gathered {
         name: draft.name,
+        names: draft.names,
         interfaces: draft.blocks,
         routes: draft.routes,
         fault: draft.fault,

@@ -1,17 +1,17 @@
 //! The interfaces of a file, each from the lines of its blocks.
 
-ghost use Rattle.std.specs.Prelude.{◌≡◌, List, Result, ◌++◌, ◌∷◌, [], map, All, OnOk, IfOk};
+ghost use Rattle.std.specs.Prelude.{◌≡◌, List, Result, ◌++◌, ◌∷◌, [], map, length, All, OnOk, IfOk};
 ghost use Rattle.nc_types.specs.declared.fault.Fault.{Fault};
 ghost use Rattle.nc_types.specs.Faults.{lowest};
 ghost use Rattle.nc_lines.specs.Parts.{numbered};
 ghost use Rattle.nc_read_link.specs.Interfaces.{InterfacePart, interface_in};
 ghost use Rattle.nc_reader.specs.Gathering.{IsLine};
-ghost use Rattle.nc_reader.specs.Parts.{IsLowest, AreInterfaces};
+ghost use Rattle.nc_reader.specs.Parts.{IsLowest, AreInterfaces, interfaces_by};
 
 use crate::faults::note;
 use nc_lines::{Block, Lines};
 use nc_read_link::read_interface;
-use nc_types::{Fault, Interface};
+use nc_types::{Fault, Interface, Text};
 use std::alloc::{AllocError, Global};
 
 /// An interface with the lines of its statements.
@@ -35,36 +35,40 @@ pub(crate) struct Interfaces {
 fn read_one(
     alloc: Global,
     lines: &Lines,
+    name: &[u8],
     block: &Block,
     parts: &mut Vec<InterfaceLines>,
     told: &mut Option<Fault>,
 ) -> Result<(), AllocError>
     requires { All (IsLine lines.now) block.now.lines.items }
-    ensures parts { OnOk result ((rs : List (Result InterfacePart Fault)) → AreInterfaces parts.old.items rs → AreInterfaces parts.new.items (rs ++ interface_in (numbered lines.now block.now.lines.items) ∷ [])) }
-    ensures told { OnOk result ((fs : List Fault) (rs : List (Result InterfacePart Fault)) → IsLowest fs told.old rs → IsLowest fs told.new (rs ++ interface_in (numbered lines.now block.now.lines.items) ∷ [])) }
+    ensures parts { OnOk result ((rs : List (Result InterfacePart Fault)) → AreInterfaces parts.old.items rs → AreInterfaces parts.new.items (rs ++ interface_in name.now (numbered lines.now block.now.lines.items) ∷ [])) }
+    ensures told { OnOk result ((fs : List Fault) (rs : List (Result InterfacePart Fault)) → IsLowest fs told.old rs → IsLowest fs told.new (rs ++ interface_in name.now (numbered lines.now block.now.lines.items) ∷ [])) }
 {
-    match read_interface(alloc, lines, block) {
+    match read_interface(alloc, lines, name, block) {
         Ok((interface, lines)) => parts.push(InterfaceLines { interface, lines })?,
         Err(fault) => note(told, fault)?,
     }
     Ok(())
 }
 
-/// Reads the interfaces, given the lowest fault before them.
+/// Reads the interfaces of these names, each from its block, given the lowest fault before them.
 pub(crate) fn read_interfaces(
     alloc: Global,
     lines: &Lines,
+    names: &[Text],
     blocks: &[Block],
     before: Option<Fault>,
 ) -> Result<Interfaces, AllocError>
-    requires { All (λ b. All (IsLine lines.now) b.lines.items) blocks.now }
-    ensures parts { IfOk result (λ r. AreInterfaces r.parts.items (map (λ b. interface_in (numbered lines.now b.lines.items)) blocks.now)) }
-    ensures told { IfOk result (λ r. (fs : List Fault) → before ≡ lowest fs → IsLowest fs r.fault (map (λ b. interface_in (numbered lines.now b.lines.items)) blocks.now)) }
+    requires lines { All (λ b. All (IsLine lines.now) b.lines.items) blocks.now }
+    requires named { length names.now ≡ length blocks.now }
+    ensures parts { IfOk result (λ r. AreInterfaces r.parts.items (interfaces_by lines.now names.now blocks.now)) }
+    ensures told { IfOk result (λ r. (fs : List Fault) → before ≡ lowest fs → IsLowest fs r.fault (interfaces_by lines.now names.now blocks.now)) }
 {
-    let mut parts = Vec::new(alloc);
+    let mut parts = Vec::with_capacity(alloc, blocks.len())?;
     let mut told = before;
-    'blocks: for block in blocks {
-        read_one(alloc, lines, block, &mut parts, &mut told)?;
+    'blocks: for (place, block) in blocks.iter().enumerate() {
+        let name = names[place].bytes();
+        read_one(alloc, lines, name, block, &mut parts, &mut told)?;
     }
     Ok(Interfaces { parts, fault: told })
 }

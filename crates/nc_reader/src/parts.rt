@@ -28,7 +28,8 @@ pub(crate) fn read_parts(alloc: Global, lines: &Lines) -> Result<Parts, AllocErr
     ensures { IfOk result (AreParts lines.now) }
 {
     let gathered = gather(alloc, lines)?;
-    let interfaces = read_interfaces(alloc, lines, &gathered.interfaces, gathered.fault)?;
+    let names = gathered.names.as_slice();
+    let interfaces = read_interfaces(alloc, lines, names, &gathered.interfaces, gathered.fault)?;
     let routes = read_routes(alloc, lines, &gathered.routes, interfaces.fault)?;
     Ok(Parts {
         name: gathered.name,

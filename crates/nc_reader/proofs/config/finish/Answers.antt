@@ -1,4 +1,4 @@
-use Rattle.std.proofs.Common.{◌≡◌, arith, map, ap, None}
+use Rattle.std.proofs.Common.{◌≡◌, map, ap, None}
 use Rattle.nc_types.specs.Config.{element_view, clause_view, list_view}
 use Rattle.nc_reader.specs.Parts.{interface_part, static_part}
 use Rattle.nc_reader.proofs.ConfigLemmas.{wrong, unnamed, whole}

@@ -4,12 +4,11 @@ use Rattle.std.proofs.lemmas.List.{append_assoc, length-map}
 use Rattle.nc_types.specs.Faults.{lowest}
 use Rattle.nc_types.specs.declared.fault.Fault.{Fault}
 use Rattle.nc_lines.specs.Lines.{line_at}
-use Rattle.nc_lines.specs.Parts.{numbered}
-use Rattle.nc_read_link.specs.Interfaces.{InterfacePart, interface_in}
+use Rattle.nc_read_link.specs.Interfaces.{InterfacePart}
 use Rattle.nc_read_link.specs.Statics.{static_at}
 use Rattle.nc_reader.specs.Roles.{roles_from}
 use Rattle.nc_reader.specs.Configuration.{Routed, wrong_at, blocks_of, interfaces_of, routed, routes_of, statics_of, ok_of, err_of}
-use Rattle.nc_reader.specs.Parts.{interface_part, static_part}
+use Rattle.nc_reader.specs.Parts.{interfaces_by, interface_part, static_part}
 use Rattle.nc_reader.proofs.ConfigLemmas.{read-blocks, few-parts}
 use Rattle.nc_reader.proofs.parts.read_parts.Goals as goal
 
@@ -19,8 +18,8 @@ returns c =
     let rs = roles_from [] lines in
     let seen = c.in_ok-gathered.ensures in
     let wrongs = filter_map (λ r. wrong_at r.line r.role) rs in
-    let own : map (λ b. interface_in (numbered lines b.lines.items)) c.deref.result.now ≡ interfaces_of lines rs =
-    ap (map (λ b. interface_in (numbered lines b.lines.items))) c.deref.ensures.value ∙ read-blocks lines c.in_ok-gathered.gathered.interfaces.items (blocks_of rs) seen.interfaces in
+    let own : interfaces_by lines c.as_slice-names.result.now c.deref.result.now ≡ interfaces_of lines rs =
+    ap (interfaces_by lines c.as_slice-names.result.now) c.deref.ensures.value ∙ read-blocks lines c.as_slice-names.result.now c.in_ok-gathered.gathered.interfaces.items (blocks_of rs) (c.as_slice-names.ensures.keys ∙ seen.names) seen.interfaces in
     let others : map (λ line. routed line (static_at line (line_at line lines))) c.deref-2.result.now ≡ routes_of lines rs =
     ap (map (λ line. routed line (static_at line (line_at line lines)))) (c.deref-2.ensures.value ∙ seen.routes) in
     let interfaces = c.in_ok-interfaces.ensures.parts ∙ ap (filter_map ok_of) own in
