@@ -1,5 +1,5 @@
 -- Policy and choice: worked cases route-map-list-entries and of two candidates that are equally good.
-use Rattle.std.specs.Prelude.{◌≡◌, ℕ, true, false, List, [], ◌∷◌, map, Option, Some, None, codes, refl}
+use Rattle.std.specs.Prelude.{◌≡◌, ℕ, true, false, List, [], ◌∷◌, Option, Some, None, codes, refl}
 use Rattle.nc_types.specs.Cidr.{Cidr}
 use Rattle.nc_types.specs.Config.{ConfigView, ClauseView}
 use Rattle.nc_types.specs.declared.config.Reference.{Reference}
@@ -9,12 +9,9 @@ use Rattle.nc_tables.specs.declared.bgp.Chosen.{Chosen}
 use Rattle.nc_tables.specs.declared.bgp.BgpFrom.TheVariants.{Entry}
 use Rattle.nc_tables.specs.Policy.{Deny, Permit, verdict}
 use Rattle.nc_tables.specs.Choice.{choose, preference_cmp}
-use Rattle.nc_tables.specs.Cases.{address, prefix, router}
+use Rattle.nc_tables.specs.Cases.{address, prefix, router, refers}
 
 -- ---- a map of two clauses over two lists
-
-abbrev pub refers : List ℕ → Reference
-refers name = record { name = name; line = 0 }
 
 abbrev pub clause : ℕ → List Reference → Option ℕ → ClauseView
 clause number lists metric =

@@ -15,3 +15,9 @@ pub mod Cases
 pub mod CaseStatics
 pub mod CaseRoutes
 pub mod CasePolicy
+pub mod CaseChoice
+pub mod CaseTables
+pub mod CaseSessions
+pub mod CaseMessages
+pub mod CaseRounds
+pub mod CaseForwarding
