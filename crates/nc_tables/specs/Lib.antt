@@ -21,3 +21,5 @@ pub mod CaseSessions
 pub mod CaseMessages
 pub mod CaseRounds
 pub mod CaseForwarding
+pub mod CaseNetworks
+pub mod CaseChain
