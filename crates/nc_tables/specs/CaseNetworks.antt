@@ -83,13 +83,13 @@ with_interfaces is = router is [] None [] []
 
 -- one prefix inside the other, whichever comes first; the lower line first; not where one is shut, or of two routers
 pub overlapping : overlaps (with_interfaces (addressed 9 (address 10 1 0 1) (prefix 10 1 0 0 24) ∷ addressed 5 (address 10 1 1 1) (prefix 10 1 0 0 16)
-    ∷ record (addressed 7 (address 10 1 2 1) (prefix 10 1 2 0 24)) { shut = true } ∷ addressed 3 (address 10 2 0 1) (prefix 10 2 0 0 24) ∷ [])
-    ∷ with_interfaces (addressed 4 (address 10 2 0 2) (prefix 10 2 0 0 24) ∷ []) ∷ []) ≡ clash 0 5 0 9 ∷ []
+    ∷ record (addressed 7 (address 10 1 2 1) (prefix 10 1 2 0 24)) { shut = true } ∷ addressed 3 (address 10 2 0 1) (prefix 10 2 0 0 24) ∷ addressed 11 (address 10 2 0 129) (prefix 10 2 0 128 25) ∷ [])
+    ∷ with_interfaces (addressed 4 (address 10 2 0 2) (prefix 10 2 0 0 24) ∷ []) ∷ []) ≡ clash 0 5 0 9 ∷ clash 0 3 0 11 ∷ []
 overlapping = refl
 
 -- one address at two routers; not where it isn't up
 pub addresses : same_addresses (with_interfaces (addressed 9 (address 10 1 0 1) (prefix 10 1 0 0 24) ∷ addressed 8 (address 10 2 0 1) (prefix 10 2 0 0 24) ∷ [])
-    ∷ with_interfaces (addressed 3 (address 10 1 0 1) (prefix 10 1 0 0 16) ∷ record (addressed 4 (address 10 2 0 1) (prefix 10 2 0 0 24)) { shut = true } ∷ []) ∷ [])
+    ∷ with_interfaces (addressed 3 (address 10 1 0 1) (prefix 10 0 0 0 8) ∷ record (addressed 4 (address 10 2 0 1) (prefix 10 2 0 0 24)) { shut = true } ∷ []) ∷ [])
     ≡ clash 0 9 1 3 ∷ []
 addresses = refl
 
@@ -102,7 +102,7 @@ pub references : undefined (router (up ∷ []) (record { prefix = prefix 10 1 0 
 references = refl
 
 -- the first by first router, first line, second router and second line
-pub told : earliest (clash 1 1 1 1 ∷ clash 0 5 0 0 ∷ clash 0 4 9 9 ∷ clash 0 4 8 9 ∷ clash 0 4 8 7 ∷ clash 0 4 8 8 ∷ []) ≡ Some (clash 0 4 8 7)
+pub told : earliest (clash 1 1 1 1 ∷ clash 0 5 0 0 ∷ clash 0 4 9 9 ∷ clash 0 4 8 9 ∷ clash 0 4 8 7 ∷ clash 0 4 8 8 ∷ clash 0 4 9 1 ∷ []) ≡ Some (clash 0 4 8 7)
 told = refl
 
 pub nothing_told : earliest [] ≡ None

@@ -1,5 +1,5 @@
 -- Rounds: what routers begin, nested aggregates of which one holds back what is inside it, and the rounds after which nothing changes.
-use Rattle.std.specs.Prelude.{◌≡◌, Bool, true, false, List, [], ◌∷◌, ◌++◌, map, Some, None, refl}
+use Rattle.std.specs.Prelude.{◌≡◌, ℕ, Bool, true, false, List, [], ◌∷◌, ◌++◌, map, Some, None, refl}
 use Rattle.nc_types.specs.Cidr.{Cidr}
 use Rattle.nc_types.specs.Config.{ConfigView}
 use Rattle.nc_types.specs.declared.config.OriginCode.TheVariants.{Igp, Incomplete}
@@ -7,18 +7,25 @@ use Rattle.nc_tables.specs.declared.bgp.Route.{Route}
 use Rattle.nc_tables.specs.declared.bgp.Chosen.{Chosen}
 use Rattle.nc_tables.specs.declared.bgp.BgpFrom.{BgpFrom}
 use Rattle.nc_tables.specs.declared.bgp.BgpFrom.TheVariants.{Origin, Aggregate, Entry}
+use Rattle.nc_tables.specs.declared.bgp.MainRow.{MainRow}
+use Rattle.nc_tables.specs.declared.bgp.MainFrom.{MainFrom}
+use Rattle.nc_tables.specs.declared.bgp.MainFrom.TheVariants.{Base, Bgp, Discard}
 use Rattle.nc_tables.specs.Base.{base_table, base_tables}
 use Rattle.nc_tables.specs.Longest.{longest}
 use Rattle.nc_tables.specs.Reach.{reaches}
 use Rattle.nc_tables.specs.Policy.{verdict}
 use Rattle.nc_tables.specs.Choice.{choose, preference_cmp}
 use Rattle.nc_tables.specs.Rounds.{BgpRowView, after, message_at, accepted_at, is_active, prefixes}
-use Rattle.nc_tables.specs.State.{static_state}
+use Rattle.nc_tables.specs.Main.{main_table}
+use Rattle.nc_tables.specs.State.{state_at, static_state}
 use Rattle.nc_tables.specs.Settling.{settled, settled_from, settled_table, same_candidate, same_row, same_table}
 use Rattle.nc_tables.specs.Cases.{address, prefix, interface, neighbor, process, router, candidate, sessions_in, state}
 use Rattle.nc_tables.specs.CaseRoutes.{dispute}
 
 -- ---- nested aggregates
+
+abbrev pub main : Cidr → ℕ → MainFrom → MainRow
+main p distance from = record { prefix = p; distance = distance; from = from }
 
 -- The first router has a row for one of its three networks. Of its aggregates nothing is inside one, and the outer one
 -- of the two others holds back what is inside it. The third router has no process.
@@ -97,6 +104,19 @@ not_three = refl
 pub least_of_many : settled_table nested (base_tables nested) (sessions_in nested) 9 ≡ Some nested_state
 unfolding base_table reaches longest settled_from message_at accepted_at choose preference_cmp verdict
 least_of_many = refl
+
+-- the whole state: each table is that of the stable routes
+pub nested_settled : settled 4 nested ≡ Some (record {
+  routers = nested;
+  base = base_tables nested;
+  sessions = sessions_in nested;
+  bgp = nested_state;
+  main =
+      (main (prefix 10 0 0 0 8) 200 (Discard 2) ∷ main (prefix 10 0 12 0 30) 0 (Base 0) ∷ main (prefix 10 1 0 0 16) 200 (Discard 1) ∷ main (prefix 10 1 0 0 24) 0 (Base 1) ∷ [])
+      ∷ (main (prefix 10 0 0 0 8) 20 (Bgp 0) ∷ main (prefix 10 0 12 0 30) 0 (Base 0) ∷ []) ∷ (main (prefix 172 16 0 0 24) 0 (Base 0) ∷ []) ∷ [];
+})
+unfolding base_table reaches longest settled settled_from state_at main_table message_at accepted_at choose preference_cmp verdict
+nested_settled = refl
 
 -- three systems of which two prefer the path over each other: no round is the last
 pub unstable : settled_table dispute (base_tables dispute) (sessions_in dispute) 6 ≡ None

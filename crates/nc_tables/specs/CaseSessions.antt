@@ -3,10 +3,10 @@ use Rattle.std.specs.Prelude.{◌≡◌, ℕ, true, false, List, [], ◌∷◌, 
 use Rattle.nc_types.specs.Config.{ConfigView, ProcessView}
 use Rattle.nc_types.specs.declared.config.Neighbor.{Neighbor}
 use Rattle.nc_types.specs.declared.config.StaticRoute.{StaticRoute}
-use Rattle.nc_tables.specs.Base.{base_table}
+use Rattle.nc_tables.specs.Base.{base_table, base_tables}
 use Rattle.nc_tables.specs.Longest.{longest}
 use Rattle.nc_tables.specs.Reach.{reaches}
-use Rattle.nc_tables.specs.Sessions.{router_id, session_in}
+use Rattle.nc_tables.specs.Sessions.{End, SourceOf, router_id, source_of, session_in}
 use Rattle.nc_tables.specs.Cases.{address, prefix, interface, route_to, neighbor, process, router, refers, sessions_in}
 
 -- ---- the router id
@@ -125,6 +125,31 @@ inside = refl
 pub unreached : sessions_in (far 65001 (from_loopback (address 192 168 0 2) 65001) (from_loopback (address 192 168 0 1) 65001) []) ≡ [] ∷ [] ∷ []
 unfolding base_table reaches longest
 unreached = refl
+
+-- ---- where a session starts
+
+-- the end of a statement of the first of two routers, which has two equal routes to the second's loopback; its own is shut
+abbrev pub end_of : Neighbor → End
+end_of statement =
+    let own : ProcessView = process 65001 1 (statement ∷ []) [] [] in
+    record {
+      config =
+          router (interface (codes "Ethernet0") (address 10 0 12 1) (prefix 10 0 12 0 30) ∷ interface (codes "Ethernet1") (address 10 0 13 1) (prefix 10 0 13 0 30)
+          ∷ record (interface (codes "Loopback0") (address 192 168 0 1) (prefix 192 168 0 1 32)) { shut = true } ∷ [])
+          (route_to (prefix 192 168 0 2 32) (address 10 0 13 2) ∷ route_to (prefix 192 168 0 2 32) (address 10 0 12 2) ∷ []) (Some own) [] [];
+      process = own;
+      statement = statement;
+    }
+
+abbrev pub starts : Neighbor → Option SourceOf
+starts statement = source_of ((end_of statement).config ∷ []) (base_tables ((end_of statement).config ∷ [])) 0 (end_of statement)
+
+-- by the first hit, which is that of the first route; from the interface that is named; and from none that is shut
+pub sources : starts (neighbor (address 192 168 0 2) 65001 None None) ∷ starts (neighbor (address 192 168 0 2) 65001 (Some (refers (codes "Ethernet0"))) None)
+    ∷ starts (neighbor (address 192 168 0 2) 65001 (Some (refers (codes "Loopback0"))) None) ∷ starts (neighbor (address 172 16 0 1) 65001 None None) ∷ []
+    ≡ Some (record { iface = 1; addr = address 10 0 13 1 }) ∷ Some (record { iface = 0; addr = address 10 0 12 1 }) ∷ None ∷ None ∷ []
+unfolding base_table longest
+sources = refl
 
 -- ---- the session of a statement, among those of a router
 

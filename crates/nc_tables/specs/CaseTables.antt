@@ -11,7 +11,7 @@ use Rattle.nc_tables.specs.declared.base.BaseRow.{BaseRow}
 use Rattle.nc_tables.specs.declared.base.BaseFrom.{BaseFrom}
 use Rattle.nc_tables.specs.declared.base.BaseFrom.TheVariants.{Connected, Static, Null as Discard}
 use Rattle.nc_tables.specs.Order.{in_order}
-use Rattle.nc_tables.specs.Base.{covers, prefix_cmp, row_cmp, base_table, base_tables}
+use Rattle.nc_tables.specs.Base.{covers, prefix_cmp, row_cmp, static_at, base_table, base_tables}
 use Rattle.nc_tables.specs.Longest.{longest}
 use Rattle.nc_tables.specs.Reach.{hits, exit_of, leads_to, own_place, reaches}
 use Rattle.nc_tables.specs.Cases.{address, prefix, interface, route_to, router, refers}
@@ -106,6 +106,14 @@ pub nearest : base_table (edge (discard_at (prefix 10 2 0 0 24) 5 ∷ discard_at
     ∷ row (prefix 10 2 0 0 25) 254 (Discard 4) ∷ row (prefix 192 168 0 1 32) 0 (Connected (record { 0 = 3 })) ∷ []
 unfolding base_table
 nearest = refl
+
+-- each by its place: one that can be used, one that can't be, and none
+abbrev pub two_statics : List ConfigView
+two_statics = edge [] ∷ edge (route_to (prefix 10 2 0 0 24) (address 10 0 12 1) ∷ discard_at (prefix 10 2 0 0 25) 9 ∷ []) ∷ []
+
+pub by_place : static_at two_statics 1 1 ∷ static_at two_statics 1 0 ∷ static_at two_statics 1 2 ∷ static_at two_statics 0 1 ∷ []
+    ≡ Some (row (prefix 10 2 0 0 25) 9 (Discard 1)) ∷ None ∷ None ∷ None ∷ []
+by_place = refl
 
 -- ---- the longest prefix
 
