@@ -23,3 +23,4 @@ pub mod CaseRounds
 pub mod CaseForwarding
 pub mod CaseNetworks
 pub mod CaseChain
+pub mod CaseRelations
