@@ -1,16 +1,20 @@
 -- What isn't stable, no state and not valid: what each condition of these says, on the smallest networks.
-use Rattle.std.specs.Prelude.{◌≡◌, ℕ, ◌<◌, List, [], ◌∷◌, length, None, codes, refl}
+use Rattle.std.specs.Prelude.{◌≡◌, ℕ, zero, suc, ◌<◌, List, [], ◌∷◌, length, slice_index_or, Some, None, codes, refl}
 use Rattle.std.proofs.Common.{ap, ◌∙◌, arith}
 use Rattle.std.proofs.Math.Nat.{suc-ne-zero}
 use Rattle.nc_types.specs.Config.{ConfigView}
 use Rattle.nc_types.specs.Joining.{IsValid}
 use Rattle.nc_types.specs.declared.config.Via.TheVariants.{Through}
 use Rattle.nc_tables.specs.Base.{base_tables, base_table}
+use Rattle.nc_tables.specs.Longest.{longest}
+use Rattle.nc_tables.specs.Reach.{reaches}
 use Rattle.nc_tables.specs.Sessions.{sessions}
-use Rattle.nc_tables.specs.Rounds.{BgpRowView, IsStable, IsUnstable, after}
+use Rattle.nc_tables.specs.Policy.{verdict}
+use Rattle.nc_tables.specs.Choice.{choose, preference_cmp}
+use Rattle.nc_tables.specs.Rounds.{BgpRowView, IsSettled, IsStable, IsUnstable, after, message_at, accepted_at}
 use Rattle.nc_tables.specs.Main.{main_tables}
 use Rattle.nc_tables.specs.State.{StateView, IsState, state_at}
-use Rattle.nc_tables.specs.Cases.{address, prefix, interface, router, refers}
+use Rattle.nc_tables.specs.Cases.{address, prefix, interface, process, router, refers}
 
 -- ---- valid networks
 
@@ -65,6 +69,18 @@ unfolding after base_table
 stable_table table s = s.state ∙ ap (after alone (base_tables alone) (sessions alone (base_tables alone))) (none_before s.count s.within) where
   none_before : (count : ℕ) → count < 1 → count ≡ 0
   none_before count h = omega (arith, h)
+
+-- what the next round changes isn't stable: here the first router has a network to begin with
+abbrev pub begins : List ConfigView
+begins = router (interface [] (address 10 1 0 1) (prefix 10 1 0 0 24) ∷ []) [] (Some (process 65001 1 [] (prefix 10 1 0 0 24 ∷ []) [])) [] [] ∷ []
+
+pub not_at_once : (table : List (List BgpRowView)) → IsStable begins (base_tables begins) (sessions begins (base_tables begins)) 1 table → ⊥
+unfolding after base_table longest reaches message_at accepted_at choose preference_cmp verdict
+not_at_once table s = suc-ne-zero 0 (ap (λ t. length (slice_index_or t 0 [])) (at_once s.count s.within s.settled)) where
+  at_once : (count : ℕ) → count < 1 → IsSettled begins (base_tables begins) (sessions begins (base_tables begins)) count
+      → IsSettled begins (base_tables begins) (sessions begins (base_tables begins)) 0
+  at_once zero h e = e
+  at_once (suc count) h e = absurd (omega (arith, h))
 
 -- a network is unstable over no round, and this one over no other number
 pub unstable_over_none : IsUnstable alone (base_tables alone) (sessions alone (base_tables alone)) 0
