@@ -1,5 +1,5 @@
 -- What isn't stable, no state and not valid: what each condition of these says, on the smallest networks.
-use Rattle.std.specs.Prelude.{◌≡◌, ℕ, zero, suc, ◌<◌, List, [], ◌∷◌, length, slice_index_or, Some, None, codes, refl}
+use Rattle.std.specs.Prelude.{◌≡◌, ℕ, zero, suc, ◌<◌, ◌≤◌, List, [], ◌∷◌, length, slice_index_or, Some, None, codes, refl}
 use Rattle.std.proofs.Common.{ap, ◌∙◌, arith}
 use Rattle.std.proofs.Math.Nat.{suc-ne-zero}
 use Rattle.nc_types.specs.Config.{ConfigView}
@@ -106,3 +106,9 @@ state_main s is = ap (λ t. t.main) is.tables
 
 pub state_valid : (s : StateView) → IsState s → IsValid s.routers
 state_valid s is = is.valid
+
+pub state_stable : (s : StateView) (is : IsState s) → IsStable s.routers s.base s.sessions is.rounds s.bgp
+state_stable s is = is.stable
+
+pub state_few : (s : StateView) → IsState s → length s.routers ≤ 256
+state_few s is = is.few

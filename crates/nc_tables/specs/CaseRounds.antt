@@ -1,5 +1,6 @@
 -- Rounds: what routers begin, nested aggregates of which one holds back what is inside it, and the rounds after which nothing changes.
-use Rattle.std.specs.Prelude.{◌≡◌, ℕ, Bool, true, false, List, [], ◌∷◌, ◌++◌, map, Some, None, refl}
+use Rattle.std.specs.Prelude.{◌≡◌, ℕ, Bool, true, false, List, [], ◌∷◌, ◌++◌, map, Option, Some, None, refl}
+use Rattle.std.specs.Option.{option_map}
 use Rattle.nc_types.specs.Cidr.{Cidr}
 use Rattle.nc_types.specs.Config.{ConfigView}
 use Rattle.nc_types.specs.declared.config.OriginCode.TheVariants.{Igp, Incomplete}
@@ -20,7 +21,7 @@ use Rattle.nc_tables.specs.Main.{main_table}
 use Rattle.nc_tables.specs.State.{state_at, static_state}
 use Rattle.nc_tables.specs.Settling.{settled, settled_from, settled_table, same_candidate, same_row, same_table}
 use Rattle.nc_tables.specs.Cases.{address, prefix, interface, neighbor, process, router, candidate, sessions_in, state}
-use Rattle.nc_tables.specs.CaseRoutes.{dispute}
+use Rattle.nc_tables.specs.CaseRoutes.{pair, dispute}
 
 -- ---- nested aggregates
 
@@ -152,6 +153,19 @@ pub active : active_by (row (prefix 10 1 0 0 24) (learnt ∷ [])) (prefix 10 1 0
     ∷ active_by (row (prefix 10 1 0 0 24) (learnt ∷ [])) (prefix 10 2 0 0 16) ∷ active_by (row (prefix 10 1 0 0 24) []) (prefix 10 1 0 0 16) ∷ []
     ≡ true ∷ false ∷ false ∷ false ∷ []
 active = refl
+
+-- ---- which candidate is sent
+
+-- the first of those that the sender has chosen, and nothing where it has none
+abbrev pub path_sent : List Chosen → Option (List ℕ)
+path_sent chosen = option_map (λ m. m.route.path) (message_at pair (base_tables pair) (sessions_in pair) ((row (prefix 10 1 0 0 24) chosen ∷ []) ∷ [] ∷ []) 1 0 (prefix 10 1 0 0 24))
+
+abbrev pub by_path : List ℕ → Chosen
+by_path path = candidate (Entry 1) 100 path Igp 0 false 9 9
+
+pub best_is_sent : path_sent (by_path (8 ∷ []) ∷ by_path (7 ∷ []) ∷ []) ∷ path_sent [] ∷ [] ≡ Some (65001 ∷ 8 ∷ []) ∷ None ∷ []
+unfolding base_table reaches longest message_at verdict
+best_is_sent = refl
 
 -- ---- when two tables are the same
 
