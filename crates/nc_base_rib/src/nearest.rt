@@ -23,7 +23,11 @@ struct Key {
 
 impl Key {
     fn of(row: &BaseRow) -> Key
-        ensures key { result ≡ record { addr = record { 0 = row.now.prefix.base }; len = row.now.prefix.len; distance = row.now.distance } }
+        ensures key { result ≡ record {
+          addr = record { 0 = row.now.prefix.base };
+          len = row.now.prefix.len;
+          distance = row.now.distance;
+        } }
         ensures valid { IsCidr row.now.prefix.base row.now.prefix.len }
     {
         Key {
@@ -35,7 +39,8 @@ impl Key {
 
     // Whether another one has the same prefix and a lower distance.
     fn loses_to(self, other: Option<Key>) -> bool
-        ensures { result ≡ option_map_or (λ o. ((o.addr.0 == self.addr.0) && (o.len == self.len)) && nat_lt o.distance self.distance) other false }
+        ensures { result ≡ option_map_or (λ o. ((o.addr.0 == self.addr.0) && (o.len == self.len))
+            && nat_lt o.distance self.distance) other false }
     {
         match other {
             Some(other) => {
@@ -70,7 +75,8 @@ pub(crate) fn nearest_rows(
     mut rows: Vec<BaseRow>,
 ) -> Result<Vec<BaseRow>, AllocError>
     requires { AllPairs (λ a b. from_cmp a.from b.from ≡ Less) rows.items }
-    ensures nearest { IfOk result (λ kept. kept.items ≡ in_order row_cmp (filter (is_nearest rows.items) rows.items)) }
+    ensures nearest { IfOk result (λ kept. kept.items
+        ≡ in_order row_cmp (filter (is_nearest rows.items) rows.items)) }
     ensures ordered { IfOk result (λ kept. IsSorted row_cmp kept.items) }
     ensures valid { IfOk result (λ kept. All (λ row. IsCidr row.prefix.base row.prefix.len) kept.items) }
 {

@@ -119,7 +119,8 @@ pub(crate) fn add_statics(
     requires links { IsTableOf interfaces.now links.now }
     requires covered { All HasOwnPrefix interfaces.now }
     requires statics { length statics.now < 2 ^ 32 }
-    ensures { OnOk result (rows.new.items ≡ rows.old.items ++ statics_from interfaces.now 0 statics.now) }
+    ensures { OnOk result (rows.new.items
+        ≡ rows.old.items ++ statics_from interfaces.now 0 statics.now) }
 {
     'statics: for (place, route) in statics.iter().enumerate() {
         let link = link_of(links, &route.via);
@@ -135,7 +136,8 @@ fn row_at(interfaces: &[Interface], statics: &[StaticRoute], place: u32) -> Opti
     requires few { length interfaces.now < 2 ^ 32 }
     requires apart { AreApart interfaces.now }
     requires covered { All HasOwnPrefix interfaces.now }
-    ensures { result ≡ option_and_then (λ s. static_row interfaces.now place s) (slice_get statics.now place) }
+    ensures { result
+        ≡ option_and_then (λ s. static_row interfaces.now place s) (slice_get statics.now place) }
 {
     let route = statics.get(place as usize)?;
     let link = link_among(interfaces, &route.via);

@@ -12,6 +12,7 @@ use Rattle.nc_tables.specs.declared.bgp.MainRow.{MainRow}
 use Rattle.nc_tables.specs.Base.{same_prefix}
 use Rattle.nc_tables.specs.Longest.{places_from}
 use Rattle.nc_tables.specs.State.{StateView}
+use Rattle.nc_underlay.proofs.Flagging.{range_more}
 use Rattle.nc_fact.specs.declared.fact.Fact.{Fact}
 use Rattle.nc_fact.specs.declared.fact.Fact.TheVariants.{Main}
 use Rattle.nc_fact.specs.Facts.{main_rows, holds}
@@ -46,12 +47,6 @@ all_pass {A} p (x ∷ xs) = by_test (p x) refl (all_pass p xs)
     by_test : (b : Bool) → p x ≡ b → All (λ (y : A). p y ≡ true) (filter p xs) → All (λ (y : A). p y ≡ true) (cond b (x ∷ filter p xs) (filter p xs))
     by_test true e rest = All-cons (λ (y : A). p y ≡ true) x (filter p xs) e rest
     by_test false e rest = rest
-
-range_more : (from n : ℕ) → range_with_len from (suc n) ≡ range_with_len from n ++ (from + n) ∷ []
-range_more from zero = let e : from ≡ from + 0 = omega arith in ap (λ (k : ℕ). k ∷ []) e
-range_more from (suc n) =
-    let e : from + 1 + n ≡ from + suc n = omega arith in
-    ap (λ (ks : List ℕ). from ∷ ks) (range_more (from + 1) n ∙ ap (λ (k : ℕ). range_with_len (from + 1) n ++ k ∷ []) e)
 
 module _ (s : StateView) (router : RouterId) (via : Option Addr) where
   -- whether the row at a place has the next hop that is asked for

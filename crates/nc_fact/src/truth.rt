@@ -15,7 +15,8 @@ use nc_types::{Addr, HOP_LIMIT, Prefix, RouterId};
 
 // Whether a router's base table has a row of a prefix.
 fn has_prefix(state: &Stable, router: RouterId, prefix: Prefix) -> bool
-    ensures { result ≡ list_any (λ row. same_prefix row.prefix prefix) (base_rows state.now router.0) }
+    ensures { result
+        ≡ list_any (λ row. same_prefix row.prefix prefix) (base_rows state.now router.0) }
 {
     let rows = rows_of_prefix(state, router, prefix);
     rows.from < rows.to

@@ -23,7 +23,8 @@ pub(crate) fn permitting_list(
     prefix: Prefix,
     clause: &Clause,
 ) -> Option<usize>
-    ensures place { result ≡ permitting_list (config_view config.now) prefix (clause_view clause.now) }
+    ensures place { result
+        ≡ permitting_list (config_view config.now) prefix (clause_view clause.now) }
     ensures within { IfSome result (λ place. place < length config.now.lists.items) }
 {
     'references: for reference in &clause.lists {
@@ -62,7 +63,8 @@ fn is_better(
     best: Option<Candidate<'_>>,
 ) -> bool
     ensures { result ≡ (is_lower (clause_view clause.now) (option_map candidate_view best.entry)
-        && (bytes_eq map.now clause.now.map && is_matching (config_view config.now) prefix (clause_view clause.now))) }
+        && (bytes_eq map.now clause.now.map
+        && is_matching (config_view config.now) prefix (clause_view clause.now))) }
 {
     is_lower(clause, best) && map == clause.map.bytes() && is_matching(config, prefix, clause)
 }
@@ -74,7 +76,8 @@ pub(crate) fn deciding<'a>(
     map: &[u8],
     prefix: Prefix,
 ) -> Option<Candidate<'a>>
-    ensures deciding { option_map candidate_view result ≡ deciding (config_view config.now) map.now prefix }
+    ensures deciding { option_map candidate_view result
+        ≡ deciding (config_view config.now) map.now prefix }
     ensures within { IfSome result (λ found. found.place < length config.now.clauses.items) }
 {
     let mut best = None;

@@ -32,7 +32,8 @@ pub enum Verdict {
 // The path of a route behind the numbers that a clause prepends; `None` where it is too long.
 fn path_behind(alloc: Global, prepend: &[u32], path: &Path) -> Result<Option<Path>, AllocError>
     ensures { IfOk result (λ longer. longer
-        ≡ (if nat_lt PATH_LIMIT (length (prepend.now ++ path.now)) then None else Some (prepend.now ++ path.now))) }
+        ≡ (if nat_lt PATH_LIMIT (length (prepend.now ++ path.now)) then None
+        else Some (prepend.now ++ path.now))) }
 {
     let numbers = path.numbers();
     if prepend.len() > PATH_LIMIT - numbers.len() {
@@ -46,7 +47,8 @@ fn path_behind(alloc: Global, prepend: &[u32], path: &Path) -> Result<Option<Pat
 
 // A route with what a clause sets; `None` where its path is too long.
 fn set_by(alloc: Global, clause: &Clause, route: &Route) -> Result<Option<Route>, AllocError>
-    ensures { IfOk result (λ changed. changed ≡ (if is_long (set_by (clause_view clause.now) route.now)
+    ensures { IfOk result (λ changed. changed
+        ≡ (if is_long (set_by (clause_view clause.now) route.now)
         then None else Some (set_by (clause_view clause.now) route.now))) }
 {
     let Some(path) = path_behind(alloc, &clause.prepend, &route.path)? else {
@@ -91,7 +93,8 @@ pub fn apply(
     route: &Route,
 ) -> Result<Verdict, AllocError>
     requires { IsWellFormed (config_view config.now) }
-    ensures { IfOk result (λ v. verdict_view v ≡ verdict (config_view config.now) map.now route.now) }
+    ensures { IfOk result (λ v. verdict_view v
+        ≡ verdict (config_view config.now) map.now route.now) }
 {
     let Some(found) = deciding(config, map, route.prefix) else {
         return Ok(Verdict::Deny);

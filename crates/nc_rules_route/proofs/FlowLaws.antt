@@ -2,7 +2,7 @@
 use Rattle.std.proofs.Common.{◌≡◌, ℕ, zero, suc, ◌+◌, ◌-◌, ◌*◌, ◌<◌, ◌≤◌, true, false, ◌&&◌, nat_eq, nat_lt, nat_le, List, [], ◌∷◌, length, map, filter, All, Option, Some, None, refl, sym, ap, subst, ◌∙◌, arith}
 use Rattle.std.specs.List.{list_any, slice_get, position}
 use Rattle.std.specs.Option.{option_map_or, option_and_then}
-use Rattle.std.proofs.lemmas.Bool.{lt-ltb, ltb-true, leb-true, le-leb}
+use Rattle.std.proofs.lemmas.Bool.{lt-ltb, ltb-true, leb-true, le-leb, and_parts, and_from}
 use Rattle.std.proofs.lemmas.List.{length-map}
 use Rattle.std.proofs.lemmas.List.Elements.{All-nil, All-append, All-map, All-filter, filter_passes}
 use Rattle.std.proofs.lemmas.Option.{option_and_then_some}
@@ -33,7 +33,7 @@ use Rattle.nc_rules_route.proofs.Numbers.{interface_element, static_element}
 use Rattle.nc_rules_route.proofs.BaseRows.{found_up, address_up, row_leads}
 use Rattle.nc_rules_route.proofs.Tables.{base_of_main}
 use Rattle.nc_rules_route.proofs.Holding.{IsBelow, element_holds, connected_holds, base_holds, connected_below, route_below}
-use Rattle.nc_rules_route.proofs.Hops.{GoesOn, both_hold, hold_both, hit_within, next_up, goes_on, not_own}
+use Rattle.nc_rules_route.proofs.Hops.{GoesOn, hit_within, next_up, goes_on, not_own}
 
 module _ (s : StateView) (is : IsState s) where
   -- ---- elements
@@ -121,15 +121,15 @@ module _ (s : StateView) (is : IsState s) where
   unfolding holds rank
   hop_below router addr row zero next e leads = absurd (cc)
   hop_below router addr row (suc hops) next e leads =
-      let within = both_hold (nat_lt hops HOP_LIMIT) _ e in
-      let hit = both_hold (list_any (nat_eq row) (hits s.base router.0 addr.0)) _ within.1 in
+      let within = and_parts (nat_lt hops HOP_LIMIT) _ e in
+      let hit = and_parts (list_any (nat_eq row) (hits s.base router.0 addr.0)) _ within.1 in
       let reached : reaches s.routers s.base hops next.router addr.0 ≡ true =
       sym (ap (λ (o : Option PlaceIn). option_map_or (λ n. reaches s.routers s.base hops n.router addr.0) o false) leads) ∙ hit.1 in
       let lt : hops < HOP_LIMIT = ltb-true hops HOP_LIMIT within.0 in
       let is_row : row < length (base_rows s router.0) = hit_within s.routers s.base router.0 addr.0 row (among_is row (hits s.base router.0 addr.0) hit.0) in
       let less : suc hops - 1 ≡ hops = omega arith in
       let on : holds s (Reach (record { 0 = next.router }) addr (suc hops - 1)) ≡ true =
-      subst (λ (n : ℕ). (nat_le n HOP_LIMIT && reaches s.routers s.base n next.router addr.0) ≡ true) (sym less) (hold_both (nat_le hops HOP_LIMIT) (reaches s.routers s.base hops next.router addr.0) (le-leb hops HOP_LIMIT (omega arith)) reached) in
+      subst (λ (n : ℕ). (nat_le n HOP_LIMIT && reaches s.routers s.base n next.router addr.0) ≡ true) (sym less) (and_from (nat_le hops HOP_LIMIT) (reaches s.routers s.base hops next.router addr.0) (le-leb hops HOP_LIMIT (omega arith)) reached) in
       all_of_three (IsBelow s (5 + 2 * suc hops)) (Base router row) (Connected (record { 0 = next.router }) (record { 0 = next.place })) (Reach (record { 0 = next.router }) addr (suc hops - 1))
       (base_holds s router row is_row, omega arith) (next_up s.routers s.base router.0 addr.0 row next leads, omega arith) (on, omega arith)
 
@@ -167,7 +167,7 @@ module _ (s : StateView) (is : IsState s) where
   hop_holds router addr hops within on =
       let lt : on.less < HOP_LIMIT = let count = on.count in omega arith in
       subst (λ (n : ℕ). hops_by s router.0 addr.0 on.row n ≡ true) (sym on.count)
-      (hold_both (nat_lt on.less HOP_LIMIT) _ (lt-ltb on.less HOP_LIMIT lt) (hold_both (list_any (nat_eq on.row) (hits s.base router.0 addr.0)) _ (is_among on.row (hits s.base router.0 addr.0) on.hit)
+      (and_from (nat_lt on.less HOP_LIMIT) _ (lt-ltb on.less HOP_LIMIT lt) (and_from (list_any (nat_eq on.row) (hits s.base router.0 addr.0)) _ (is_among on.row (hits s.base router.0 addr.0) on.hit)
       (ap (λ (o : Option PlaceIn). option_map_or (λ n. reaches s.routers s.base on.less n.router addr.0) o false) on.leads ∙ on.reached)))
 
   reach_chosen : (router : RouterId) (addr : Addr) (hops : ℕ) → holds s (Reach router addr hops) ≡ true → 0 < length (parents s (Reach router addr hops))
@@ -177,7 +177,7 @@ module _ (s : StateView) (is : IsState s) where
       by_own : (o : Option ℕ) → own_place s.routers router.0 addr.0 ≡ o → 0 < length (option_map_or (λ iface. Connected router (record { 0 = iface }) ∷ []) o (hops_of s router addr hops))
       by_own (Some iface) found = omega arith
       by_own None found =
-          let both = both_hold (nat_le hops HOP_LIMIT) (reaches s.routers s.base hops router.0 addr.0) e in
+          let both = and_parts (nat_le hops HOP_LIMIT) (reaches s.routers s.base hops router.0 addr.0) e in
           let on = goes_on s.routers s.base hops router.0 addr.0 (not_own s.routers s.base router.0 addr.0 found) both.1 in
           let rows = hits s.base router.0 addr.0 in
           some_in (hops_of s router addr hops) (Hop router addr on.row hops)

@@ -1,5 +1,6 @@
 -- Hops: by which rows a packet goes on, and where to.
 use Rattle.std.proofs.Common.{◌≡◌, ℕ, zero, suc, ◌+◌, ◌<◌, Bool, true, false, not, ◌&&◌, ◌||◌, ◌==◌, List, length, map, Option, Some, None, refl, subst, arith}
+use Rattle.std.proofs.lemmas.Bool.{and_parts, and_from}
 use Rattle.std.specs.List.{list_any, filter_map, slice_get, position}
 use Rattle.std.specs.Option.{option_map_or, option_and_then, is_some}
 use Rattle.std.proofs.lemmas.Option.{option_and_then_some, cond_some}
@@ -14,14 +15,6 @@ use Rattle.nc_tables.specs.Reach.{rows_of, is_hit, hits, exit_of, is_linked, exi
 use Rattle.nc_types.proofs.Members.{In, in_by_filter, in_by_filter_map, some_passes}
 use Rattle.nc_tables.proofs.Ordered.{place_within}
 use Rattle.nc_rules_route.proofs.Members.{none_passes}
-
-pub both_hold : (a b : Bool) → (a && b) ≡ true → (a ≡ true) × (b ≡ true)
-both_hold true b e = (refl, e)
-both_hold false b e = absurd (cc)
-
-pub hold_both : (a b : Bool) → a ≡ true → b ≡ true → (a && b) ≡ true
-hold_both true b e f = f
-hold_both false b e f = absurd (cc)
 
 module _ (routers : List ConfigView) (tables : List (List BaseRow)) where
   -- a hit is a row of the table
@@ -46,7 +39,7 @@ module _ (routers : List ConfigView) (tables : List (List BaseRow)) where
       option_and_then_some (exit_leads routers router) (exit_of routers tables router addr row) next e (λ exit is_exit leads.
       option_and_then_some _ (owner_of routers exit.addr) next leads (λ other is_owner linked.
       let here = cond_some (not (other.router == router) && is_linked routers router exit.iface other) other next linked in
-      subst (λ (p : PlaceIn). is_some (up_at routers p.router p.place) ≡ true) here.1 (linked_up router exit.iface other (both_hold (not (other.router == router)) (is_linked routers router exit.iface other) here.0).1)))
+      subst (λ (p : PlaceIn). is_some (up_at routers p.router p.place) ≡ true) here.1 (linked_up router exit.iface other (and_parts (not (other.router == router)) (is_linked routers router exit.iface other) here.0).1)))
 
   -- a hit by which a packet comes to the owner of an address over so many hops
   pub record GoesOn (hops router addr : ℕ) : Type 0 where

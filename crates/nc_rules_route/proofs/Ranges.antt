@@ -3,14 +3,11 @@ use Rattle.std.proofs.Common.{◌≡◌, ℕ, zero, suc, ◌+◌, ◌-◌, ◌�
 use Rattle.std.specs.List.{range_with_len}
 use Rattle.std.proofs.lemmas.List.{map-append, append_assoc, append-nil}
 use Rattle.std.proofs.lemmas.List.Elements.{filter-append}
+use Rattle.nc_underlay.proofs.Flagging.{range_more}
 
 -- what is made of the numbers from one up to another
 abbrev pub made_between : {X : Type 0} → (ℕ → X) → (ℕ → Bool) → ℕ → ℕ → List X
 made_between make test from to = map make (filter test (range_with_len from (to - from)))
-
-range_push : (from n : ℕ) → range_with_len from (suc n) ≡ range_with_len from n ++ (from + n) ∷ []
-range_push from zero = let e : from + 0 ≡ from = omega arith in ap (λ (k : ℕ). k ∷ []) (sym e)
-range_push from (suc n) = let e : (from + 1) + n ≡ from + suc n = omega arith in ap (λ (ks : List ℕ). from ∷ ks) (range_push (from + 1) n ∙ ap (λ (k : ℕ). range_with_len (from + 1) n ++ k ∷ []) e)
 
 module _ {X : Type 0} (make : ℕ → X) (test : ℕ → Bool) where
   pub made_none : (from : ℕ) → made_between make test from from ≡ []
@@ -20,7 +17,7 @@ module _ {X : Type 0} (make : ℕ → X) (test : ℕ → Bool) where
   made_more from to le =
       let n : (to + 1) - from ≡ suc (to - from) = omega arith in
       let last : from + (to - from) ≡ to = omega arith in
-      ap (λ (k : ℕ). map make (filter test (range_with_len from k))) n ∙ ap (λ (ks : List ℕ). map make (filter test ks)) (range_push from (to - from))
+      ap (λ (k : ℕ). map make (filter test (range_with_len from k))) n ∙ ap (λ (ks : List ℕ). map make (filter test ks)) (range_more from (to - from))
       ∙ ap (map make) (filter-append test (range_with_len from (to - from)) ((from + (to - from)) ∷ [])) ∙ map-append make (filter test (range_with_len from (to - from))) (filter test ((from + (to - from)) ∷ []))
       ∙ ap (λ (k : ℕ). made_between make test from to ++ map make (filter test (k ∷ []))) last ∙ ap (λ (ks : List X). made_between make test from to ++ ks) (by_test (test to))
     where

@@ -17,7 +17,8 @@ fn config_at(state: &Stable, router: RouterId) -> Option<&RouterConfig>
 
 /// The configuration of a router; `None` where there is no such router.
 pub(crate) fn config_of(state: &Stable, router: RouterId) -> Option<&RouterConfig>
-    ensures config { option_map (λ c. config_view c.now) result ≡ slice_get state.now.routers router.0 }
+    ensures config { option_map (λ c. config_view c.now) result
+        ≡ slice_get state.now.routers router.0 }
     ensures formed { IfSome result (λ c. IsWellFormed (config_view c.now)) }
     ensures few { IfSome result (λ c. length c.now.interfaces.items < 2 ^ 32) }
 {

@@ -12,7 +12,8 @@ use nc_types::{ElementId, IfaceId, RouterConfig, RouterId};
 
 // The place of the element that an interface is.
 fn interface_place(config: &RouterConfig, iface: IfaceId) -> Option<u32>
-    ensures { result ≡ option_map (λ i. i.element) (slice_get (config_view config.now).interfaces iface.0) }
+    ensures { result
+        ≡ option_map (λ i. i.element) (slice_get (config_view config.now).interfaces iface.0) }
 {
     let interface = config.interfaces.get(iface.0 as usize)?;
     Some(interface.element)
@@ -20,7 +21,8 @@ fn interface_place(config: &RouterConfig, iface: IfaceId) -> Option<u32>
 
 // The place of the element that the static route at a place is.
 fn static_place(config: &RouterConfig, place: u32) -> Option<u32>
-    ensures { result ≡ option_map (λ r. r.element) (slice_get (config_view config.now).statics place) }
+    ensures { result
+        ≡ option_map (λ r. r.element) (slice_get (config_view config.now).statics place) }
 {
     let route = config.statics.get(place as usize)?;
     Some(route.element)
@@ -32,7 +34,8 @@ pub(crate) fn interface_element(
     router: RouterId,
     iface: IfaceId,
 ) -> Option<ElementId>
-    ensures { option_map_or (λ e. fact.Element e ∷ []) result [] ≡ of_interface state.now router.0 iface.0 }
+    ensures { option_map_or (λ e. fact.Element e ∷ []) result []
+        ≡ of_interface state.now router.0 iface.0 }
 {
     let config = config_of(state, router)?;
     let place = interface_place(config, iface)?;
@@ -41,7 +44,8 @@ pub(crate) fn interface_element(
 
 /// The element of the static route at a place of a router; `None` where there is no such route or router.
 pub(crate) fn static_element(state: &Stable, router: RouterId, place: u32) -> Option<ElementId>
-    ensures { option_map_or (λ e. fact.Element e ∷ []) result [] ≡ of_static state.now router.0 place }
+    ensures { option_map_or (λ e. fact.Element e ∷ []) result []
+        ≡ of_static state.now router.0 place }
 {
     let config = config_of(state, router)?;
     let element = static_place(config, place)?;

@@ -14,7 +14,8 @@ pub fn rules_are_lawful()
         → All (λ p. (holds s p ≡ true) × (rank s p < rank s f)) (parents s f) }
 
     // What follows from any of its parents has one.
-    ensures chosen { (s : StateView) → IsState s → (f : Fact) → holds s f ≡ true → kind f ≡ Any → 0 < length (parents s f) }
+    ensures chosen { (s : StateView) → IsState s → (f : Fact) → holds s f
+        ≡ true → kind f ≡ Any → 0 < length (parents s f) }
 
     // An element has none.
     ensures bare { (s : StateView) (f : Fact) (e : ℕ) → kind f ≡ Leaf e → parents s f ≡ [] }

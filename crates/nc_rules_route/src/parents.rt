@@ -57,7 +57,8 @@ pub fn route_parents(
 ) -> Result<NodeKind, AllocError>
     requires { holds state.now fact.now ≡ true }
     ensures kind { IfOk result (λ k. k ≡ kind fact.now) }
-    ensures parents { into.new.items ≡ (if is_ok result then into.old.items ++ parents state.now fact.now else into.old.items) }
+    ensures parents { into.new.items
+        ≡ (if is_ok result then into.old.items ++ parents state.now fact.now else into.old.items) }
 {
     let before = into.len();
     match push_parents(state, fact, into) {

@@ -27,7 +27,8 @@ fn push_hops(
     hops: u8,
     into: &mut Vec<Fact>,
 ) -> Result<(), AllocError>
-    ensures ok { OnOk result (into.new.items ≡ into.old.items ++ hops_of state.now router addr hops) }
+    ensures ok { OnOk result (into.new.items
+        ≡ into.old.items ++ hops_of state.now router addr hops) }
     ensures kept { take (length into.old.items) into.new.items ≡ into.old.items }
 {
     let rows = longest_rows(state, router, addr);
@@ -51,7 +52,8 @@ pub(crate) fn push_reach(
     hops: u8,
     into: &mut Vec<Fact>,
 ) -> Result<(), AllocError>
-    ensures ok { OnOk result (into.new.items ≡ into.old.items ++ parents state.now (fact.Reach router addr hops)) }
+    ensures ok { OnOk result (into.new.items
+        ≡ into.old.items ++ parents state.now (fact.Reach router addr hops)) }
     ensures kept { take (length into.old.items) into.new.items ≡ into.old.items }
 {
     match own_interface(state.network(), router, addr) {
@@ -77,7 +79,8 @@ pub(crate) fn push_hop(
     into: &mut Vec<Fact>,
 ) -> Result<(), AllocError>
     requires { holds state.now (fact.Hop router addr row hops) ≡ true }
-    ensures ok { OnOk result (into.new.items ≡ into.old.items ++ parents state.now (fact.Hop router addr row hops)) }
+    ensures ok { OnOk result (into.new.items
+        ≡ into.old.items ++ parents state.now (fact.Hop router addr row hops)) }
     ensures kept { take (length into.old.items) into.new.items ≡ into.old.items }
 {
     if let Some((next, iface)) = leads_to(state, router, addr, row) {

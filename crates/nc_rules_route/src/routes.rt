@@ -21,7 +21,8 @@ pub(crate) fn push_connected(
     iface: IfaceId,
     into: &mut Vec<Fact>,
 ) -> Result<(), AllocError>
-    ensures ok { OnOk result (into.new.items ≡ into.old.items ++ parents state.now (fact.Connected router iface)) }
+    ensures ok { OnOk result (into.new.items
+        ≡ into.old.items ++ parents state.now (fact.Connected router iface)) }
     ensures kept { take (length into.old.items) into.new.items ≡ into.old.items }
 {
     if let Some(element) = interface_element(state, router, iface) {
@@ -49,7 +50,8 @@ pub(crate) fn push_static(
     place: u32,
     into: &mut Vec<Fact>,
 ) -> Result<(), AllocError>
-    ensures ok { OnOk result (into.new.items ≡ into.old.items ++ parents state.now (fact.Static router place)) }
+    ensures ok { OnOk result (into.new.items
+        ≡ into.old.items ++ parents state.now (fact.Static router place)) }
     ensures kept { take (length into.old.items) into.new.items ≡ into.old.items }
 {
     if let Some(element) = static_element(state, router, place) {
@@ -86,7 +88,8 @@ pub(crate) fn push_base(
     row: u32,
     into: &mut Vec<Fact>,
 ) -> Result<(), AllocError>
-    ensures ok { OnOk result (into.new.items ≡ into.old.items ++ parents state.now (fact.Base router row)) }
+    ensures ok { OnOk result (into.new.items
+        ≡ into.old.items ++ parents state.now (fact.Base router row)) }
     ensures kept { take (length into.old.items) into.new.items ≡ into.old.items }
 {
     if let Some(row) = row_at(state, router, row) {
@@ -103,7 +106,8 @@ pub(crate) fn push_main(
     row: u32,
     into: &mut Vec<Fact>,
 ) -> Result<(), AllocError>
-    ensures ok { OnOk result (into.new.items ≡ into.old.items ++ parents state.now (fact.Main router row)) }
+    ensures ok { OnOk result (into.new.items
+        ≡ into.old.items ++ parents state.now (fact.Main router row)) }
     ensures kept { take (length into.old.items) into.new.items ≡ into.old.items }
 {
     if let Some(place) = base_of(state, router, row) {

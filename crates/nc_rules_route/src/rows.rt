@@ -17,7 +17,8 @@ pub(crate) fn push_resolve(
     addr: Addr,
     into: &mut Vec<Fact>,
 ) -> Result<(), AllocError>
-    ensures ok { OnOk result (into.new.items ≡ into.old.items ++ parents state.now (fact.Resolve router addr)) }
+    ensures ok { OnOk result (into.new.items
+        ≡ into.old.items ++ parents state.now (fact.Resolve router addr)) }
     ensures kept { take (length into.old.items) into.new.items ≡ into.old.items }
 {
     let longest = longest_rows(state, router, addr);
@@ -38,7 +39,8 @@ pub(crate) fn push_source(
     prefix: Prefix,
     into: &mut Vec<Fact>,
 ) -> Result<(), AllocError>
-    ensures ok { OnOk result (into.new.items ≡ into.old.items ++ parents state.now (fact.NetSource router prefix)) }
+    ensures ok { OnOk result (into.new.items
+        ≡ into.old.items ++ parents state.now (fact.NetSource router prefix)) }
     ensures kept { take (length into.old.items) into.new.items ≡ into.old.items }
 {
     let rows = rows_of_prefix(state, router, prefix);

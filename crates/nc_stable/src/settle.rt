@@ -54,7 +54,8 @@ fn main_tables(
 ) -> Result<MainTables, AllocError>
     requires none { HaveNoProcess network.now }
     requires base { base.now ≡ base_tables network.now }
-    ensures { IfOk result (λ main. main ≡ main_tables network.now base.now (no_routes network.now)) }
+    ensures { IfOk result (λ main. main
+        ≡ main_tables network.now base.now (no_routes network.now)) }
 {
     let _count = network.element_count();
     let mut tables = Vec::new(alloc);
@@ -68,7 +69,8 @@ fn main_tables(
 // The sessions of a network that has no BGP.
 fn no_sessions(alloc: Global, network: &Network) -> Result<Sessions, AllocError>
     requires { HaveNoProcess network.now }
-    ensures { IfOk result (λ none. (base : List (List BaseRow)) → none ≡ sessions network.now base) }
+    ensures { IfOk result (λ none. (base : List (List BaseRow)) → none
+        ≡ sessions network.now base) }
 {
     let lists = empty_lists(alloc, network.routers().len())?;
     Ok(Sessions::from_rows(lists))
@@ -92,7 +94,8 @@ pub fn settle_static(alloc: Global, network: Network) -> Result<Stable, AllocErr
     requires { HaveNoProcess network }
     ensures routers { IfOk result (λ state. state.routers ≡ network) }
     ensures state { IfOk result (λ state. state ≡ static_state network) }
-    ensures settled { IfOk result (λ state. (rounds : ℕ) → 0 < rounds → settled rounds network ≡ Some state) }
+    ensures settled { IfOk result (λ state. (rounds : ℕ) → 0 < rounds → settled rounds network
+        ≡ Some state) }
 {
     let base = base_tables(alloc, &network)?;
     let main = main_tables(alloc, &network, &base)?;

@@ -6,7 +6,7 @@ use Rattle.std.specs.Option.{option_map_or}
 use Rattle.std.specs.Ordering.{is_gt, is_eq, ordering_reverse}
 use Rattle.std.specs.declared.cmp.Ordering.{Ordering}
 use Rattle.std.specs.declared.cmp.Ordering.TheVariants.{Less, Equal, Greater}
-use Rattle.std.proofs.lemmas.Bool.{eqb-true}
+use Rattle.std.proofs.lemmas.Bool.{eqb-true, and_parts}
 use Rattle.std.proofs.lemmas.Cmp.{tied_itself, alike_right}
 use Rattle.std.proofs.lemmas.List.{length-map, get_or-map}
 use Rattle.std.proofs.lemmas.List.Elements.{All-cons, All-tail}
@@ -18,13 +18,9 @@ use Rattle.nc_tables.proofs.SideBySide.{prefix_total, same_by_cmp, rises}
 
 -- ---- two prefixes
 
-both_true : (a b : Bool) → (a && b) ≡ true → (a ≡ true) × (b ≡ true)
-both_true true b e = (refl, e)
-both_true false b e = absurd cc
-
 pub same_is : (p q : Cidr) → same_prefix p q ≡ true → p ≡ q
 same_is p q e =
-    let parts = both_true _ _ e in
+    let parts = and_parts _ _ e in
     ap (λ (b : ℕ). record { base = b; len = p.len }) (eqb-true p.base q.base parts.0) ∙ ap (λ (l : ℕ). record { base = q.base; len = l }) (eqb-true p.len q.len parts.1)
 
 pub same_itself : (p : Cidr) → same_prefix p p ≡ true

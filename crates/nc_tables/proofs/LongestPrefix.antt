@@ -1,7 +1,7 @@
 -- The longest prefix that covers an address is the one around it of the greatest length that occurs.
 use Rattle.std.proofs.Common.{◌≡◌, ℕ, zero, suc, ◌+◌, ◌*◌, ◌/◌, ◌<◌, ◌≤◌, Bool, true, false, cond, not, ◌&&◌, ◌||◌, nat_lt, nat_eq, List, [], ◌∷◌, map, get_or, All, refl, sym, ap, ◌∙◌, arith}
 use Rattle.std.specs.List.{list_any, range_with_len}
-use Rattle.std.proofs.lemmas.Bool.{eqb-true, eq-eqb, lt-ltb}
+use Rattle.std.proofs.lemmas.Bool.{eqb-true, eq-eqb, lt-ltb, and_parts, and_from}
 use Rattle.std.proofs.lemmas.Bool.Decides.{nat_tests}
 use Rattle.nc_types.specs.Cidr.{Cidr, IsCidr}
 use Rattle.nc_types.specs.Masks.{size_of, network_of}
@@ -15,22 +15,10 @@ around addr len = record { base = network_of addr len; len = len }
 
 -- ---- one prefix
 
-both : (a b : Bool) → a ≡ true → b ≡ true → (a && b) ≡ true
-both true b e f = f
-both false b e f = absurd cc
-
-first_of_both : (a b : Bool) → (a && b) ≡ true → a ≡ true
-first_of_both true b e = refl
-first_of_both false b e = e
-
-second_of_both : (a b : Bool) → (a && b) ≡ true → b ≡ true
-second_of_both true b e = e
-second_of_both false b e = absurd cc
-
 around_covers : (q : Cidr) (addr len : ℕ) → len ≤ 32 → same_prefix q (around addr len) ≡ true → covers q addr ≡ true
 around_covers q addr len within same =
-    let base : q.base ≡ network_of addr len = eqb-true q.base (network_of addr len) (first_of_both _ _ same) in
-    let long : q.len ≡ len = eqb-true q.len len (second_of_both _ _ same) in
+    let base : q.base ≡ network_of addr len = eqb-true q.base (network_of addr len) (and_parts _ _ same).0 in
+    let long : q.len ≡ len = eqb-true q.len len (and_parts _ _ same).1 in
     let there : addr / size_of len ≡ network_of addr len / size_of len = lies addr len within in
     eq-eqb (addr / size_of q.len) (q.base / size_of q.len) (ap (λ (n : ℕ). addr / size_of n) long ∙ there ∙ ap (λ (b : ℕ). b / size_of len) (sym base) ∙ ap (λ (n : ℕ). q.base / size_of n) (sym long))
 
@@ -38,7 +26,7 @@ covering_is_around : (q : Cidr) (addr len : ℕ) → IsCidr q.base q.len → cov
 covering_is_around q addr len valid cover long =
     let part : addr / size_of q.len ≡ q.base / size_of q.len = eqb-true (addr / size_of q.len) (q.base / size_of q.len) cover in
     let base : q.base ≡ network_of addr q.len = sym (ap (λ (k : ℕ). k * size_of q.len) part ∙ valid.no_host_bits) in
-    both _ _ (eq-eqb q.base (network_of addr len) (base ∙ ap (λ (n : ℕ). network_of addr n) long)) (eq-eqb q.len len long)
+    and_from _ _ (eq-eqb q.base (network_of addr len) (base ∙ ap (λ (n : ℕ). network_of addr n) long)) (eq-eqb q.len len long)
 
 -- ---- tests over lists
 
@@ -145,16 +133,16 @@ module _ {A : Type 0} (pre : A → Cidr) (addr : ℕ) where
         ∙ none_pass (λ row. longer p (pre row)) rows (λ k d lt. not_longer (pre (get_or rows k d)) len (short k d lt) (covers (pre (get_or rows k d)) addr) refl p.len (omega arith))
 
     below_it : (p q : Cidr) → p.len < len → same_prefix q (around addr len) ≡ true → p.len < q.len
-    below_it p q less same = let long : q.len ≡ len = eqb-true q.len len (second_of_both (nat_eq q.base (network_of addr len)) (nat_eq q.len len) same) in omega arith
+    below_it p q less same = let long : q.len ≡ len = eqb-true q.len len (and_parts (nat_eq q.base (network_of addr len)) (nat_eq q.len len) same).1 in omega arith
 
     some_longer : (p : Cidr) → p.len < len → list_any (longer p) (map pre rows) ≡ true
     some_longer p less =
         any_map pre (longer p) rows
-        ∙ any_more (is_around len) (λ row. longer p (pre row)) (λ row same. both (covers (pre row) addr) (nat_lt p.len (pre row).len) (around_covers (pre row) addr len within same) (lt-ltb p.len (pre row).len (below_it p (pre row) less same))) rows some
+        ∙ any_more (is_around len) (λ row. longer p (pre row)) (λ row same. and_from (covers (pre row) addr) (nat_lt p.len (pre row).len) (around_covers (pre row) addr len within same) (lt-ltb p.len (pre row).len (below_it p (pre row) less same))) rows some
 
     by_same : (p : Cidr) → IsCidr p.base p.len → (covers p addr ≡ true → p.len < len + 1) → (b : Bool) → same_prefix p (around addr len) ≡ b → is_longest (map pre rows) addr p ≡ b
     by_same p ok upto true same =
-        let long : p.len ≡ len = eqb-true p.len len (second_of_both _ _ same) in
+        let long : p.len ≡ len = eqb-true p.len len (and_parts _ _ same).1 in
         ap (λ (b : Bool). b && not (list_any (longer p) (map pre rows))) (around_covers p addr len within same) ∙ ap not (none_longer p long)
     by_same p ok upto false same = by_cover (covers p addr) refl
       where

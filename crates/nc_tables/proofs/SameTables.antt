@@ -1,7 +1,7 @@
 -- The test whether two tables are the same tells it.
 use Rattle.std.proofs.Common.{◌≡◌, ℕ, Bool, true, false, ◌&&◌, ◌==◌, List, [], ◌∷◌, refl, sym, ap, ◌∙◌}
 use Rattle.std.specs.Str.{bytes_eq}
-use Rattle.std.proofs.lemmas.Bool.{eqb-true, eq-eqb}
+use Rattle.std.proofs.lemmas.Bool.{eqb-true, eq-eqb, and_parts, and_from}
 use Rattle.std.proofs.lemmas.Slice.Eq.{bytes_eq-Decides}
 use Rattle.nc_types.specs.Cidr.{Cidr}
 use Rattle.nc_types.specs.declared.addr.Addr.{Addr}
@@ -17,17 +17,6 @@ use Rattle.nc_tables.specs.Rounds.{BgpRowView}
 use Rattle.nc_tables.specs.Settling.{same_list, same_route, place_of, same_from, same_candidate, same_row, same_table}
 use Rattle.nc_tables.proofs.ByPrefix.{same_is, same_itself}
 
-first_true : (a b : Bool) → (a && b) ≡ true → a ≡ true
-first_true true b e = refl
-first_true false b e = absurd cc
-
-second_true : (a b : Bool) → (a && b) ≡ true → b ≡ true
-second_true true b e = e
-second_true false b e = absurd cc
-
-both : (a b : Bool) → a ≡ true → b ≡ true → (a && b) ≡ true
-both a b e f = ap (λ (x : Bool). x && b) e ∙ f
-
 -- ---- lists
 
 module _ {A : Type 0} (same : A → A → Bool) where
@@ -36,12 +25,12 @@ module _ {A : Type 0} (same : A → A → Bool) where
   same_list_is is [] (y ∷ ys) e = absurd cc
   same_list_is is (x ∷ xs) [] e = absurd cc
   same_list_is is (x ∷ xs) (y ∷ ys) e =
-      ap (λ (v : A). v ∷ xs) (is x y (first_true (same x y) (same_list same xs ys) e))
-      ∙ ap (λ (vs : List A). y ∷ vs) (same_list_is is xs ys (second_true (same x y) (same_list same xs ys) e))
+      ap (λ (v : A). v ∷ xs) (is x y (and_parts (same x y) (same_list same xs ys) e).0)
+      ∙ ap (λ (vs : List A). y ∷ vs) (same_list_is is xs ys (and_parts (same x y) (same_list same xs ys) e).1)
 
   pub same_list_itself : ((a : A) → same a a ≡ true) → (xs : List A) → same_list same xs xs ≡ true
   same_list_itself itself [] = refl
-  same_list_itself itself (x ∷ xs) = both (same x x) (same_list same xs xs) (itself x) (same_list_itself itself xs)
+  same_list_itself itself (x ∷ xs) = and_from (same x x) (same_list same xs xs) (itself x) (same_list_itself itself xs)
 
 -- ---- parts
 
@@ -84,16 +73,16 @@ addr_is a b e = ap (λ (n : ℕ). record { 0 = n }) (eqb-true a.0 b.0 e)
 
 route_is : (a b : Route) → same_route a b ≡ true → a ≡ b
 route_is a b e =
-    let e1 = second_true (same_prefix a.prefix b.prefix) _ e in
-    let e2 = second_true (bytes_eq a.path b.path) _ e1 in
-    let e3 = second_true (a.next_hop.0 == b.next_hop.0) _ e2 in
-    let e4 = second_true (a.preference == b.preference) _ e3 in
-    let p0 = same_is a.prefix b.prefix (first_true (same_prefix a.prefix b.prefix) _ e) in
-    let p1 = path_is a.path b.path (first_true (bytes_eq a.path b.path) _ e1) in
-    let p2 = addr_is a.next_hop b.next_hop (first_true (a.next_hop.0 == b.next_hop.0) _ e2) in
-    let p3 = eqb-true a.preference b.preference (first_true (a.preference == b.preference) _ e3) in
-    let p4 = eqb-true a.metric b.metric (first_true (a.metric == b.metric) _ e4) in
-    let p5 = origin_is a.origin b.origin (second_true (a.metric == b.metric) _ e4) in
+    let e1 = (and_parts (same_prefix a.prefix b.prefix) _ e).1 in
+    let e2 = (and_parts (bytes_eq a.path b.path) _ e1).1 in
+    let e3 = (and_parts (a.next_hop.0 == b.next_hop.0) _ e2).1 in
+    let e4 = (and_parts (a.preference == b.preference) _ e3).1 in
+    let p0 = same_is a.prefix b.prefix (and_parts (same_prefix a.prefix b.prefix) _ e).0 in
+    let p1 = path_is a.path b.path (and_parts (bytes_eq a.path b.path) _ e1).0 in
+    let p2 = addr_is a.next_hop b.next_hop (and_parts (a.next_hop.0 == b.next_hop.0) _ e2).0 in
+    let p3 = eqb-true a.preference b.preference (and_parts (a.preference == b.preference) _ e3).0 in
+    let p4 = eqb-true a.metric b.metric (and_parts (a.metric == b.metric) _ e4).0 in
+    let p5 = origin_is a.origin b.origin (and_parts (a.metric == b.metric) _ e4).1 in
     ap (λ (v : Cidr). record a { prefix = v }) p0
     ∙ ap (λ (v : List ℕ). record a { prefix = b.prefix; path = v }) p1
     ∙ ap (λ (v : Addr). record a { prefix = b.prefix; path = b.path; next_hop = v }) p2
@@ -103,19 +92,19 @@ route_is a b e =
 
 route_itself : (a : Route) → same_route a a ≡ true
 route_itself a =
-    both _ _ (same_itself a.prefix) (both _ _ (path_itself a.path) (both _ _ (nat_itself a.next_hop.0) (both _ _ (nat_itself a.preference)
-    (both _ _ (nat_itself a.metric) (nat_itself (origin_rank a.origin))))))
+    and_from _ _ (same_itself a.prefix) (and_from _ _ (path_itself a.path) (and_from _ _ (nat_itself a.next_hop.0) (and_from _ _ (nat_itself a.preference)
+    (and_from _ _ (nat_itself a.metric) (nat_itself (origin_rank a.origin))))))
 
 candidate_is : (a b : Chosen) → same_candidate a b ≡ true → a ≡ b
 candidate_is a b e =
-    let e1 = second_true (same_route a.route b.route) _ e in
-    let e2 = second_true (same_from a.from b.from) _ e1 in
-    let e3 = second_true (internal_rank a.internal == internal_rank b.internal) _ e2 in
-    let p0 = route_is a.route b.route (first_true (same_route a.route b.route) _ e) in
-    let p1 = from_is a.from b.from (first_true (same_from a.from b.from) _ e1) in
-    let p2 = internal_is a.internal b.internal (first_true (internal_rank a.internal == internal_rank b.internal) _ e2) in
-    let p3 = addr_is a.sender_id b.sender_id (first_true (a.sender_id.0 == b.sender_id.0) _ e3) in
-    let p4 = addr_is a.sender b.sender (second_true (a.sender_id.0 == b.sender_id.0) _ e3) in
+    let e1 = (and_parts (same_route a.route b.route) _ e).1 in
+    let e2 = (and_parts (same_from a.from b.from) _ e1).1 in
+    let e3 = (and_parts (internal_rank a.internal == internal_rank b.internal) _ e2).1 in
+    let p0 = route_is a.route b.route (and_parts (same_route a.route b.route) _ e).0 in
+    let p1 = from_is a.from b.from (and_parts (same_from a.from b.from) _ e1).0 in
+    let p2 = internal_is a.internal b.internal (and_parts (internal_rank a.internal == internal_rank b.internal) _ e2).0 in
+    let p3 = addr_is a.sender_id b.sender_id (and_parts (a.sender_id.0 == b.sender_id.0) _ e3).0 in
+    let p4 = addr_is a.sender b.sender (and_parts (a.sender_id.0 == b.sender_id.0) _ e3).1 in
     ap (λ (v : Route). record a { route = v }) p0
     ∙ ap (λ (v : BgpFrom). record a { route = b.route; from = v }) p1
     ∙ ap (λ (v : Bool). record b { internal = v; sender_id = a.sender_id; sender = a.sender }) p2
@@ -124,18 +113,18 @@ candidate_is a b e =
 
 candidate_itself : (a : Chosen) → same_candidate a a ≡ true
 candidate_itself a =
-    both _ _ (route_itself a.route) (both _ _ (both _ _ (nat_itself (class_of a.from)) (nat_itself (place_of a.from))) (both _ _ (nat_itself (internal_rank a.internal))
-    (both _ _ (nat_itself a.sender_id.0) (nat_itself a.sender.0))))
+    and_from _ _ (route_itself a.route) (and_from _ _ (and_from _ _ (nat_itself (class_of a.from)) (nat_itself (place_of a.from))) (and_from _ _ (nat_itself (internal_rank a.internal))
+    (and_from _ _ (nat_itself a.sender_id.0) (nat_itself a.sender.0))))
 
 -- ---- tables
 
 row_is : (a b : BgpRowView) → same_row a b ≡ true → a ≡ b
 row_is a b e =
-    ap (λ (v : Cidr). record a { prefix = v }) (same_is a.prefix b.prefix (first_true (same_prefix a.prefix b.prefix) _ e))
-    ∙ ap (λ (v : List Chosen). record b { chosen = v }) (same_list_is same_candidate candidate_is a.chosen b.chosen (second_true (same_prefix a.prefix b.prefix) _ e))
+    ap (λ (v : Cidr). record a { prefix = v }) (same_is a.prefix b.prefix (and_parts (same_prefix a.prefix b.prefix) _ e).0)
+    ∙ ap (λ (v : List Chosen). record b { chosen = v }) (same_list_is same_candidate candidate_is a.chosen b.chosen (and_parts (same_prefix a.prefix b.prefix) _ e).1)
 
 row_itself : (a : BgpRowView) → same_row a a ≡ true
-row_itself a = both _ _ (same_itself a.prefix) (same_list_itself same_candidate candidate_itself a.chosen)
+row_itself a = and_from _ _ (same_itself a.prefix) (same_list_itself same_candidate candidate_itself a.chosen)
 
 pub table_is : (a b : List (List BgpRowView)) → same_table a b ≡ true → a ≡ b
 table_is = same_list_is (same_list same_row) (same_list_is same_row row_is)

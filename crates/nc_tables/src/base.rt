@@ -79,7 +79,9 @@ impl BaseTables {
     /// routers; an empty range exactly where no row has the prefix. Takes no memory.
     pub fn rows_of(&self, router: RouterId, prefix: Prefix) -> Rows
         requires { router.0 < length self.now }
-        ensures rows { places_from (λ row. same_prefix row.prefix prefix) 0 (slice_index_or self.now router.0 []) ≡ range_with_len result.from (result.to - result.from) }
+        ensures rows { places_from (λ row. same_prefix row.prefix prefix) 0
+            (slice_index_or self.now router.0 [])
+            ≡ range_with_len result.from (result.to - result.from) }
         ensures ordered { result.from ≤ result.to }
         ensures within { result.to ≤ length (slice_index_or self.now router.0 []) }
     {
@@ -90,7 +92,8 @@ impl BaseTables {
     /// below that of the routers; an empty range exactly where no prefix covers the address. Takes no memory.
     pub fn longest(&self, router: RouterId, addr: Addr) -> Rows
         requires { router.0 < length self.now }
-        ensures rows { longest (map (λ row. row.prefix) (slice_index_or self.now router.0 [])) addr.0 ≡ range_with_len result.from (result.to - result.from) }
+        ensures rows { longest (map (λ row. row.prefix) (slice_index_or self.now router.0 [])) addr.0
+            ≡ range_with_len result.from (result.to - result.from) }
         ensures ordered { result.from ≤ result.to }
         ensures within { result.to ≤ length (slice_index_or self.now router.0 []) }
     {

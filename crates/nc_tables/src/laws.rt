@@ -18,7 +18,8 @@ pub fn levels_are_lawful()
     // An address is reached over so many hops from the routers of that level.
     ensures reach { (routers : List ConfigView) (tables : List (List BaseRow)) (hops router addr : ℕ)
         → router < length routers
-        → reaches routers tables hops router addr ≡ is_in (reach_level routers tables addr hops) router }
+        → reaches routers tables hops router addr
+        ≡ is_in (reach_level routers tables addr hops) router }
 
     // So is a packet led there by some way.
     ensures trace { (routers : List ConfigView) (tables : List (List BaseRow))
@@ -50,6 +51,7 @@ pub fn settling_is_lawful()
         → settled_table routers tables sessions rounds ≡ Some table }
 
     // Without a BGP process one round is enough.
-    ensures without_bgp { (routers : List ConfigView) (rounds : ℕ) → HaveNoProcess routers → 0 < rounds
+    ensures without_bgp { (routers : List ConfigView) (rounds : ℕ) → HaveNoProcess routers
+        → 0 < rounds
         → settled rounds routers ≡ Some (static_state routers) }
 {}

@@ -37,7 +37,8 @@ pub(crate) fn rows_at<R>(tables: &[Vec<R>], router: RouterId) -> &[R]
 /// Where the rows of a prefix stand, among rows in order.
 pub(crate) fn rows_with<R: HasPrefix>(rows: &[R], prefix: Prefix) -> Rows
     requires { IsSortedByKey R.prefix_of prefix_cmp rows.now }
-    ensures rows { places_from (λ row. same_prefix (R.prefix_of row) prefix) 0 rows.now ≡ range_with_len result.from (result.to - result.from) }
+    ensures rows { places_from (λ row. same_prefix (R.prefix_of row) prefix) 0 rows.now
+        ≡ range_with_len result.from (result.to - result.from) }
     ensures ordered { result.from ≤ result.to }
     ensures within { result.to ≤ length rows.now }
 {
@@ -49,7 +50,8 @@ pub(crate) fn rows_with<R: HasPrefix>(rows: &[R], prefix: Prefix) -> Rows
 /// The rows of the longest prefix that covers an address, among rows in order.
 pub(crate) fn longest_rows<R: HasPrefix>(rows: &[R], addr: Addr) -> Rows
     requires { AreByPrefix R.prefix_of rows.now }
-    ensures rows { longest (map R.prefix_of rows.now) addr.0 ≡ range_with_len result.from (result.to - result.from) }
+    ensures rows { longest (map R.prefix_of rows.now) addr.0
+        ≡ range_with_len result.from (result.to - result.from) }
     ensures ordered { result.from ≤ result.to }
     ensures within { result.to ≤ length rows.now }
 {

@@ -57,7 +57,8 @@ impl BgpTable {
     pub fn chosen(&self, router: RouterId, prefix: Prefix) -> &[Chosen]
         requires { router.0 < length self.now }
         ensures chosen { result.now ≡ chosen_in (slice_index_or self.now router.0 []) prefix }
-        ensures some { nat_lt 0 (length result.now) ≡ list_any (λ row. same_prefix row.prefix prefix) (slice_index_or self.now router.0 []) }
+        ensures some { nat_lt 0 (length result.now)
+            ≡ list_any (λ row. same_prefix row.prefix prefix) (slice_index_or self.now router.0 []) }
     {
         let rows = self.rows(router);
         let found = rows_with(rows, prefix);

@@ -48,7 +48,8 @@ impl Sessions {
     /// routers; `None` where the statement has no session, and where there is no such statement.
     pub fn get(&self, router: RouterId, neighbor: u32) -> Option<&SessionRow>
         requires { router.0 < length self.now }
-        ensures { option_map (λ s. s.now) result ≡ session_in (slice_index_or self.now router.0 []) neighbor }
+        ensures { option_map (λ s. s.now) result
+            ≡ session_in (slice_index_or self.now router.0 []) neighbor }
     {
         let rows = self.rows(router);
         match rows.binary_search_by_key(&neighbor, |row| row.neighbor) {

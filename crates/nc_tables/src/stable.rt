@@ -38,8 +38,10 @@ impl Stable {
         bgp: BgpTable,
         main: MainTables,
     ) -> Stable
-        requires { IsState (record { routers = network; base = base; sessions = sessions; bgp = bgp; main = main }) }
-        ensures { result ≡ record { routers = network; base = base; sessions = sessions; bgp = bgp; main = main } }
+        requires { IsState
+            (record { routers = network; base = base; sessions = sessions; bgp = bgp; main = main }) }
+        ensures { result
+            ≡ record { routers = network; base = base; sessions = sessions; bgp = bgp; main = main } }
     {
         Stable {
             network,

@@ -1,5 +1,6 @@
 -- Tests over numbers that follow one another.
 use Rattle.std.proofs.Common.{◌≡◌, ℕ, zero, suc, ◌+◌, ◌-◌, ◌<◌, ◌≤◌, Bool, true, false, cond, ◌&&◌, ◌||◌, List, [], ◌∷◌, ◌++◌, get_or, length, refl, sym, ap, ◌∙◌, arith}
+use Rattle.std.proofs.lemmas.Bool.{and_parts, and_from}
 use Rattle.std.specs.List.{list_any, range_with_len, filter}
 use Rattle.std.proofs.lemmas.List.Folds.{list_any-append, list_any_at}
 use Rattle.std.proofs.lemmas.List.FromFn.{length-range_with_len, get_or-range_with_len}
@@ -12,26 +13,6 @@ pub same_truth : (a b : Bool) → (a ≡ true → b ≡ true) → (b ≡ true �
 same_truth true b f g = sym (f refl)
 same_truth false true f g = g refl
 same_truth false false f g = refl
-
-pub both : (a b : Bool) → a ≡ true → b ≡ true → (a && b) ≡ true
-both true b e f = f
-both false b e f = absurd cc
-
-pub first_of : (a b : Bool) → (a && b) ≡ true → a ≡ true
-first_of true b e = refl
-first_of false b e = absurd cc
-
-pub second_of : (a b : Bool) → (a && b) ≡ true → b ≡ true
-second_of true b e = e
-second_of false b e = absurd cc
-
-pub or_right : (a b : Bool) → b ≡ true → (a || b) ≡ true
-or_right true b e = refl
-or_right false b e = e
-
-pub or_left : (a b : Bool) → a ≡ true → (a || b) ≡ true
-or_left true b e = refl
-or_left false b e = absurd cc
 
 pub not_left : (a b : Bool) → (a || b) ≡ true → a ≡ false → b ≡ true
 not_left true b e f = absurd cc
@@ -63,7 +44,7 @@ any_out f from (suc n) e = by_first (f from) refl e (any_out f (from + 1) n)
     by_first true here e later = (from, omega arith, omega arith, here)
     by_first false here e later = let found = later e in (found.0, omega (arith, found.1), omega (arith, found.2), found.3)
 
-range_more : (from n : ℕ) → range_with_len from (suc n) ≡ range_with_len from n ++ (from + n) ∷ []
+pub range_more : (from n : ℕ) → range_with_len from (suc n) ≡ range_with_len from n ++ (from + n) ∷ []
 range_more from zero = let e : from ≡ from + 0 = omega arith in ap (λ (k : ℕ). k ∷ []) e
 range_more from (suc n) =
     let e : from + 1 + n ≡ from + suc n = omega arith in
@@ -93,13 +74,13 @@ any_filter kept test out (x ∷ xs) = by_kept (kept x) refl ∙ ap (λ (b : Bool
 
 pub flagged_in : (flags : List Bool) (test : ℕ → Bool) (count k : ℕ) → k < count → flag flags k ≡ true → test k ≡ true → any_flagged flags test count ≡ true
 unfolding any_flagged
-flagged_in flags test count k lt is passes = any_in (λ r. flag flags r && test r) 0 count k (omega arith) (omega arith) (both (flag flags k) (test k) is passes)
+flagged_in flags test count k lt is passes = any_in (λ r. flag flags r && test r) 0 count k (omega arith) (omega arith) (and_from (flag flags k) (test k) is passes)
 
 pub flagged_out : (flags : List Bool) (test : ℕ → Bool) (count : ℕ) → any_flagged flags test count ≡ true → (k : ℕ) × (k < count) × (flag flags k ≡ true) × (test k ≡ true)
 unfolding any_flagged
 flagged_out flags test count e =
     let found = any_out (λ r. flag flags r && test r) 0 count e in
-    (found.0, omega (arith, found.2), first_of (flag flags found.0) (test found.0) found.3, second_of (flag flags found.0) (test found.0) found.3)
+    (found.0, omega (arith, found.2), (and_parts (flag flags found.0) (test found.0) found.3).0, (and_parts (flag flags found.0) (test found.0) found.3).1)
 
 pub flagged_more : (flags : List Bool) (test : ℕ → Bool) (count more : ℕ) → more ≡ suc count → any_flagged flags test more ≡ (any_flagged flags test count || (flag flags count && test count))
 unfolding any_flagged

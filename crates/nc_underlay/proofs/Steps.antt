@@ -2,13 +2,13 @@
 use Rattle.std.proofs.Common.{◌≡◌, ℕ, zero, suc, ◌<◌, Bool, true, false, ◌||◌, nat_eq, List, [], ◌∷◌, length, Option, Some, None, refl, sym, ap, subst, ◌∙◌}
 use Rattle.std.specs.List.{list_any, filter_map, cons_option}
 use Rattle.std.specs.Option.{option_map_or}
-use Rattle.std.proofs.lemmas.Bool.{eqb-true, eq-eqb}
+use Rattle.std.proofs.lemmas.Bool.{eqb-true, eq-eqb, or_left, or_right}
 use Rattle.nc_types.specs.Config.{ConfigView}
 use Rattle.nc_types.specs.Network.{PlaceIn}
 use Rattle.nc_tables.specs.declared.base.BaseRow.{BaseRow}
 use Rattle.nc_tables.specs.Reach.{hits, leads_to, owns, reaches}
 use Rattle.nc_underlay.specs.Levels.{flag, any_flagged, is_next}
-use Rattle.nc_underlay.proofs.Flagging.{same_truth, or_left, or_right, not_left, not_true, flagged_in, flagged_out}
+use Rattle.nc_underlay.proofs.Flagging.{same_truth, not_left, not_true, flagged_in, flagged_out}
 use Rattle.nc_tables.proofs.Owner.{next_within}
 
 -- ---- routers to which places lead

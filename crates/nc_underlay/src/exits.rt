@@ -81,7 +81,8 @@ fn is_linked(
     other: RouterId,
     other_iface: IfaceId,
 ) -> bool
-    ensures { result ≡ is_linked network.now router.0 iface.0 (record { router = other.0; place = other_iface.0 }) }
+    ensures { result
+        ≡ is_linked network.now router.0 iface.0 (record { router = other.0; place = other_iface.0 }) }
 {
     match (network.up(router, iface), network.up(other, other_iface)) {
         (Some(here), Some(there)) => here.prefix == there.prefix,

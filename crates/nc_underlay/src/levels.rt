@@ -74,7 +74,8 @@ pub(crate) fn next_level(
 pub(crate) fn has_owner(network: &Network, addr: Addr, level: &[bool; ROUTER_LIMIT]) -> bool
     requires valid { IsValid network.now }
     requires few { length network.now ≤ ROUTER_LIMIT }
-    ensures { result ≡ any_flagged level.now (λ router. owns network.now router addr.0) (length network.now) }
+    ensures { result
+        ≡ any_flagged level.now (λ router. owns network.now router addr.0) (length network.now) }
 {
     match network.owner_of(addr) {
         Some((owner, _)) => level[owner.0 as usize],
