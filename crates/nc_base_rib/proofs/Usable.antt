@@ -14,7 +14,7 @@ use Rattle.nc_types.specs.declared.config.IfaceAddr.{IfaceAddr}
 use Rattle.nc_types.specs.declared.config.Interface.{Interface}
 use Rattle.nc_types.specs.declared.config.Via.{Via}
 use Rattle.nc_types.specs.declared.config.Via.TheVariants.{Null, Hop, Through}
-use Rattle.nc_types.specs.Cidr.{IsCidr, Covers}
+use Rattle.nc_types.specs.Cidr.{Covers}
 use Rattle.nc_types.specs.Masks.{size_of}
 use Rattle.nc_types.specs.Network.{up_of, has_address, hop_of}
 use Rattle.nc_tables.specs.declared.base.BaseFrom.{BaseFrom}

@@ -1,14 +1,8 @@
 -- The rows of a base table and the interfaces of a router can be numbered.
-use Rattle.std.proofs.Common.{◌≡◌, ℕ, zero, suc, ◌^◌, ◌<◌, ◌≤◌, List, [], ◌∷◌, length, map, get_or, All, Option, Some, slice_get, sym, ap, ◌∙◌, arith}
-use Rattle.std.specs.Option.{option_map, option_map_or}
-use Rattle.std.proofs.lemmas.List.Elements.{All-head, All-tail}
-use Rattle.std.proofs.lemmas.List.Sums.{sum_by-cons}
-use Rattle.std.proofs.lemmas.Option.{slice_get-map, slice_get-get_or}
-use Rattle.nc_types.specs.declared.config.RouterConfig.{RouterConfig}
-use Rattle.nc_types.specs.Config.{config_view, ConfigView}
+use Rattle.std.proofs.Common.{◌≡◌, ℕ, ◌^◌, ◌<◌, List, [], length, get_or, All, Some, slice_get, ap, arith}
+use Rattle.nc_types.specs.Config.{ConfigView}
 use Rattle.nc_types.specs.WellFormed.{IsWellFormed}
 use Rattle.nc_types.specs.Network.{element_count}
-use Rattle.nc_types.proofs.Few.{few_interfaces, few_in_network}
 use Rattle.nc_types.proofs.Members.{all_in, in_by_get}
 use Rattle.nc_tables.specs.State.{StateView, state_at, IsState}
 use Rattle.nc_tables.proofs.RowCount.{few_base_rows}

@@ -1,7 +1,6 @@
 -- From what the rows of a base table are made: interfaces that are up, and static routes that can be used.
-use Rattle.std.proofs.Common.{◌≡◌, ◌⊎◌, ℕ, zero, suc, ◌+◌, ◌≤◌, Bool, true, false, cond, ◌&&◌, ◌==◌, nat_lt, List, [], ◌∷◌, length, filter, Option, Some, None, refl, sym, ap, subst, ◌∙◌, arith, inl, inr}
+use Rattle.std.proofs.Common.{◌≡◌, ◌⊎◌, ℕ, zero, suc, ◌+◌, Bool, true, false, cond, ◌&&◌, ◌==◌, nat_lt, List, [], ◌∷◌, filter, Option, Some, None, refl, sym, ap, subst, ◌∙◌, arith, inl, inr}
 use Rattle.std.specs.List.{slice_get, position}
-use Rattle.std.proofs.lemmas.List.{length-append}
 use Rattle.std.specs.Option.{option_map, option_map_or, is_some}
 use Rattle.std.specs.Str.{bytes_eq}
 use Rattle.nc_types.specs.declared.TheConstants.{UNUSED_DISTANCE}
@@ -17,7 +16,7 @@ use Rattle.nc_tables.specs.declared.base.BaseFrom.{BaseFrom}
 use Rattle.nc_tables.specs.declared.base.BaseFrom.TheVariants.{Connected, Static, Null as Discard}
 use Rattle.nc_tables.specs.Base.{connected_from, covers, is_toward, interface_toward, hop_is_own, static_from, static_row, statics_from, candidates, is_nearest, row_cmp, base_table}
 use Rattle.nc_types.proofs.Members.{In, in_either, in_by_filter}
-use Rattle.nc_tables.proofs.Ordered.{in_by_order, length_in_order}
+use Rattle.nc_tables.proofs.Ordered.{in_by_order}
 use Rattle.nc_rules_route.proofs.Members.{at_position}
 
 -- the interface at a place, if there is one, is up

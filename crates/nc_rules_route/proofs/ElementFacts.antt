@@ -3,7 +3,6 @@ use Rattle.std.proofs.Common.{◌≡◌, ℕ, ◌<◌, [], ◌∷◌, length, Op
 use Rattle.std.specs.List.{slice_get}
 use Rattle.std.specs.Option.{IfSome, option_map, option_map_or, option_and_then}
 use Rattle.std.proofs.lemmas.Option.{none-some, same_Some}
-use Rattle.nc_types.specs.declared.config.ElementId.{ElementId}
 use Rattle.nc_types.specs.declared.config.Interface.{Interface}
 use Rattle.nc_types.specs.declared.config.StaticRoute.{StaticRoute}
 use Rattle.std.specs.Borrow.{Bor}
@@ -11,7 +10,6 @@ use Rattle.nc_types.specs.declared.config.RouterConfig.{RouterConfig}
 use Rattle.nc_types.specs.Config.{ConfigView, config_view}
 use Rattle.nc_types.specs.WellFormed.{IsWellFormed}
 use Rattle.nc_tables.specs.State.{StateView}
-use Rattle.nc_fact.specs.declared.fact.Fact.TheVariants.{Element}
 use Rattle.nc_rules_route.specs.Parents.{element_in, of_interface, of_static}
 use Rattle.nc_rules_route.proofs.Numbers.{interface_element, static_element}
 

@@ -1,6 +1,6 @@
 -- Hops: by which rows a packet goes on, and where to.
 use Rattle.std.proofs.Common.{◌≡◌, ℕ, zero, suc, ◌+◌, ◌<◌, Bool, true, false, not, ◌&&◌, ◌||◌, ◌==◌, List, length, map, Option, Some, None, refl, subst, arith}
-use Rattle.std.proofs.lemmas.Bool.{and_parts, and_from}
+use Rattle.std.proofs.lemmas.Bool.{and_parts}
 use Rattle.std.specs.List.{list_any, filter_map, slice_get, position}
 use Rattle.std.specs.Option.{option_map_or, option_and_then, is_some}
 use Rattle.std.proofs.lemmas.Option.{option_and_then_some, cond_some}

@@ -1,5 +1,5 @@
 -- The elements of a router's interfaces and static routes exist.
-use Rattle.std.proofs.Common.{◌≡◌, ℕ, ◌<◌, List, length, map, Some}
+use Rattle.std.proofs.Common.{◌≡◌, ℕ, ◌<◌, length, map, Some}
 use Rattle.std.specs.List.{slice_get}
 use Rattle.nc_types.specs.declared.config.Interface.{Interface}
 use Rattle.nc_types.specs.declared.config.StaticRoute.{StaticRoute}

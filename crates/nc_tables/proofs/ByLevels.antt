@@ -1,6 +1,6 @@
 -- Reach and forwarding by levels.
-use Rattle.std.proofs.Common.{◌≡◌, ℕ, zero, suc, ◌+◌, ◌<◌, Bool, true, false, cond, ◌||◌, ◌&&◌, nat_lt, List, [], ◌∷◌, ◌++◌, length, map, Option, Some, None, slice_get, refl, sym, ap, ◌∙◌, arith}
-use Rattle.std.specs.List.{list_any, list_all, filter_map, flat_map, cons_option, range_with_len}
+use Rattle.std.proofs.Common.{◌≡◌, ℕ, zero, suc, ◌<◌, Bool, true, false, cond, ◌||◌, ◌&&◌, nat_lt, List, [], ◌∷◌, ◌++◌, length, map, Option, Some, None, slice_get, refl, sym, ap, ◌∙◌, arith}
+use Rattle.std.specs.List.{list_any, list_all, filter_map, flat_map, cons_option}
 use Rattle.std.specs.Option.{option_map_or, is_none}
 use Rattle.std.proofs.lemmas.List.FromFn.{get_or-map-range_with_len}
 use Rattle.nc_types.specs.Config.{ConfigView}
@@ -14,7 +14,7 @@ use Rattle.nc_tables.specs.declared.bgp.MainFrom.TheVariants.{Base, Bgp, Discard
 use Rattle.nc_tables.specs.Longest.{longest}
 use Rattle.nc_tables.specs.Reach.{rows_of, hits, leads_to, next_places, owns, reaches}
 use Rattle.nc_tables.specs.Rounds.{BgpRowView}
-use Rattle.nc_tables.specs.Forwarding.{Outcome, Deliver, Go, Lost, Alternative, going, arrives_by, some_way, each_way, nowhere, mains_of, bgp_hop, outcome_by, outcome_of, ways_of, alternatives, traces, all_trace}
+use Rattle.nc_tables.specs.Forwarding.{Outcome, Deliver, Go, Lost, Alternative, going, arrives_by, some_way, each_way, mains_of, bgp_hop, outcome_by, ways_of, alternatives, traces, all_trace}
 use Rattle.nc_tables.specs.Levels.{is_in, level_of, reach_level, trace_level, all_trace_level}
 use Rattle.nc_tables.proofs.Owner.{next_within}
 

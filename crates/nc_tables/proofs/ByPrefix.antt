@@ -1,5 +1,5 @@
 -- Rows in order of their prefixes: going over the distinct prefixes, and over the rows of each, is going over the rows.
-use Rattle.std.proofs.Common.{◌≡◌, ℕ, zero, suc, Bool, true, false, cond, ◌||◌, ◌&&◌, List, [], ◌∷◌, ◌++◌, length, map, get_or, All, Option, Some, None, refl, sym, ap, subst, ◌∙◌, arith}
+use Rattle.std.proofs.Common.{◌≡◌, ℕ, zero, suc, Bool, true, false, cond, ◌||◌, List, [], ◌∷◌, ◌++◌, length, map, get_or, All, Option, Some, None, refl, sym, ap, subst, ◌∙◌, arith}
 use Rattle.std.specs.List.{AllPairs, flat_map, list_any}
 use Rattle.std.specs.List.Sorted.{IsSortedByKey}
 use Rattle.std.specs.Option.{option_map_or}

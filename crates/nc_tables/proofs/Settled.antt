@@ -1,5 +1,5 @@
 -- The stable table that is computed is the one that is defined.
-use Rattle.std.proofs.Common.{◌≡◌, ℕ, zero, suc, ◌+◌, ◌<◌, ◌≤◌, Bool, true, false, cond, List, [], Option, Some, None, refl, sym, ap, subst, ◌∙◌, arith, inl, inr}
+use Rattle.std.proofs.Common.{◌≡◌, ℕ, zero, suc, ◌+◌, ◌<◌, ◌≤◌, Bool, true, false, cond, List, Option, Some, None, refl, sym, ap, subst, ◌∙◌, arith, inl, inr}
 use Rattle.std.specs.Option.{option_map, MatchOption}
 use Rattle.std.proofs.lemmas.Bool.{cases_lt}
 use Rattle.nc_types.specs.Config.{ConfigView}
@@ -8,7 +8,7 @@ use Rattle.nc_tables.specs.declared.bgp.SessionRow.{SessionRow}
 use Rattle.nc_tables.specs.Base.{base_tables}
 use Rattle.nc_tables.specs.Sessions.{sessions}
 use Rattle.nc_tables.specs.Rounds.{BgpRowView, no_routes, round, after, IsSettled, IsStable, IsUnstable}
-use Rattle.nc_tables.specs.State.{StateView, HaveNoProcess, state_at, static_state}
+use Rattle.nc_tables.specs.State.{HaveNoProcess, state_at, static_state}
 use Rattle.nc_tables.specs.Settling.{same_table, settled_from, settled_table, settled}
 use Rattle.nc_tables.proofs.SameTables.{table_is, table_itself}
 use Rattle.nc_tables.proofs.WithoutProcess.{round_is, no_routes_is}

@@ -1,12 +1,12 @@
 -- A network in which no router has a BGP process: no session, no route, and no round changes that.
-use Rattle.std.proofs.Common.{◌≡◌, ℕ, zero, suc, ◌+◌, ◌<◌, List, [], ◌∷◌, length, map, get_or, replicate, All, Option, Some, None, option_and_then, refl, sym, ap, ◌∙◌, arith}
+use Rattle.std.proofs.Common.{◌≡◌, ℕ, zero, suc, ◌+◌, List, [], ◌∷◌, length, map, replicate, All, Option, None, refl, sym, ap, ◌∙◌, arith}
 use Rattle.std.specs.List.{filter_map, cons_option, range_with_len}
 use Rattle.std.specs.Option.{option_map_or}
 use Rattle.nc_types.specs.Config.{ConfigView, ProcessView}
 use Rattle.nc_tables.specs.declared.base.BaseRow.{BaseRow}
 use Rattle.nc_tables.specs.declared.bgp.SessionRow.{SessionRow}
 use Rattle.nc_tables.specs.Sessions.{process_of, session_at, sessions_of, sessions}
-use Rattle.nc_tables.specs.Rounds.{BgpRowView, chosen_anew, row_of, row_at, rows_anew, prefixes, round, no_routes, after, IsStable}
+use Rattle.nc_tables.specs.Rounds.{BgpRowView, row_of, row_at, rows_anew, prefixes, round, no_routes, after, IsStable}
 use Rattle.nc_tables.specs.State.{HaveNoProcess}
 
 -- ---- lists

@@ -1,10 +1,9 @@
 -- To which routers the hits of a router lead.
-use Rattle.std.proofs.Common.{◌≡◌, ℕ, ◌<◌, Bool, true, false, cond, ◌&&◌, not, nat_eq, List, [], ◌∷◌, map, length, Option, Some, None, option_and_then, slice_get, get_or, refl, sym, ap, ◌∙◌}
+use Rattle.std.proofs.Common.{◌≡◌, ℕ, Bool, false, nat_eq, List, map, Option, Some, None, option_and_then, slice_get, refl, sym, ap, ◌∙◌}
 use Rattle.std.specs.List.{list_any, range_with_len}
-use Rattle.std.specs.Option.{option_map, option_map_or}
-use Rattle.std.proofs.lemmas.Option.{slice_get-get_or}
+use Rattle.std.specs.Option.{option_map_or}
 use Rattle.nc_types.specs.Config.{ConfigView}
-use Rattle.nc_types.specs.Network.{PlaceIn, owner_of}
+use Rattle.nc_types.specs.Network.{PlaceIn}
 use Rattle.nc_tables.specs.declared.base.BaseRow.{BaseRow}
 use Rattle.nc_tables.specs.declared.base.BaseFrom.{BaseFrom}
 use Rattle.nc_tables.specs.declared.base.BaseFrom.TheVariants.{Connected, Static, Null as Discard}

@@ -1,5 +1,4 @@
-use Rattle.std.proofs.Common.{Some, None, Option, sym, ap, subst, ◌∙◌}
-use Rattle.nc_types.specs.Network.{up_of}
+use Rattle.std.proofs.Common.{Some, None, Option, sym, subst, ◌∙◌}
 use Rattle.nc_base_rib.specs.declared.links.Link.{Link}
 use Rattle.nc_base_rib.specs.Links.{IsLinkOf}
 use Rattle.nc_base_rib.proofs.Usable.{up_here_is, no_link, never_down, link_here, of_hop}

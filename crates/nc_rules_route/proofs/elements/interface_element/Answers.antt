@@ -2,7 +2,6 @@ use Rattle.std.proofs.Common.{◌≡◌, ℕ, ◌<◌, List, Some, [], ◌∷◌
 use Rattle.std.proofs.lemmas.Option.{slice_get_within, same_Some}
 use Rattle.nc_types.specs.Config.{ConfigView, config_view}
 use Rattle.nc_types.specs.Network.{number_at}
-use Rattle.nc_fact.specs.declared.fact.Fact.{Fact}
 use Rattle.nc_fact.specs.declared.fact.Fact.TheVariants.{Element}
 use Rattle.nc_rules_route.proofs.ElementFacts.{interface_found}
 use Rattle.nc_rules_route.proofs.elements.interface_element.Goals as goal

@@ -1,4 +1,4 @@
-use Rattle.std.proofs.Common.{◌≡◌, ℕ, Bool, Option, Some, None, cond, sym, ap, ◌∙◌}
+use Rattle.std.proofs.Common.{ℕ, Bool, Some, None, cond, sym, ap, ◌∙◌}
 use Rattle.std.specs.Option.{option_map}
 use Rattle.nc_types.specs.declared.config.IfaceId.{IfaceId}
 use Rattle.nc_underlay.proofs.Owners.{place_by, own_is}
