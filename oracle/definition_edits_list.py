@@ -215,6 +215,7 @@ ROUNDS = of(
      "a prefix is inside itself"),
     ("is_active", "is_longer_in p outer = nat_lt outer.len p.len && covers outer p.base", "is_longer_in p outer = nat_lt outer.len p.len", "any longer prefix is inside"),
     ("is_active", "is_longer_in row.prefix a.prefix && nat_lt 0 (length row.chosen)", "is_longer_in row.prefix a.prefix", "a row without a candidate contributes"),
+    ("message_at", "best_at router p = first_of (chosen_at router p)", "best_at router p = slice_get (chosen_at router p) 1", "the second of the chosen candidates is sent"),
     ("message_at", "passed c None route = Some (record { route = route; clause = None; list = None })", "passed c None route = None", "without a map nothing passes"),
     ("message_at", "a.summary_only && is_longer_in prefix a.prefix", "is_longer_in prefix a.prefix", "each aggregate holds back"),
     ("message_at", "if is_held_back k.sender.process", "if is_held_back k.receiver.process", "the receiver's aggregates hold back"),
@@ -359,6 +360,8 @@ RELATIONS = of(
 ) + of(
     "State",
     ("IsState", "pub tables : s ≡ state_at s.routers s.bgp", "pub tables : s ≡ s", "any tables will do"),
+    ("IsState", "pub few : length s.routers ≤ ROUTER_LIMIT", "pub few : length s.routers ≤ length s.routers", "there may be any number of routers"),
+    ("IsState", "s.sessions rounds s.bgp", "s.sessions (length s.routers) s.bgp", "the rounds are as many as the routers"),
     ("IsState", "pub valid : IsValid s.routers", "pub valid : IsValid []", "the routers needn't be valid"),
 )
 
