@@ -207,7 +207,3 @@ module _ {F : Type 0} (g : Flow F) (law : IsFlow g) (old : Nodes F) (roots : Lis
   -- the facts inferred are the new nodes, then
   pub counts : (n : Nodes F) (found count : ℕ) → Walk g old roots before n [] found count → count ≡ raised before (length n.facts - length old.facts)
   counts n found count w = let a = w.counted in let b = w.all_found in omega arith
-
-  -- at each step no more than the limit were inferred
-  pub bounded : (n : Nodes F) (st : List (Step F)) (found count : ℕ) → before < 2 ^ 64 → Walk g old roots before n st found count → (before ≤ count) × (count ≤ raised before old.limit)
-  bounded n st found count small w = let a = w.counted in let b = w.room in let c = w.extends.limit in (omega arith, omega arith)

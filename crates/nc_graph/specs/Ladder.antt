@@ -52,18 +52,3 @@ IsFlow-ladder = record {
   chosen = λ f h. ladder-chosen f;
   bare = λ f e h. ladder-bare f e;
 }
-
--- a rung of the ladder
-pub ladder_kind-rung : (n : ℕ) → 3 < n → ladder_kind n ≡ Every
-ladder_kind-rung zero l = absurd (omega arith)
-ladder_kind-rung (suc zero) l = absurd (omega arith)
-ladder_kind-rung (suc (suc zero)) l = absurd (omega arith)
-ladder_kind-rung (suc (suc (suc zero))) l = absurd (omega arith)
-ladder_kind-rung (suc (suc (suc (suc n)))) l = refl
-
-pub ladder_parents-rung : (n m : ℕ) → m + 1 ≡ n → 3 < n → ladder_parents n ≡ m ∷ []
-ladder_parents-rung zero m e l = absurd (omega arith)
-ladder_parents-rung (suc zero) m e l = absurd (omega arith)
-ladder_parents-rung (suc (suc zero)) m e l = absurd (omega arith)
-ladder_parents-rung (suc (suc (suc zero))) m e l = absurd (omega arith)
-ladder_parents-rung (suc (suc (suc (suc n)))) m e l = ap (λ x. x ∷ []) (let s : suc (suc (suc n)) ≡ m = omega arith in s)

@@ -179,11 +179,6 @@ module _ {F : Type 0} (n : Nodes F) (is : IsGraph n) (t next : Table) (gathered 
         new (count ∙ are.marks.count) strong-more (λ e lt. w e (within-elements e lt).0);
   }
 
--- how many nodes a view has
-pub nodes-of : (t : Table) (places : List ℕ) (flags : List Bool) (marks : ElementMarks) (k : Kept) → ◌≡◌ {A = Kept} (record { strong = sets_at t places; reached = flags; marks = marks }) k
-    → kept_nodes k ≡ length places
-nodes-of t places flags marks k view = ap (λ (k : Kept). length k.strong) (sym view) ∙ length-map places (λ place. get_or t.sets place [])
-
 -- where no flag of an element is raised anew it has the mark that it had
 pub mark-same : (old new : ElementMarks) (e : ℕ) (s w : Bool) → flag new.strong e ≡ (s || flag old.strong e) → flag new.some e ≡ (w || flag old.some e)
     → (flag old.strong e ≡ false → s ≡ false) → (flag old.some e ≡ false → w ≡ false) → mark_of new (Some e) ≡ mark_of old (Some e)

@@ -27,47 +27,7 @@ or_order true true c = refl
 or_order true false c = refl
 or_order false b c = refl
 
--- nothing is raised
-pub raises-none : (xs : List NodeId) (flags : List Bool) → Raises xs xs flags flags
-raises-none xs flags = record {
-  more = [];
-  next_is = sym (append-nil xs);
-  len = refl;
-  each = λ i. refl;
-  fresh = λ k d lt. absurd (omega arith);
-  count = refl;
-}
-
--- the flag of one node
-pub flag-one : (flags : List Bool) (place i : ℕ) → place < length flags → flag (set flags place true) i ≡ (nat_eq i place || flag flags i)
-flag-one flags place i lt = elim (cases_eq i place) [
-  | inl e ↦ ap (flag (set flags place true)) e ∙ get_or-set_same flags place true false lt ∙ sym (or_left (nat_eq i place) (flag flags i) (eq-eqb i place e))
-  | inr ne ↦ get_or-set_other flags place i true false ne ∙ sym (ap (λ b. b || flag flags i) (no i place ne))
-]
-  where
-    no : (i place : ℕ) → (i ≡ place → ⊥) → nat_eq i place ≡ false
-    no i place ne = elim (nat_eq i place) as (λ b. nat_eq i place ≡ b → nat_eq i place ≡ false) [ true ↦ λ e. absurd (ne (eqb-true i place e)) | false ↦ λ e. e ] refl
-
--- one node is raised
-pub raises-one : (xs : List NodeId) (p : NodeId) (flags : List Bool) → p.0 < length flags → flag flags p.0 ≡ false → Raises xs (xs ++ p ∷ []) flags (set flags p.0 true)
-raises-one xs p flags lt low = record {
-  more = p ∷ [];
-  next_is = refl;
-  len = length-set flags p.0 true;
-  each = λ i. flag-one flags p.0 i lt ∙ ap (λ b. b || flag flags i) (sym (or_false (nat_eq i p.0)));
-  fresh = all_from (λ q. flag flags q.0 ≡ false) (p ∷ []) (λ q i. elim i [ inl e ↦ subst (λ (q : NodeId). flag flags q.0 ≡ false) e low | inr z ↦ absurd z ]);
-  count =
-      let long = length_push xs p in
-      let sums = sum_by-set (λ b. cond {A = ℕ} b 0 1) flags p.0 true false lt in
-      let one : cond {A = ℕ} (get_or flags p.0 false) 0 1 ≡ 1 = ap (λ b. cond {A = ℕ} b 0 1) low in
-      omega arith;
-}
-  where
-    or_false : (b : Bool) → (b || false) ≡ b
-    or_false true = refl
-    or_false false = refl
-
--- and then others
+-- nodes are raised, and then others
 pub raises-trans : (xs ys zs : List NodeId) (a b c : List Bool) → Raises xs ys a b → Raises ys zs b c → Raises xs zs a c
 raises-trans xs ys zs a b c r s = record {
   more = r.more ++ s.more;
@@ -92,10 +52,6 @@ all-raised xs ys a b r all = subst (All (λ p. flag b p.0 ≡ true)) (sym r.next
   | inl j ↦ still xs ys a b r p.0 (of_all (λ p. flag a p.0 ≡ true) xs p all j)
   | inr j ↦ r.each p.0 ∙ or_left (has_node r.more p.0) (flag a p.0) (node-in r.more p j)
 ]))
-
--- raised flags are those of nodes
-pub all-within : (xs : List NodeId) (flags : List Bool) (count : ℕ) → length flags ≡ count → All (λ p. flag flags p.0 ≡ true) xs → All (λ p. p.0 < count) xs
-all-within xs flags count long all = all_from (λ p. p.0 < count) xs (λ p i. let lt = flag-within flags p.0 (of_all (λ p. flag flags p.0 ≡ true) xs p all i) in omega arith)
 
 -- the nodes that were raised are lowered
 pub lowered-back : (more : List NodeId) (before after back : List Bool) → Raises [] more before after → length back ≡ length after
@@ -135,12 +91,6 @@ open-first g nodes ys a b are r = record {
         | inr x ↦ x
       ] in
       all_from (λ p. flag b p ≡ true) (g.parents i) (λ p j. still [] ys a b r p (of_all (λ p. flag a p ≡ true) (g.parents i) p (are.closed.each i (omega arith) old) j));
-}
-
--- none of them is left
-pub closed-last : (g : Flow ℕ) (xs : List NodeId) (at : ℕ) (flags : List Bool) → length xs ≤ at → IsOpenAt g (drop at xs) flags → IsClosed g 0 flags
-closed-last g xs at flags few open' = record {
-  each = λ i low h. open'.each i h (ap (λ (ps : List NodeId). has_node ps i) (drop_all at xs few));
 }
 
 module _ {F : Type 0} (n : Nodes F) (is : IsGraph n) (xs ys : List NodeId) (at : ℕ) (a b : List Bool) (node : NodeId) (long : length a ≡ length n.facts) (lt : at < length xs) (at-is : get_or xs at node ≡ node)

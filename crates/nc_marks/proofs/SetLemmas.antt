@@ -55,24 +55,10 @@ keeps-common n all set f0 f1 f2 told lowered raised e h =
 pub sets-take : (len : ℕ) (vs ws : List (Vec ℕ Global)) → ws ≡ take len vs → map (λ (v : Vec ℕ Global). v.items) ws ≡ take len (map (λ (v : Vec ℕ Global). v.items) vs)
 sets-take len vs ws e = ap (map (λ (v : Vec ℕ Global). v.items)) e ∙ sym (take-map (λ (v : Vec ℕ Global). v.items) len vs)
 
--- a list that went on with no elements, and then with more
-pub lists-none : (flags : List Bool) (passes : ℕ → Bool) (xs : List ℕ) → ((e : ℕ) → e < length flags → flag flags e ≡ false → passes e ≡ true → ⊥) → Lists flags passes xs xs
-lists-none flags passes xs none = record { kept = λ e h. h; listed = λ e p lt low. absurd (none e lt low p); within = λ all. all }
-
+-- a list that went on twice
 pub lists-more : (flags : List Bool) (p q r : ℕ → Bool) (xs ys zs : List ℕ) → ((e : ℕ) → r e ≡ (p e || q e)) → Lists flags p xs ys → Lists flags q ys zs → Lists flags r xs zs
 lists-more flags p q r xs ys zs parts a b = record {
   kept = λ e h. b.kept e (a.kept e h);
   listed = λ e passes lt low. elim (or_cases (p e) (q e) (sym (parts e) ∙ passes)) [ inl x ↦ b.kept e (a.listed e x lt low) | inr x ↦ b.listed e x lt low ];
   within = λ all. b.within (a.within all);
-}
-
--- one element at the end
-pub lists-one : (flags : List Bool) (element : ℕ) (xs : List ℕ) → element < length flags → Lists flags (λ e. nat_eq e element) xs (xs ++ element ∷ [])
-lists-one flags element xs lt = record {
-  kept = λ e h. list_any-append (nat_eq e) xs (element ∷ []) ∙ or_left (has xs e) (has (element ∷ []) e) h;
-  listed = λ e h l low. list_any-append (nat_eq e) xs (element ∷ []) ∙ or_right (has xs e) (has (element ∷ []) e) (or_left (nat_eq e element) false h);
-  within = λ all. all_from (λ e. e < length flags) (xs ++ element ∷ []) (λ e i. elim (in_parts xs (element ∷ []) e i) [
-    | inl j ↦ of_all (λ e. e < length flags) xs e all j
-    | inr j ↦ elim j [ inl same ↦ subst (λ e. e < length flags) same lt | inr z ↦ absurd z ]
-  ]);
 }

@@ -17,9 +17,6 @@ use nc_graph::node::{NodeId, NodeKind};
 use std::alloc::{AllocError, Global};
 use std::hash::Hash;
 
-#[cfg(test)]
-mod tests;
-
 // The place of the strong elements of a node, by those of its parents.
 pub(crate) fn place_of<F: Copy + Eq + Hash>(
     graph: &Graph<F>,

@@ -1,10 +1,8 @@
 ghost use Rattle.std.specs.Prelude.{◌<◌, ◌^◌};
 ghost use Rattle.nc_graph.specs.Ladder.{ladder, IsFlow-ladder};
-ghost use Rattle.nc_graph.specs.Nodes.{Mirrors};
 ghost use Rattle.std.proofs.lemmas.Bool.{eqb-true};
 
 use super::*;
-use std::process::Abort;
 use std::test::Fail;
 
 // The leaves 0 and 1, the conjunctive fact 2 over both, the disjunctive fact 3 over 0 and 2, and
@@ -53,64 +51,14 @@ impl Inference for Ladder {
     ghost exact = { eqb-true };
 }
 
-// Adds one fact, and sees that a refusal leaves the graph as it was.
-fn add_one(
-    rt: &impl Abort,
-    graph: &mut Graph<u32>,
-    rules: &mut Ladder,
-    fact: u32,
-) -> Result<NodeId, GraphFault>
-    requires { Mirrors ladder graph.old }
-    ensures { Mirrors ladder graph.new }
-{
-    let before = graph.len();
-    match graph.add(rules, &[fact]) {
-        Ok(nodes) => {
-            assert_eq!(rt; nodes.len(), 1);
-            Ok(nodes[0])
-        }
-        Err(fault) => {
-            assert_eq!(rt; graph.len(), before);
-            Err(fault)
-        }
-    }
-}
-
-#[test]
-fn infers_each_fact_once(rt: HostRuntime) -> Result<(), Fail> {
-    let mut graph = Graph::new(rt.alloc(), 4);
-    let mut rules = Ladder { asked: 0 };
-    let node = add_one(&rt, &mut graph, &mut rules, 3)?;
-    assert_eq!(rt; (graph.len(), rules.asked), (4, 4));
-    assert!(rt; node.0 < graph.len());
-    assert_eq!(rt; graph.kind(node), NodeKind::Any);
-    let parents = graph.parents(node);
-    assert_eq!(rt; parents.len(), 2);
-    assert!(rt; parents[0].0 < graph.len() && parents[1].0 < graph.len());
-    assert_eq!(rt; (*graph.fact(parents[0]), *graph.fact(parents[1])), (0, 2));
-    add_one(&rt, &mut graph, &mut rules, 2)?;
-    assert_eq!(rt; (graph.len(), rules.asked), (4, 4));
-    Ok(())
-}
-
-#[test]
-fn refuses_what_has_no_room(rt: HostRuntime) -> Result<(), Fail> {
-    let mut graph = Graph::new(rt.alloc(), 3);
-    let mut rules = Ladder { asked: 0 };
-    let added = add_one(&rt, &mut graph, &mut rules, 3);
-    assert_eq!(rt; graph.len(), 0);
-    match added {
-        Err(GraphFault::Full) => Ok(()),
-        Err(GraphFault::Memory) => Err(GraphFault::Memory)?,
-        Ok(_) => Err("three nodes for four facts")?,
-    }
-}
-
 #[test]
 fn adds_a_long_chain(rt: HostRuntime) -> Result<(), Fail> {
     let mut graph = Graph::new(rt.alloc(), 1_000_000);
     let mut rules = Ladder { asked: 0 };
-    add_one(&rt, &mut graph, &mut rules, 300_000)?;
-    assert_eq!(rt; (graph.len(), rules.asked), (300_001, 300_001));
+    let nodes = graph.add(&mut rules, &[300_000])?;
+    assert_eq!(rt;
+        (nodes.len(), graph.len(), rules.asked),
+        (1, 300_001, 300_001)
+    );
     Ok(())
 }
