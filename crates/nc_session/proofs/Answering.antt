@@ -1,68 +1,109 @@
 -- What is answered to a test that tests something, and how many facts are inferred for it.
-use Rattle.std.proofs.Common.{◌≡◌, ℕ, ◌-◌, ◌<◌, Bool, true, false, nat_eq, nat_lt, List, [], ◌∷◌, ◌++◌, length, slice_index_or, Option, Some, None, is_some, codes, inr, refl, sym, ap, ◌∙◌, subst, arith}
-use Rattle.std.proofs.lemmas.Bool.{eq-eqb, lt-ltb}
-use Rattle.std.proofs.lemmas.List.{length-map, length_push}
-use Rattle.std.specs.Option.{option_map}
+use Rattle.std.proofs.Common.{◌≡◌, ℕ, ◌-◌, ◌<◌, ◌≤◌, Bool, true, false, nat_lt, List, [], ◌∷◌, ◌++◌, if◌then◌else◌, length, Option, Some, None, is_some, codes, inl, inr, refl, sym, ap, ◌∙◌, subst, arith}
+use Rattle.std.proofs.lemmas.Bool.{lt-ltb}
+use Rattle.std.proofs.lemmas.List.{length-map}
+use Rattle.std.specs.List.{filter}
+use Rattle.std.specs.Option.{option_map, option_map_or}
 use Rattle.nc_types.specs.Network.{router_named}
 use Rattle.nc_types.specs.declared.command.TestCommand.{TestCommand}
+use Rattle.nc_types.specs.declared.command.TestCommand.TheVariants.{Rib, Bgp, Session, Reach, Every, Element}
 use Rattle.nc_graph.specs.Closure.{IsClosure}
 use Rattle.nc_graph.specs.Flow.{raised}
 use Rattle.nc_tables.specs.State.{StateView}
 use Rattle.nc_fact.specs.declared.fact.Fact.{Fact}
-use Rattle.nc_fact.specs.Tested.{tested_facts}
+use Rattle.nc_fact.specs.Facts.{holds}
+use Rattle.nc_fact.specs.Tested.{tested_facts, asked_rows}
 use Rattle.nc_rules.specs.Rules.{flow_of}
-use Rattle.nc_command.specs.Command.{text_of}
-use Rattle.nc_session.specs.declared.TheConstants.{TEST_LIMIT}
+use Rattle.nc_rules.specs.Seen.{state_of, asked_of}
+use Rattle.nc_command.specs.declared.command.Command.TheVariants.{Test}
+use Rattle.nc_command.specs.Command.{Asks, text_of}
+use Rattle.nc_session.specs.declared.TheConstants.{TEST_LIMIT, FACT_LIMIT}
 use Rattle.nc_session.specs.declared.work.Work.{Work}
-use Rattle.nc_session.specs.Texts.{line_of, accepted_of}
-use Rattle.nc_session.specs.Session.{State, IsReply, Counts, Tests, Named, router_of, tested_in}
-use Rattle.nc_session.specs.Engine.{Asks}
-use Rattle.nc_session.specs.Work.{IsWork, Takes, Replies, Counted, progress_of, tests_of}
+use Rattle.nc_session.specs.Texts.{line_of}
+use Rattle.nc_session.specs.Session.{KeptTest, State, IsReply, Counts, Tests, Named, router_of, asked_in}
+use Rattle.nc_session.specs.Engine.{Infers, InfersAll, asked_for}
+use Rattle.nc_session.specs.Work.{IsWork, Takes, Replies, Counted, test_view, tests_of}
+use Rattle.nc_session.proofs.Working.{asked-more}
 
--- the refusal of a test for its facts
-abbrev pub overfull : List ℕ
-overfull = line_of (codes "refused limit facts")
+module _ (old new : Work) (facts : List Fact) (before after : List ℕ) (state : state_of new.rules ≡ state_of old.rules) where
+  -- the state of the network
+  abbrev pub at : StateView
+  at = state_of old.rules
 
--- texts with another letter at a place are others
-differs : (xs ys : List ℕ) (place : ℕ) → nat_eq (slice_index_or xs place 0) (slice_index_or ys place 0) ≡ false → xs ≡ ys → ⊥
-differs xs ys place other same =
-    let equal : nat_eq (slice_index_or xs place 0) (slice_index_or ys place 0) ≡ true = eq-eqb (slice_index_or xs place 0) (slice_index_or ys place 0) (ap (λ (l : List ℕ). slice_index_or l place 0) same) in
-    cc
-
-module _ (old new : Work) (facts : List Fact) (before after : List ℕ) (state : new.state ≡ old.state) (room : length old.tests.items < TEST_LIMIT) where
-  has_room : nat_lt (length (tests_of old)) TEST_LIMIT ≡ true
-  has_room = lt-ltb (length (tests_of old)) TEST_LIMIT (omega (arith, length-map old.tests.items (λ facts. facts.items)))
-
-  counted : (reply : List ℕ) → Counts old.state true (progress_of old).session facts reply (progress_of new).session → after ≡ before ++ reply → Asks (progress_of old) (progress_of new) reply → Counted old new facts before after
-  counted reply answer text asks = record {
+  counted : (room : Bool) → nat_lt (length (tests_of old)) TEST_LIMIT ≡ room → (reply : List ℕ) → Counts at room (record { tests = tests_of old }) facts reply (record { tests = tests_of new })
+      → after ≡ before ++ reply → Infers at (tests_of old) (if room then facts else []) (asked_of old.rules) (asked_of new.rules) → Counted old new facts before after
+  counted room is reply answer text infers = record {
     reply = reply;
-    answer = subst (λ (b : Bool). Counts old.state b (progress_of old).session facts reply (progress_of new).session) (sym has_room) answer;
+    answer = subst (λ (b : Bool). Counts at b (record { tests = tests_of old }) facts reply (record { tests = tests_of new })) (sym is) answer;
     text = text;
     state = state;
-    asks = asks;
+    infers = subst (λ (b : Bool). Infers at (tests_of old) (if b then facts else []) (asked_of old.rules) (asked_of new.rules)) (sym is) infers;
   }
 
-  -- it is taken up
-  pub accepted : Takes true old new facts → IsWork old → IsWork new → ((fs xs ys : List Fact) → IsClosure (flow_of old.state) fs xs → IsClosure (flow_of old.state) fs ys → length xs ≡ length ys)
-      → Replies new before after → Counted old new facts before after
-  accepted taken was is lengths r = counted r.reply (inr (taken.0, ap (λ (tests : List (List Fact)). record { tests = tests }) taken.1, answers)) r.text (record {
-    accepted = λ xs ys grown a b. taken.2 ∙ ap (λ (n : ℕ). raised old.asked n) (added xs ys a b);
-    refused = λ same. absurd (differs (accepted_of (length (tests_of new)) (length r.is_reply.asked) ++ r.is_reply.report) overfull 0 refl (sym r.is_reply.text ∙ same));
-    unasked = λ same is. absurd (omega (arith, ap (λ (s : State). length s.tests) same, ap length taken.1, length_push (tests_of old) facts));
-  })
-    where
-      answers : IsReply old.state (tests_of new) r.reply
-      answers = subst (λ (s : StateView). IsReply s (tests_of new) r.reply) state r.is_reply
+  module _ (room : length old.tests.items < TEST_LIMIT) (some : 0 < length facts)
+      (lengths : (fs xs ys : List Fact) → IsClosure (flow_of at) fs xs → IsClosure (flow_of at) fs ys → length xs ≡ length ys) (was : IsWork old) where
+    has_room : nat_lt (length (tests_of old)) TEST_LIMIT ≡ true
+    has_room = lt-ltb (length (tests_of old)) TEST_LIMIT (omega (arith, length-map old.tests.items test_view))
 
-      closure : IsClosure (flow_of old.state) (tested_in (tests_of new)) new.graph.facts
-      closure = subst (λ (s : StateView). IsClosure (flow_of s) (tested_in (tests_of new)) new.graph.facts) state is.marked.closure
+    infers-some : (fs : List Fact) → 0 < length fs → InfersAll at (tests_of old) fs (asked_of old.rules) (asked_of new.rules) → Infers at (tests_of old) fs (asked_of old.rules) (asked_of new.rules)
+    infers-some [] few all = absurd (omega arith)
+    infers-some (f ∷ fs) few all = all
 
-      added : (xs ys : List Fact) → IsClosure (flow_of old.state) (tested_in (tests_of old)) xs → IsClosure (flow_of old.state) (tested_in (tests_of new)) ys
-          → length new.graph.facts - length old.graph.facts ≡ length ys - length xs
-      added xs ys a b =
-          let first : length xs ≡ length old.graph.facts = lengths (tested_in (tests_of old)) xs old.graph.facts a was.marked.closure in
-          let last : length ys ≡ length new.graph.facts = lengths (tested_in (tests_of new)) ys new.graph.facts b closure in
-          omega arith
+    -- it is taken up
+    pub accepted : Takes true old new facts → IsWork new → Replies new before after → Counted old new facts before after
+    accepted taken is r = counted true has_room r.reply (inr (taken.0, ap (λ (tests : List KeptTest). record { tests = tests }) taken.1, answers)) r.text (infers-some facts some (record {
+      fits = λ few xs ys a b. taken.2 ∙ ap (λ (n : ℕ). raised (asked_of old.rules) n) (added xs ys a b);
+      full = λ many. absurd (taken.0 many);
+    }))
+      where
+        answers : IsReply at (tests_of new) r.reply
+        answers = subst (λ (s : StateView). IsReply s (tests_of new) r.reply) state r.is_reply
+
+        closure : IsClosure (flow_of at) (asked_in (tests_of old) ++ facts) new.graph.facts
+        closure = subst (λ (fs : List Fact). IsClosure (flow_of at) fs new.graph.facts) (ap asked_in taken.1 ∙ asked-more (tests_of old) facts)
+            (subst (λ (s : StateView). IsClosure (flow_of s) (asked_in (tests_of new)) new.graph.facts) state is.marked.closure)
+
+        added : (xs ys : List Fact) → IsClosure (flow_of at) (asked_in (tests_of old)) xs → IsClosure (flow_of at) (asked_in (tests_of old) ++ facts) ys
+            → length new.graph.facts - length old.graph.facts ≡ length ys - length xs
+        added xs ys a b =
+            let first : length xs ≡ length old.graph.facts = lengths (asked_in (tests_of old)) xs old.graph.facts a was.marked.closure in
+            let last : length ys ≡ length new.graph.facts = lengths (asked_in (tests_of old) ++ facts) ys new.graph.facts b closure in
+            omega arith
+
+    -- it is refused for its facts
+    pub overfilled : Takes false old new facts → (reply : List ℕ) → reply ≡ line_of (codes "refused limit facts") → after ≡ before ++ reply → Counted old new facts before after
+    overfilled taken reply is text = counted true has_room reply (inl (taken.0, (is, ap (λ (tests : List KeptTest). record { tests = tests }) taken.1))) text (infers-some facts some (record {
+      fits = λ few. absurd (few taken.0);
+      full = λ many xs a. taken.2 ∙ ap (λ (n : ℕ). raised (asked_of old.rules) (FACT_LIMIT - n)) (lengths (asked_in (tests_of old)) old.graph.facts xs was.marked.closure a);
+    }))
+
+-- a test that tests nothing, and one whose router isn't there, ask for no fact
+pub none-asked : (s : StateView) (tests : List KeptTest) (test : TestCommand) → tested_facts s test ≡ [] → asked_for s tests (Asks (Test test)) ≡ []
+none-asked s tests test none = ap (λ (fs : List Fact). if nat_lt (length tests) TEST_LIMIT then fs else []) none ∙ never (nat_lt (length tests) TEST_LIMIT)
+  where
+    never : (b : Bool) → ◌≡◌ {A = List Fact} (if b then [] else []) []
+    never true = refl
+    never false = refl
+
+pub none-named : (s : StateView) (test : TestCommand) → router_named s.routers (router_of test) ≡ None → tested_facts s test ≡ []
+unfolding tested_facts
+none-named s (Rib name prefix via) none = ap (λ (r : Option ℕ). filter (holds s) (option_map_or (λ router. asked_rows s router prefix via) r [])) none
+none-named s (Bgp name prefix from) none = refl
+none-named s (Session name addr) none = refl
+none-named s (Reach name addr) none = refl
+none-named s (Every name addr) none = refl
+none-named s (Element name line) none = refl
+
+-- no router is found
+pub unnamed : {R : Type 0} (number : R → ℕ) (found : Option R) (router : Option ℕ) → is_some found ≡ false → option_map number found ≡ router → router ≡ None
+unnamed number None router out is = sym is
+unnamed number (Some r) router out is = absurd (cc)
+
+-- a test whose router isn't there
+pub unknown : (s : StateView) (tests : List KeptTest) (test : TestCommand) → router_named s.routers (router_of test) ≡ None
+    → Named s (router_named s.routers (router_of test)) (record { tests = tests }) test (line_of (codes "refused router " ++ router_of test)) (record { tests = tests })
+unknown s tests test none =
+    subst (λ (r : Option ℕ). Named s r (record { tests = tests }) test (line_of (codes "refused router " ++ router_of test)) (record { tests = tests })) (sym none) (refl, refl)
 
 -- a test whose router is there, and that tests something, is answered as its facts are
 pub named : {R : Type 0} (number : R → ℕ) (found : Option R) (s : StateView) (test : TestCommand) (facts : List Fact) (old new : State) (reply : List ℕ)

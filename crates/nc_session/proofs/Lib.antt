@@ -17,3 +17,5 @@ mod Replying
 mod Answering
 mod ValidLoads
 mod OneOutput
+mod Counting
+mod Showing

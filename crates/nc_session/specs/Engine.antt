@@ -1,5 +1,5 @@
 -- What an engine has, how it answers a line, and how many facts it infers for it.
-use Rattle.std.specs.Prelude.{◌≡◌, ℕ, ◌-◌, nat_lt, List, [], ◌++◌, length, Option, Some, if◌then◌else◌}
+use Rattle.std.specs.Prelude.{◌≡◌, ℕ, ◌-◌, nat_lt, List, [], ◌∷◌, ◌++◌, length, Option, Some, if◌then◌else◌}
 use Rattle.nc_graph.specs.Flow.{raised}
 use Rattle.nc_graph.specs.Closure.{IsClosure, ReachesMoreThan}
 use Rattle.nc_tables.specs.State.{StateView}
@@ -35,14 +35,18 @@ module _ (s : StateView) (tests : List KeptTest) where
   asked_for (Asks (Test test)) = if nat_lt (length tests) TEST_LIMIT then tested_facts s test else []
   asked_for line = []
 
-  -- facts are inferred once: as many as are new where they fit, else as many as there was room for; for a line that asks for none no fact
-  pub record Infers (facts : List Fact) (before now : ℕ) : Type 0 where
-    pub none : facts ≡ [] → now ≡ before
+  -- facts are inferred once: as many as are new where they fit, else as many as there was room for
+  pub record InfersAll (facts : List Fact) (before now : ℕ) : Type 0 where
     pub fits : ¬ ReachesMoreThan (flow_of s) FACT_LIMIT (asked_in tests ++ facts) → (xs ys : List Fact)
         → IsClosure (flow_of s) (asked_in tests) xs → IsClosure (flow_of s) (asked_in tests ++ facts) ys
         → now ≡ raised before (length ys - length xs)
     pub full : ReachesMoreThan (flow_of s) FACT_LIMIT (asked_in tests ++ facts) → (xs : List Fact)
         → IsClosure (flow_of s) (asked_in tests) xs → now ≡ raised before (FACT_LIMIT - length xs)
+
+  -- for a line that asks for facts, and for one that asks for none
+  abbrev pub Infers : List Fact → ℕ → ℕ → Type 0
+  Infers [] before now = now ≡ before
+  Infers (fact ∷ facts) before now = InfersAll (fact ∷ facts) before now
 
 -- a line is answered: the reply goes to the end of the bytes; state and files stay
 pub record Answered (old new : Progress) (line before after : List ℕ) : Type 0 where

@@ -9,4 +9,5 @@ pub mod File
 pub mod Engine
 pub mod Work
 pub mod Sheets
+pub mod Shown
 pub mod Serving

@@ -10,6 +10,12 @@ use Rattle.nc_session.specs.Texts.{Sheet, letter}
 abbrev pub sheet_view : Made → Sheet
 sheet_view s = record { name = s.name.items; letters = s.letters.items }
 
+-- the sheets of routers, the first of which has this number, with a letter for each router and place of a line
+abbrev pub sheets_by : (ℕ → ℕ → ℕ) → ℕ → List ConfigView → List Sheet
+sheets_by letters router [] = []
+sheets_by letters router (c ∷ cs) =
+    record { name = c.name; letters = map (letters router) (range_with_len 0 c.line_count) } ∷ sheets_by letters (router + 1) cs
+
 module _ (routers : List ConfigView) (marks : ElementMarks) where
   -- the letter of a line of a router
   abbrev pub letter_at : ℕ → ℕ → ℕ
@@ -17,7 +23,7 @@ module _ (routers : List ConfigView) (marks : ElementMarks) where
 
   -- the letters of the lines of a router, from behind a line on
   abbrev pub letters_from : ℕ → ℕ → ℕ → List ℕ
-  letters_from router line count = map (λ k. letter_at router (k + 1)) (range_with_len line count)
+  letters_from router line count = map (λ place. letter_at router (place + 1)) (range_with_len line count)
 
   -- the sheet of the router of a number
   abbrev pub sheet_at : ℕ → ConfigView → Sheet
@@ -25,5 +31,4 @@ module _ (routers : List ConfigView) (marks : ElementMarks) where
 
   -- the sheets of routers, the first of which has this number
   abbrev pub sheets_from : ℕ → List ConfigView → List Sheet
-  sheets_from router [] = []
-  sheets_from router (c ∷ cs) = sheet_at router c ∷ sheets_from (router + 1) cs
+  sheets_from router cs = sheets_by (λ router place. letter_at router (place + 1)) router cs

@@ -28,8 +28,10 @@ pub struct Engine {
 }
 
 impl Model for Engine {
-    ghost use Rattle.std.specs.Prelude.{Option};
+    ghost use Rattle.std.specs.Prelude.{Option, map};
     ghost use Rattle.std.specs.Option.{option_map, ForSome};
+    ghost use Rattle.nc_rules.specs.Seen.{state_of};
+    ghost use Rattle.nc_session.specs.File.{AreFilesOf, file_view};
     ghost use Rattle.nc_session.specs.Engine.{Progress};
     ghost use Rattle.nc_session.specs.Work.{progress_of, IsWork};
 
@@ -37,7 +39,8 @@ impl Model for Engine {
 
     ghost view = { λ e. option_map (progress_of (map file_view e.files.items)) e.work };
 
-    ghost invariant = { λ e. ForSome e.work IsWork };
+    ghost invariant = { λ e. ForSome e.work (λ w. IsWork w
+      × AreFilesOf (state_of w.rules).routers (map file_view e.files.items)) };
 }
 
 impl Engine {

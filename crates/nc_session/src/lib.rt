@@ -17,6 +17,7 @@ mod refusal;
 mod report;
 mod runs;
 mod serving;
+mod shown;
 mod status;
 #[cfg(test)]
 mod tests;

@@ -1,11 +1,11 @@
-//! The report: how the lines of all files are marked, as text.
+//! The parts of a report: how the lines of all files are marked, as text.
 
-ghost use Rattle.std.specs.Prelude.{◌≡◌, ◌++◌, map, OnOk, IfOk, string_bytes};
+ghost use Rattle.std.specs.Prelude.{◌≡◌, ◌++◌, map, OnOk, IfOk};
 ghost use Rattle.std.specs.List.{flat_map};
 ghost use Rattle.nc_types.specs.Config.{config_view};
 ghost use Rattle.nc_types.specs.Network.{element_count};
 ghost use Rattle.nc_marks.specs.Marks.{marked_elements};
-ghost use Rattle.nc_session.specs.Texts.{letter, count_of, summary_of, sheet_of, report_of, line_of};
+ghost use Rattle.nc_session.specs.Texts.{letter, sheet_of, line_of};
 ghost use Rattle.nc_session.specs.Sheets.{sheet_view, letters_from, sheet_at, sheets_from};
 
 use nc_marks::mark::{Mark, Marks};
@@ -20,7 +20,7 @@ pub(crate) struct Sheet {
 }
 
 // The letter of a mark.
-fn letter(mark: Mark) -> u8
+pub(crate) fn letter(mark: Mark) -> u8
     ensures { result ≡ letter mark }
 {
     match mark {
@@ -67,7 +67,7 @@ fn router_sheet(
 }
 
 // The sheets of all routers.
-fn sheets(alloc: Global, network: &Network, marks: &Marks) -> Result<Vec<Sheet>, AllocError>
+pub(crate) fn sheets(alloc: Global, network: &Network, marks: &Marks) -> Result<Vec<Sheet>, AllocError>
     requires { marked_elements marks.now ≡ element_count network.now }
     ensures { IfOk result (λ sheets. map sheet_view sheets.items ≡ sheets_from network.now marks.now 0 network.now) }
 {
@@ -80,7 +80,7 @@ fn sheets(alloc: Global, network: &Network, marks: &Marks) -> Result<Vec<Sheet>,
 }
 
 // The letters of all sheets.
-fn all_letters(alloc: Global, sheets: &[Sheet]) -> Result<Vec<u8>, AllocError>
+pub(crate) fn all_letters(alloc: Global, sheets: &[Sheet]) -> Result<Vec<u8>, AllocError>
     ensures { IfOk result (λ letters. letters.items ≡ flat_map (λ s. s.letters) (map sheet_view sheets.now)) }
 {
     let mut letters = Vec::new(alloc);
@@ -90,13 +90,6 @@ fn all_letters(alloc: Global, sheets: &[Sheet]) -> Result<Vec<u8>, AllocError>
     Ok(letters)
 }
 
-// How many letters are this one.
-fn count(letters: &[u8], sign: u8) -> usize
-    ensures { result ≡ count_of sign letters.now }
-{
-    letters.iter().filter(|b| **b == sign).count()
-}
-
 /// Appends a text and a line feed.
 pub(crate) fn push_line(out: &mut Vec<u8>, text: &[u8]) -> Result<(), AllocError>
     ensures { OnOk result (out.new.items ≡ out.old.items ++ line_of text.now) }
@@ -104,17 +97,6 @@ pub(crate) fn push_line(out: &mut Vec<u8>, text: &[u8]) -> Result<(), AllocError
     out.extend_from_slice(text)?;
     out.push(b'\n')?;
     Ok(())
-}
-
-// The counts of the marks.
-fn summary(alloc: Global, letters: &[u8]) -> Result<String, AllocError>
-    ensures { IfOk result (λ text. string_bytes text ≡ summary_of letters.now) }
-{
-    let strong = count(letters, b'S');
-    let weak = count(letters, b'W');
-    let uncovered = count(letters, b'U');
-    let outside = count(letters, b'.');
-    format!(in alloc; "strong {strong} weak {weak} uncovered {uncovered} outside {outside}")
 }
 
 // Appends the line of a router.
@@ -127,29 +109,11 @@ fn push_sheet(out: &mut Vec<u8>, sheet: &Sheet) -> Result<(), AllocError>
 }
 
 // Appends the lines of all routers.
-fn push_sheets(out: &mut Vec<u8>, sheets: &[Sheet]) -> Result<(), AllocError>
+pub(crate) fn push_sheets(out: &mut Vec<u8>, sheets: &[Sheet]) -> Result<(), AllocError>
     ensures { OnOk result (out.new.items ≡ out.old.items ++ flat_map sheet_of (map sheet_view sheets.now)) }
 {
     'sheets: for sheet in sheets {
         push_sheet(out, sheet)?;
     }
     Ok(())
-}
-
-/// Appends the report on a network: the counts of the marks of all lines, then of each router its name and
-/// a letter a line.
-pub(crate) fn push_report(
-    alloc: Global,
-    out: &mut Vec<u8>,
-    network: &Network,
-    marks: &Marks,
-) -> Result<(), AllocError>
-    requires { marked_elements marks.now ≡ element_count network.now }
-    ensures { OnOk result (out.new.items ≡ out.old.items ++ report_of (sheets_from network.now marks.now 0 network.now)) }
-{
-    let sheets = sheets(alloc, network, marks)?;
-    let letters = all_letters(alloc, &sheets)?;
-    let summary = summary(alloc, &letters)?;
-    push_line(out, summary.as_bytes())?;
-    push_sheets(out, &sheets)
 }

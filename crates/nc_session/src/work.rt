@@ -1,12 +1,13 @@
-//! What the engine works with: the state of the network, the graph of the facts that were asked, their marks,
-//! and the tests.
+//! What the engine works with: the rules of a network, the graph of the facts that were asked, their marks, the
+//! report as it stands, and the tests.
 
-ghost use Rattle.std.specs.Prelude.{◌≡◌, ◌++◌, ◌<◌, ◌≤◌, ◌+◌, ◌-◌, true, List, length, All, IfOk, OnOk, OnErr, IsErrOf, codes};
+ghost use Rattle.std.specs.Prelude.{◌≡◌, ◌++◌, ◌<◌, ◌-◌, List, true, length, All, IfOk, OnOk, OnErr, IsErrOf, codes};
 ghost use Rattle.nc_graph.specs.Closure.{IsClosure, ReachesMoreThan};
 ghost use Rattle.nc_graph.specs.Flow.{raised};
 ghost use Rattle.nc_graph.specs.Nodes.{Mirrors, IsGraph, Extends, AreNodesOf};
 ghost use Rattle.nc_graph.specs.declared.fault.GraphFault.TheVariants as GraphFault;
 ghost use Rattle.nc_rules.specs.Rules.{flow_of};
+ghost use Rattle.nc_rules.specs.Seen.{state_of, asked_of};
 ghost use Rattle.nc_command.specs.Command.{command_of, text_of};
 ghost use Rattle.nc_session.specs.declared.TheConstants.{TEST_LIMIT, FACT_LIMIT};
 ghost use Rattle.nc_session.specs.Session.{router_of};
@@ -16,7 +17,8 @@ ghost use Rattle.nc_session.specs.Engine.{Answered, begin_at, flow_behind};
 ghost use Rattle.nc_session.specs.Work.{IsWork, Takes, Replies, Counted, Tested, progress_of};
 
 use crate::engine::Flow;
-use crate::report::{push_line, push_report};
+use crate::report::push_line;
+use crate::shown::Shown;
 use crate::{FACT_LIMIT, TEST_LIMIT};
 use nc_command::{Command, CommandFault, read_command, test_text};
 use nc_fact::{Fact, facts_of};
@@ -31,16 +33,23 @@ use nc_tables::Stable;
 use nc_types::{TestCommand, Text};
 use std::alloc::{AllocError, Global};
 
+/// A test that was accepted: the facts that it tests, and whether it is live.
+#[derive(Drop)]
+pub(crate) struct KeptTest {
+    pub(crate) facts: Vec<Fact>,
+    pub(crate) live: bool,
+}
+
 /// What the engine works with.
 #[derive(Drop)]
 pub(crate) struct Work {
-    pub(crate) state: Stable,
-    /// How many facts were inferred.
-    pub(crate) asked: u64,
+    /// The rules, which own the network's state and count the facts that are inferred.
+    pub(crate) rules: Rules,
     pub(crate) graph: Graph<Fact>,
     pub(crate) marks: KeptMarks,
-    /// The facts of each accepted test, in order.
-    pub(crate) tests: Vec<Vec<Fact>>,
+    pub(crate) shown: Shown,
+    /// The accepted tests, in order.
+    pub(crate) tests: Vec<KeptTest>,
 }
 
 // The name of the router that a test is of.
@@ -89,31 +98,31 @@ fn push_absent(alloc: Global, out: &mut Vec<u8>, test: &TestCommand) -> Result<(
     Ok(())
 }
 
-// Adds facts with all that they follow from to the graph, and counts those that are inferred.
+// Adds facts with all that they follow from to the graph.
 fn ask(
-    state: &Stable,
-    asked: &mut u64,
+    rules: &mut Rules,
     graph: &mut Graph<Fact>,
     facts: &[Fact],
 ) -> Result<Vec<NodeId>, GraphFault>
-    requires holds { All (λ f. (flow_of state.now).holds f ≡ true) facts.now }
-    requires mirrors { Mirrors (flow_of state.now) graph.old }
+    requires holds { All (λ f. (flow_of (state_of rules.old)).holds f ≡ true) facts.now }
+    requires mirrors { Mirrors (flow_of (state_of rules.old)) graph.old }
     ensures graph { (IsGraph graph.old) × (IsGraph graph.new) }
-    ensures closure { OnOk result (IsClosure (flow_of state.now) (graph.old.facts ++ facts.now) graph.new.facts) }
+    ensures state { state_of rules.new ≡ state_of rules.old }
+    ensures closure { OnOk result (IsClosure (flow_of (state_of rules.old)) (graph.old.facts ++ facts.now) graph.new.facts) }
     ensures kept { OnOk result (Extends graph.old graph.new) }
-    ensures mirrors { Mirrors (flow_of state.now) graph.new }
+    ensures mirrors { Mirrors (flow_of (state_of rules.old)) graph.new }
     ensures nodes { IfOk result (λ nodes. AreNodesOf graph.new nodes.items facts.now) }
-    ensures asked { OnOk result (asked.new ≡ raised asked.old (length graph.new.facts - length graph.old.facts)) }
-    ensures asked_least { asked.old ≤ asked.new }
-    ensures asked_most { asked.new ≤ raised asked.old (graph.old.limit + 1) }
-    ensures full { IsErrOf result GraphFault.Full → ReachesMoreThan (flow_of state.now) graph.old.limit (graph.old.facts ++ facts.now) }
-    ensures fits { OnOk result (ReachesMoreThan (flow_of state.now) graph.old.limit (graph.old.facts ++ facts.now) → ⊥) }
+    ensures asked { OnOk result (asked_of rules.new ≡ raised (asked_of rules.old) (length graph.new.facts - length graph.old.facts)) }
+    ensures asked_full { IsErrOf result GraphFault.Full
+        → asked_of rules.new ≡ raised (asked_of rules.old) (graph.old.limit - length graph.old.facts) }
+    ensures full { IsErrOf result GraphFault.Full
+        → ReachesMoreThan (flow_of (state_of rules.old)) graph.old.limit (graph.old.facts ++ facts.now) }
+    ensures fits { OnOk result
+        (ReachesMoreThan (flow_of (state_of rules.old)) graph.old.limit (graph.old.facts ++ facts.now) → ⊥) }
     ensures unchanged { OnErr result (graph.new ≡ graph.old) }
 {
     let _before = graph.len();
-    let mut rules = Rules::resume(state, *asked);
-    let nodes = graph.add(&mut rules, facts);
-    *asked = rules.asked();
+    let nodes = graph.add(rules, facts);
     let _behind = graph.len();
     nodes
 }
@@ -124,13 +133,13 @@ impl Work {
         ensures work { IfOk result IsWork }
         ensures progress { IfOk result (λ work. (files : List FileView) → progress_of files work ≡ begin_at state files) }
     {
-        let elements = state.network().element_count();
-        let marks = KeptMarks::new(alloc, elements)?;
+        let kept = KeptMarks::new(alloc, state.network().element_count())?;
+        let shown = Shown::new(alloc, state.network(), kept.marks())?;
         Ok(Work {
-            state,
-            asked: 0,
+            rules: Rules::new(state),
             graph: Graph::new(alloc, FACT_LIMIT),
-            marks,
+            marks: kept,
+            shown,
             tests: Vec::new(alloc),
         })
     }
@@ -139,22 +148,23 @@ impl Work {
     // the count of facts inferred.
     fn accept(&mut self, facts: Vec<Fact>) -> Result<bool, AllocError>
         requires work { IsWork self.old }
-        requires hold { All (λ f. (flow_of self.old.state).holds f ≡ true) facts.items }
+        requires hold { All (λ f. (flow_of (state_of self.old.rules)).holds f ≡ true) facts.items }
         requires room { length self.old.tests.items < TEST_LIMIT }
         ensures work { OnOk result (IsWork self.new) }
-        ensures state { self.new.state ≡ self.old.state }
+        ensures state { state_of self.new.rules ≡ state_of self.old.rules }
         ensures taken { IfOk result (λ fits. Takes fits self.old self.new facts.items) }
     {
-        let nodes = match ask(&self.state, &mut self.asked, &mut self.graph, &facts) {
+        let nodes = match ask(&mut self.rules, &mut self.graph, &facts) {
             Ok(nodes) => nodes,
             Err(GraphFault::Full) => return Ok(false),
             Err(GraphFault::Memory) => return Err(AllocError),
         };
-        self.marks.add(&self.graph, &nodes)?;
-        self.tests.push(facts)?;
+        let touched = self.marks.add(&self.graph, &nodes)?;
+        let network = self.rules.state().network();
+        self.shown.refresh(network, self.marks.marks(), &touched);
+        self.tests.push(KeptTest { facts, live: true })?;
         rules_make_a_flow();
         kept_of_an_extended_graph::<Fact>();
-        marks_of_nodes_are_of_facts::<Fact>();
         Ok(true)
     }
 
@@ -166,7 +176,7 @@ impl Work {
         rules_make_a_flow();
         marks_of_nodes_are_of_facts::<Fact>();
         push_accepted(alloc, out, self.tests.len(), self.graph.len())?;
-        push_report(alloc, out, self.state.network(), self.marks.marks())?;
+        self.shown.push(alloc, out)?;
         Ok(())
     }
 
@@ -179,10 +189,12 @@ impl Work {
     ) -> Result<(), AllocError>
         requires work { IsWork self.old }
         requires some { 0 < length facts.items }
-        requires hold { All (λ f. (flow_of self.old.state).holds f ≡ true) facts.items }
+        requires hold { All (λ f. (flow_of (state_of self.old.rules)).holds f ≡ true) facts.items }
         ensures work { OnOk result (IsWork self.new) }
         ensures counts { OnOk result (Counted self.old self.new facts.items out.old.items out.new.items) }
     {
+        rules_make_a_flow();
+        closures_have_one_length::<Fact>();
         if self.tests.len() >= TEST_LIMIT {
             push_line(out, b"refused limit tests")?;
             return Ok(());
@@ -192,8 +204,6 @@ impl Work {
             return Ok(());
         }
         self.reply(alloc, out)?;
-        rules_make_a_flow();
-        closures_have_one_length::<Fact>();
         Ok(())
     }
 
@@ -209,11 +219,11 @@ impl Work {
         ensures tests { OnOk result (Tested self.old self.new test.now out.old.items out.new.items) }
     {
         let name = router_of(test).bytes();
-        if self.state.network().router_named(name).is_none() {
+        if self.rules.state().network().router_named(name).is_none() {
             push_unknown(out, name)?;
             return Ok(());
         }
-        let facts = facts_of(alloc, &self.state, test)?;
+        let facts = facts_of(alloc, self.rules.state(), test)?;
         if facts.is_empty() {
             push_absent(alloc, out, test)?;
             return Ok(());

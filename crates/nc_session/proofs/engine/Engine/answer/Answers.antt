@@ -1,0 +1,39 @@
+use Rattle.std.proofs.Common.{◌≡◌, ◌++◌, ◌∙◌, ℕ, List, Some, map, arith, refl, sym, ap, subst}
+use Rattle.std.proofs.lemmas.Grind.{common_steps}
+use Rattle.std.proofs.lemmas.Option.{same_Some}
+use Rattle.std.specs.Option.{option_map}
+use Rattle.nc_tables.specs.State.{StateView}
+use Rattle.nc_rules.specs.Seen.{state_of}
+use Rattle.nc_session.specs.declared.work.Work.{Work}
+use Rattle.nc_session.specs.File.{AreFilesOf, file_view}
+use Rattle.nc_session.specs.Work.{IsWork, progress_of}
+use Rattle.nc_session.proofs.engine.Engine.answer.Goals as goal
+
+pub invariant_of-self-2 : goal.invariant_of-self-2
+invariant_of-self-2 c = λ x is.
+    let files = map file_view c.self.inside.files.items in
+    let new = c.answer.new.self in
+    let was : c.self.inside.work ≡ Some c.in-Some.work = grind (arith, common_steps) in
+    subst (λ (w : Work). IsWork w × AreFilesOf (state_of w.rules).routers files) (same_Some new x is)
+    (c.in_ok-flow.ensures.work, subst (λ (s : StateView). AreFilesOf s.routers files) (sym (c.in_ok-flow.ensures.answered files).state) (c.self.invariant c.in-Some.work was).1)
+
+pub returns-clause-turns : goal.returns-clause-turns
+returns-clause-turns c =
+    let files = map file_view c.self.inside.files.items in
+    let a = c.in_ok-flow.ensures.answered files in
+    let was : c.self.inside.work ≡ Some c.in-Some.work = grind (arith, common_steps) in
+    record {
+      from = progress_of files c.in-Some.work;
+      from_is = sym c.self.view_is ∙ ap (option_map (progress_of files)) was;
+      to = progress_of files c.answer.new.self;
+      to_is = refl;
+      answered = record {
+        reply = a.reply;
+        step = a.step;
+        text = c.in_ok-extend_from_slice.ensures.items
+            ∙ ap (λ (l : List ℕ). c.args.out.now.items ++ l) (c.deref.ensures.value ∙ a.text ∙ ap (λ (l : List ℕ). l ++ a.reply) c.new-reply.ensures.items);
+        state = a.state;
+        files = a.files;
+        infers = a.infers;
+      };
+    }
