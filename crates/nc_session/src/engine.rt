@@ -19,8 +19,8 @@ pub enum Flow {
     Stop,
 }
 
-/// A network in its state with the files of its routers, and what a session keeps: the tests that were
-/// accepted, and the facts that they rest on. An engine for which memory ran out is spent.
+/// A network in its state with the files of its routers, and what a session keeps: the tests that
+/// were accepted, and the facts that they rest on. An engine for which memory ran out is spent.
 #[derive(Drop)]
 pub struct Engine {
     work: Option<Work>,
@@ -40,19 +40,20 @@ impl Model for Engine {
     ghost view = { λ e. option_map (progress_of (map file_view e.files.items)) e.work };
 
     ghost invariant = { λ e. ForSome e.work (λ w. IsWork w
-      × AreFilesOf (state_of w.rules).routers (map file_view e.files.items)) };
+        × AreFilesOf (state_of w.rules).routers (map file_view e.files.items)) };
 }
 
 impl Engine {
-    /// An engine of a network's state, with the files of its routers, in order: without tests, and no fact
-    /// was inferred.
+    /// An engine of a network's state, with the files of its routers, in order: without tests, and
+    /// no fact was inferred.
     ///
     /// # Errors
     ///
     /// Memory that runs out.
     pub fn begin(alloc: Global, state: Stable, files: Vec<LoadedFile>) -> Result<Engine, AllocError>
         requires fit { AreFilesOf state.routers (map file_view files.items) }
-        ensures { IfOk result (λ engine. engine ≡ Some (begin_at state (map file_view files.items))) }
+        ensures { IfOk result (λ engine. engine
+            ≡ Some (begin_at state (map file_view files.items))) }
     {
         let work = Work::begin(alloc, state)?;
         Ok(Engine {
@@ -61,11 +62,13 @@ impl Engine {
         })
     }
 
-    /// Answers a line of the session, given without its line end: its reply goes to the end of `out`.
+    /// Answers a line of the session, given without its line end: its reply goes to the end of
+    /// `out`.
     ///
     /// # Errors
     ///
-    /// Memory that runs out. `out` is then as before, and the engine is spent: each later call answers the same.
+    /// Memory that runs out. `out` is then as before, and the engine is spent: each later call
+    /// answers the same.
     pub fn answer(
         &mut self,
         alloc: Global,

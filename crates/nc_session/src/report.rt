@@ -40,7 +40,8 @@ fn letters(
     lines: u32,
 ) -> Result<Vec<u8>, AllocError>
     requires { marked_elements marks.now ≡ element_count network.now }
-    ensures { IfOk result (λ letters. letters.items ≡ letters_from network.now marks.now router.0 0 lines) }
+    ensures { IfOk result (λ letters. letters.items
+        ≡ letters_from network.now marks.now router.0 0 lines) }
 {
     let mut letters = Vec::with_capacity(alloc, lines as usize)?;
     'lines: for line in 0..lines {
@@ -58,7 +59,8 @@ fn router_sheet(
     config: &RouterConfig,
 ) -> Result<Sheet, AllocError>
     requires { marked_elements marks.now ≡ element_count network.now }
-    ensures { IfOk result (λ sheet. sheet_view sheet ≡ sheet_at network.now marks.now router.0 (config_view config.now)) }
+    ensures { IfOk result (λ sheet. sheet_view sheet
+        ≡ sheet_at network.now marks.now router.0 (config_view config.now)) }
 {
     Ok(Sheet {
         name: config.name.bytes().to_vec(alloc)?,
@@ -67,9 +69,14 @@ fn router_sheet(
 }
 
 // The sheets of all routers.
-pub(crate) fn sheets(alloc: Global, network: &Network, marks: &Marks) -> Result<Vec<Sheet>, AllocError>
+pub(crate) fn sheets(
+    alloc: Global,
+    network: &Network,
+    marks: &Marks,
+) -> Result<Vec<Sheet>, AllocError>
     requires { marked_elements marks.now ≡ element_count network.now }
-    ensures { IfOk result (λ sheets. map sheet_view sheets.items ≡ sheets_from network.now marks.now 0 network.now) }
+    ensures { IfOk result (λ sheets. map sheet_view sheets.items
+        ≡ sheets_from network.now marks.now 0 network.now) }
 {
     let routers = network.routers();
     let mut sheets = Vec::new(alloc);
@@ -81,7 +88,8 @@ pub(crate) fn sheets(alloc: Global, network: &Network, marks: &Marks) -> Result<
 
 // The letters of all sheets.
 pub(crate) fn all_letters(alloc: Global, sheets: &[Sheet]) -> Result<Vec<u8>, AllocError>
-    ensures { IfOk result (λ letters. letters.items ≡ flat_map (λ s. s.letters) (map sheet_view sheets.now)) }
+    ensures { IfOk result (λ letters. letters.items
+        ≡ flat_map (λ s. s.letters) (map sheet_view sheets.now)) }
 {
     let mut letters = Vec::new(alloc);
     'sheets: for sheet in sheets {
@@ -110,7 +118,8 @@ fn push_sheet(out: &mut Vec<u8>, sheet: &Sheet) -> Result<(), AllocError>
 
 // Appends the lines of all routers.
 pub(crate) fn push_sheets(out: &mut Vec<u8>, sheets: &[Sheet]) -> Result<(), AllocError>
-    ensures { OnOk result (out.new.items ≡ out.old.items ++ flat_map sheet_of (map sheet_view sheets.now)) }
+    ensures { OnOk result (out.new.items
+        ≡ out.old.items ++ flat_map sheet_of (map sheet_view sheets.now)) }
 {
     'sheets: for sheet in sheets {
         push_sheet(out, sheet)?;

@@ -1,4 +1,5 @@
-//! The report as it stands: it is kept from test to test, a test changes what changed, and a reply copies it.
+//! The report as it stands: it is kept from test to test, a test changes what changed, and a reply
+//! copies it.
 
 ghost use Rattle.std.specs.Prelude.{◌≡◌, ◌+◌, ◌<◌, ◌++◌, ◌&&◌, ◌^◌, ℕ, Bool, not, nat_eq, length, slice_index_or, string_bytes, IfOk, OnOk};
 ghost use Rattle.std.specs.List.{flat_map};
@@ -39,7 +40,8 @@ impl Model for Shown {
 // How often each byte is among letters.
 fn counts_of(alloc: Global, letters: &[u8]) -> Result<Vec<usize>, AllocError>
     ensures len { IfOk result (λ counts. length counts.items ≡ 256) }
-    ensures each { IfOk result (λ counts. (sign : ℕ) → sign < 256 → slice_index_or counts.items sign 0 ≡ count_of sign letters.now) }
+    ensures each { IfOk result (λ counts. (sign : ℕ) → sign < 256
+        → slice_index_or counts.items sign 0 ≡ count_of sign letters.now) }
     ensures few { length letters.now < 2 ^ 63 }
 {
     let mut counts = vec![in alloc; 0; 256]?;
@@ -55,7 +57,9 @@ fn recount(counts: &mut Vec<usize>, before: u8, letter: u8)
     requires some { 0 < slice_index_or counts.old.items before 0 }
     requires room { slice_index_or counts.old.items letter 0 < 2 ^ 63 }
     ensures len { length counts.new.items ≡ 256 }
-    ensures each { (sign : ℕ) → sign < 256 → slice_index_or counts.new.items sign 0 + one sign before ≡ slice_index_or counts.old.items sign 0 + one sign letter }
+    ensures each { (sign : ℕ) → sign < 256
+        → slice_index_or counts.new.items sign 0 + one sign before
+        ≡ slice_index_or counts.old.items sign 0 + one sign letter }
 {
     counts[before as usize] -= 1;
     counts[letter as usize] += 1;
@@ -63,11 +67,7 @@ fn recount(counts: &mut Vec<usize>, before: u8, letter: u8)
 
 impl Shown {
     /// The report on the marks of a network.
-    pub(crate) fn new(
-        alloc: Global,
-        network: &Network,
-        marks: &Marks,
-    ) -> Result<Shown, AllocError>
+    pub(crate) fn new(alloc: Global, network: &Network, marks: &Marks) -> Result<Shown, AllocError>
         requires { marked_elements marks.now ≡ element_count network.now }
         ensures { IfOk result (λ shown. shown ≡ sheets_from network.now marks.now 0 network.now) }
     {
@@ -93,7 +93,8 @@ impl Shown {
     fn put_line(&mut self, network: &Network, marks: &Marks, router: RouterId, line: u32)
         requires { marked_elements marks.now ≡ element_count network.now }
         ensures { (due : ℕ → ℕ → Bool) → AreFreshBut network.now marks.now due self.old
-            → AreFreshBut network.now marks.now (λ r k. due r k && not (nat_eq r router.0 && nat_eq (k + 1) line)) self.new }
+            → AreFreshBut network.now marks.now
+            (λ r k. due r k && not (nat_eq r router.0 && nat_eq (k + 1) line)) self.new }
     {
         if line == 0 {
             return;
@@ -106,7 +107,8 @@ impl Shown {
     fn put_lines(&mut self, network: &Network, marks: &Marks, router: RouterId, lines: &[u32])
         requires { marked_elements marks.now ≡ element_count network.now }
         ensures { (due : ℕ → ℕ → Bool) → AreFreshBut network.now marks.now due self.old
-            → AreFreshBut network.now marks.now (λ r k. due r k && not (nat_eq r router.0 && has lines.now (k + 1))) self.new }
+            → AreFreshBut network.now marks.now
+            (λ r k. due r k && not (nat_eq r router.0 && has lines.now (k + 1))) self.new }
     {
         'lines: for line in lines {
             self.put_line(network, marks, router, *line);
@@ -117,7 +119,9 @@ impl Shown {
     fn put_element(&mut self, network: &Network, marks: &Marks, element: ElementId)
         requires { marked_elements marks.now ≡ element_count network.now }
         ensures { (due : ℕ → ℕ → Bool) → AreFreshBut network.now marks.now due self.old
-            → AreFreshBut network.now marks.now (λ r k. due r k && not (is_owner element.0 (owner_at network.now r (k + 1)))) self.new }
+            → AreFreshBut network.now marks.now
+            (λ r k. due r k && not (is_owner element.0
+            (owner_at network.now r (k + 1)))) self.new }
     {
         let Some((router, element)) = network.element(element) else {
             return;
@@ -125,11 +129,13 @@ impl Shown {
         self.put_lines(network, marks, router, &element.lines);
     }
 
-    /// Makes the report that on new marks, where only the marks of touched elements are others than before.
+    /// Makes the report that on new marks, where only the marks of touched elements are others than
+    /// before.
     pub(crate) fn refresh(&mut self, network: &Network, marks: &Marks, touched: &[u32])
         requires { marked_elements marks.now ≡ element_count network.now }
         ensures { (before : ElementMarks) → marked_elements before ≡ element_count network.now
-            → TouchesOnly touched.now before marks.now → self.old ≡ sheets_from network.now before 0 network.now
+            → TouchesOnly touched.now before marks.now
+            → self.old ≡ sheets_from network.now before 0 network.now
             → self.new ≡ sheets_from network.now marks.now 0 network.now }
     {
         'touched: for element in touched {
@@ -146,7 +152,8 @@ impl Shown {
 
     // The counts of the marks.
     fn summary(&self, alloc: Global) -> Result<String, AllocError>
-        ensures { IfOk result (λ text. string_bytes text ≡ summary_of (flat_map (λ s. s.letters) self.now)) }
+        ensures { IfOk result (λ text. string_bytes text
+            ≡ summary_of (flat_map (λ s. s.letters) self.now)) }
     {
         let strong = self.count(b'S');
         let weak = self.count(b'W');
@@ -155,7 +162,8 @@ impl Shown {
         format!(in alloc; "strong {strong} weak {weak} uncovered {uncovered} outside {outside}")
     }
 
-    /// Appends the report: the counts of the marks of all lines, then of each router its name and a letter a line.
+    /// Appends the report: the counts of the marks of all lines, then of each router its name and a
+    /// letter a line.
     pub(crate) fn push(&self, alloc: Global, out: &mut Vec<u8>) -> Result<(), AllocError>
         ensures { OnOk result (out.new.items ≡ out.old.items ++ report_of self.now) }
     {

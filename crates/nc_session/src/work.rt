@@ -1,5 +1,5 @@
-//! What the engine works with: the rules of a network, the graph of the facts that were asked, their marks, the
-//! report as it stands, and the tests.
+//! What the engine works with: the rules of a network, the graph of the facts that were asked,
+//! their marks, the report as it stands, and the tests.
 
 ghost use Rattle.std.specs.Prelude.{◌≡◌, ◌++◌, ◌<◌, ◌-◌, List, true, length, All, IfOk, OnOk, OnErr, IsErrOf, codes};
 ghost use Rattle.nc_graph.specs.Closure.{IsClosure, ReachesMoreThan};
@@ -81,7 +81,8 @@ fn push_accepted(
 
 // Appends the refusal of a router that isn't there.
 fn push_unknown(out: &mut Vec<u8>, router: &[u8]) -> Result<(), AllocError>
-    ensures { OnOk result (out.new.items ≡ out.old.items ++ line_of (codes "refused router " ++ router.now)) }
+    ensures { OnOk result (out.new.items
+        ≡ out.old.items ++ line_of (codes "refused router " ++ router.now)) }
 {
     out.extend_from_slice(b"refused router ")?;
     push_line(out, router)?;
@@ -90,7 +91,8 @@ fn push_unknown(out: &mut Vec<u8>, router: &[u8]) -> Result<(), AllocError>
 
 // Appends the refusal of a test that tests nothing.
 fn push_absent(alloc: Global, out: &mut Vec<u8>, test: &TestCommand) -> Result<(), AllocError>
-    ensures { OnOk result (out.new.items ≡ out.old.items ++ line_of (codes "refused absent " ++ text_of test.now)) }
+    ensures { OnOk result (out.new.items
+        ≡ out.old.items ++ line_of (codes "refused absent " ++ text_of test.now)) }
 {
     let text = test_text(alloc, test)?;
     out.extend_from_slice(b"refused absent ")?;
@@ -108,17 +110,22 @@ fn ask(
     requires mirrors { Mirrors (flow_of (state_of rules.old)) graph.old }
     ensures graph { (IsGraph graph.old) × (IsGraph graph.new) }
     ensures state { state_of rules.new ≡ state_of rules.old }
-    ensures closure { OnOk result (IsClosure (flow_of (state_of rules.old)) (graph.old.facts ++ facts.now) graph.new.facts) }
+    ensures closure { OnOk result (IsClosure (flow_of (state_of rules.old))
+        (graph.old.facts ++ facts.now) graph.new.facts) }
     ensures kept { OnOk result (Extends graph.old graph.new) }
     ensures mirrors { Mirrors (flow_of (state_of rules.old)) graph.new }
     ensures nodes { IfOk result (λ nodes. AreNodesOf graph.new nodes.items facts.now) }
-    ensures asked { OnOk result (asked_of rules.new ≡ raised (asked_of rules.old) (length graph.new.facts - length graph.old.facts)) }
+    ensures asked { OnOk result (asked_of rules.new
+        ≡ raised (asked_of rules.old) (length graph.new.facts - length graph.old.facts)) }
     ensures asked_full { IsErrOf result GraphFault.Full
-        → asked_of rules.new ≡ raised (asked_of rules.old) (graph.old.limit - length graph.old.facts) }
+        → asked_of rules.new ≡ raised (asked_of rules.old)
+        (graph.old.limit - length graph.old.facts) }
     ensures full { IsErrOf result GraphFault.Full
-        → ReachesMoreThan (flow_of (state_of rules.old)) graph.old.limit (graph.old.facts ++ facts.now) }
+        → ReachesMoreThan (flow_of (state_of rules.old)) graph.old.limit
+        (graph.old.facts ++ facts.now) }
     ensures fits { OnOk result
-        (ReachesMoreThan (flow_of (state_of rules.old)) graph.old.limit (graph.old.facts ++ facts.now) → ⊥) }
+        (ReachesMoreThan (flow_of (state_of rules.old)) graph.old.limit
+        (graph.old.facts ++ facts.now) → ⊥) }
     ensures unchanged { OnErr result (graph.new ≡ graph.old) }
 {
     let _before = graph.len();
@@ -131,7 +138,8 @@ impl Work {
     /// For a network's state, without tests.
     pub(crate) fn begin(alloc: Global, state: Stable) -> Result<Work, AllocError>
         ensures work { IfOk result IsWork }
-        ensures progress { IfOk result (λ work. (files : List FileView) → progress_of files work ≡ begin_at state files) }
+        ensures progress { IfOk result (λ work. (files : List FileView)
+            → progress_of files work ≡ begin_at state files) }
     {
         let kept = KeptMarks::new(alloc, state.network().element_count())?;
         let shown = Shown::new(alloc, state.network(), kept.marks())?;
@@ -144,8 +152,8 @@ impl Work {
         })
     }
 
-    // Takes up a test of these facts, unless too many facts would be asked with it: then nothing changes but
-    // the count of facts inferred.
+    // Takes up a test of these facts, unless too many facts would be asked with it: then nothing
+    // changes but the count of facts inferred.
     fn accept(&mut self, facts: Vec<Fact>) -> Result<bool, AllocError>
         requires work { IsWork self.old }
         requires hold { All (λ f. (flow_of (state_of self.old.rules)).holds f ≡ true) facts.items }
@@ -191,7 +199,8 @@ impl Work {
         requires some { 0 < length facts.items }
         requires hold { All (λ f. (flow_of (state_of self.old.rules)).holds f ≡ true) facts.items }
         ensures work { OnOk result (IsWork self.new) }
-        ensures counts { OnOk result (Counted self.old self.new facts.items out.old.items out.new.items) }
+        ensures counts { OnOk result
+            (Counted self.old self.new facts.items out.old.items out.new.items) }
     {
         rules_make_a_flow();
         closures_have_one_length::<Fact>();
@@ -216,7 +225,8 @@ impl Work {
     ) -> Result<(), AllocError>
         requires { IsWork self.old }
         ensures work { OnOk result (IsWork self.new) }
-        ensures tests { OnOk result (Tested self.old self.new test.now out.old.items out.new.items) }
+        ensures tests { OnOk result
+            (Tested self.old self.new test.now out.old.items out.new.items) }
     {
         let name = router_of(test).bytes();
         if self.rules.state().network().router_named(name).is_none() {
@@ -241,7 +251,8 @@ impl Work {
     ) -> Result<Flow, AllocError>
         requires { IsWork self.old }
         ensures work { OnOk result (IsWork self.new) }
-        ensures answered { OnOk result ((files : List FileView) → Answered (progress_of files self.old) (progress_of files self.new)
+        ensures answered { OnOk result ((files : List FileView)
+            → Answered (progress_of files self.old) (progress_of files self.new)
             line.now out.old.items out.new.items) }
         ensures flow { IfOk result (λ flow. flow ≡ flow_behind (command_of line.now)) }
     {
