@@ -36,8 +36,11 @@ module _ (sheets : List Sheet) (router place letter : ℕ) (lt : router < length
   total-put = omega (arith, sum_by-set (λ (s : Sheet). length s.letters) sheets router (with_letter (sheet_in sheets router) place letter) none lt, length-set (sheet_in sheets router).letters place letter)
 
   pub count-put : (sign : ℕ) → count_in sign (put_letter sheets router place letter) + one sign old ≡ count_in sign sheets + one sign letter
-  count-put sign = omega (arith, sum_by-set (λ (s : Sheet). count_of sign s.letters) sheets router (with_letter (sheet_in sheets router) place letter) none lt,
-      sum_by-set (λ b. cond {A = ℕ} (b == sign) 1 0) (sheet_in sheets router).letters place letter 0 within)
+  count-put sign = omega (
+    arith,
+    sum_by-set (λ (s : Sheet). count_of sign s.letters) sheets router (with_letter (sheet_in sheets router) place letter) none lt,
+    sum_by-set (λ b. cond {A = ℕ} (b == sign) 1 0) (sheet_in sheets router).letters place letter 0 within,
+  )
 
 -- a letter that is somewhere is counted
 pub count-some : (sheets : List Sheet) (router place : ℕ) → router < length sheets → place < length (sheet_in sheets router).letters
