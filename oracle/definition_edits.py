@@ -1,7 +1,7 @@
 #!/usr/bin/env python3
 """Tries wrong edits of the definitions of the routing state, and tells which worked cases refuse each of them.
 
-    python3 oracle/definition_edits.py [--only WORD] [--list] [--table FILE] [--batch N]
+    python3 oracle/definition_edits.py [--only WORD] [--first N] [--last N] [--list] [--table FILE] [--batch N]
 
 An edit turns one rule of a definition into a wrong one. Each is tried on a copy of the definitions and of the worked
 cases (the files Case* of nc_tables/specs), in a temporary folder: nothing in the checkout changes. It is refused where a
@@ -9,7 +9,7 @@ theorem of these cases no longer holds. Where the edited text can't be read, or 
 The copies stand side by side in one small crate over nc_types and nc_tables, N at a time, so that one check tries N edits:
 first over the cases of the edit's subject, and what these let through over all cases.
 
-WORD picks the edits whose definition or file has it. FILE gets a table of the definitions, their cases and what these
+WORD picks the edits whose definition or file has it, --first and --last those of these numbers. FILE gets a table of the definitions, their cases and what these
 refuse. The status is 0 where every edit is refused, and else 1. No gate runs this; it takes some minutes.
 """
 import argparse
@@ -187,13 +187,15 @@ def table_of(results):
 def main():
     words = argparse.ArgumentParser(description=__doc__.split("\n")[0])
     words.add_argument("--only", default="", help="the edits whose definition or file has this word")
+    words.add_argument("--first", type=int, default=1, help="the number of the first edit, from 1")
+    words.add_argument("--last", type=int, default=len(EDITS), help="the number of the last edit")
     words.add_argument("--list", action="store_true", help="list the edits and try none")
     words.add_argument("--table", help="write a table of the definitions to this file")
     words.add_argument("--batch", type=int, default=12, help="how many edits one check tries")
     given = words.parse_args()
-    picked = [(n, edit) for n, edit in enumerate(EDITS, 1) if given.only in edit.definition or given.only in edit.file]
+    picked = [(n, edit) for n, edit in enumerate(EDITS, 1) if given.first <= n <= given.last and (given.only in edit.definition or given.only in edit.file)]
     if given.list:
-        print("\n".join(f"{edit.definition} ({edit.file}): {edit.meaning}" for n, edit in picked))
+        print("\n".join(f"{n} {edit.definition} ({edit.file}): {edit.meaning}" for n, edit in picked))
         return 0
     texts, results = files_of(TOP), []
     with tempfile.TemporaryDirectory(prefix="definition-edits-") as room:
