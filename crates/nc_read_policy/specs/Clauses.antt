@@ -13,6 +13,7 @@ use Rattle.nc_lines.specs.Lines.{words_of, is_indented}
 use Rattle.nc_lines.specs.Numbers.{number_of}
 use Rattle.nc_lines.specs.Statements.{Reading, Outside, Faulty, Says, after, begins, alone_says, said_of}
 use Rattle.nc_lines.specs.Parts.{Numbered, Stated, first_of, fault_in, statements_in}
+use Rattle.nc_read_policy.specs.declared.TheConstants.{PREPEND_LIMIT}
 
 -- ---- headers
 
@@ -61,9 +62,9 @@ value_of words = None
 abbrev pub asn_of : List ℕ → Option ℕ
 asn_of word = option_and_then (λ n. if n == 0 then None else Some n) (number_of (2 ^ 32 - 1) word)
 
--- 1 to 10 such numbers
+-- such numbers, at least one and no more than may be put before a path
 abbrev pub are_asns : List (List ℕ) → Bool
-are_asns words = nat_le 1 (length words) && (nat_le (length words) 10 && list_all (λ word. is_some (asn_of word)) words)
+are_asns words = nat_le 1 (length words) && (nat_le (length words) PREPEND_LIMIT && list_all (λ word. is_some (asn_of word)) words)
 
 -- what is behind `match ip address prefix-list`: names
 abbrev pub lists_say : List (List ℕ) → Reading ClauseStatement

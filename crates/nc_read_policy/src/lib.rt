@@ -20,3 +20,6 @@ mod values;
 pub use clauses::read_clause;
 pub use entries::read_list_entry;
 pub use header::{ClauseHeader, read_clause_header};
+
+/// How many numbers a clause puts before a path at most (profile).
+pub const PREPEND_LIMIT: u8 = 10;

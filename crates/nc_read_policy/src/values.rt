@@ -5,6 +5,7 @@ ghost use Rattle.std.specs.List.{filter_map};
 ghost use Rattle.nc_lines.specs.Lines.{words_of};
 ghost use Rattle.nc_read_policy.specs.Clauses.{value_of, asn_of, are_asns};
 
+use crate::PREPEND_LIMIT;
 use nc_lines::cut::cut_word;
 use nc_lines::numbers::read_number;
 use std::alloc::{AllocError, Global};
@@ -28,14 +29,14 @@ fn asn(word: &[u8]) -> Option<u32>
     if number == 0 { None } else { Some(number) }
 }
 
-/// Whether these are 1 to 10 numbers of autonomous systems.
+/// Whether these are numbers of autonomous systems, at least one and at most [`crate::PREPEND_LIMIT`].
 pub(crate) fn are_asns(text: &[u8]) -> bool
     ensures { result ≡ are_asns (words_of text.now) }
 {
     let mut rest = text;
     let mut count = 0u8;
     'numbers: while let Some((word, behind)) = cut_word(rest) {
-        if count == 10 || asn(word).is_none() {
+        if count == PREPEND_LIMIT || asn(word).is_none() {
             return false;
         }
         count += 1;
