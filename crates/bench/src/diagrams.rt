@@ -1,0 +1,68 @@
+//! How long `and` takes on diagrams of many nodes: two chains of variables, and two chains of clauses of two
+//! variables, each over every second variable.
+ghost use Rattle.std.specs.Prelude.{◌<◌, ◌+◌, ◌*◌, ◌^◌, IfOk, OnOk};
+ghost use Rattle.nc_diagram.specs.Diagrams.{Belongs};
+ghost use Rattle.bench.specs.Held.{HoldsOn};
+
+use anyhow::Result;
+use nc_diagram::{Ref, Store, StoreFault};
+use std::time::Instant;
+
+const LIMIT: u32 = 4_000_000;
+
+// The conjunction of `count` variables, every second from `first` on.
+fn chain(store: &mut Store, first: u32, count: u32) -> Result<Ref, StoreFault>
+    requires { first + 2 * count < 2 ^ 32 }
+    ensures belongs { IfOk result (λ r. Belongs store.new.nodes r) }
+    ensures kept { OnOk result (HoldsOn store.old store.new) }
+{
+    let mut all = store.constant(true);
+    for step in 0..count {
+        let variable = store.variable(first + 2 * (count - 1 - step))?;
+        all = store.and(variable, all)?;
+    }
+    Ok(all)
+}
+
+// The conjunction of `count` disjunctions of two variables each, every second variable from `first` on.
+fn clauses(store: &mut Store, first: u32, count: u32) -> Result<Ref, StoreFault>
+    requires { first + 4 * count < 2 ^ 32 }
+    ensures belongs { IfOk result (λ r. Belongs store.new.nodes r) }
+    ensures kept { OnOk result (HoldsOn store.old store.new) }
+{
+    let mut all = store.constant(true);
+    for step in 0..count {
+        let lowest = first + 4 * (count - 1 - step);
+        let one = store.variable(lowest)?;
+        let other = store.variable(lowest + 2)?;
+        let clause = store.or(one, other)?;
+        all = store.and(clause, all)?;
+    }
+    Ok(all)
+}
+
+// Times the conjunction of two functions of a store.
+fn measure_and(rt: &HostRuntime, name: &str, store: &mut Store, a: Ref, b: Ref) -> Result<()>
+    requires a { Belongs store.old.nodes a }
+    requires b { Belongs store.old.nodes b }
+{
+    let before = store.len();
+    let start = Instant::now(rt)?;
+    let _both = store.and(a, b)?;
+    let micros = start.elapsed(rt)?.as_micros();
+    println!(rt; "{name}: nodes {before} to {}", store.len())?;
+    eprintln!(rt; "{name}: microseconds {micros}")?;
+    Ok(())
+}
+
+/// Measures both.
+pub fn measure(rt: &HostRuntime) -> Result<()> {
+    let mut store = Store::new(rt.alloc(), LIMIT);
+    let even = chain(&mut store, 0, 100_000)?;
+    let odd = chain(&mut store, 1, 100_000)?;
+    measure_and(rt, "chains", &mut store, even, odd)?;
+    let mut store = Store::new(rt.alloc(), LIMIT);
+    let even = clauses(&mut store, 0, 50_000)?;
+    let odd = clauses(&mut store, 1, 50_000)?;
+    measure_and(rt, "clauses", &mut store, even, odd)
+}

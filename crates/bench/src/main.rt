@@ -1,0 +1,23 @@
+//! What is measured of the crates that carry large inputs: the graph of facts, the marks that grow with it,
+//! and the decision diagrams.
+//!
+//! What is counted goes to the standard output, where the gate compares it; times go to the standard error. The
+//! graphs are tables of any shape, made by plain loops ([`table::Table`]), which an engine's graph reads as it
+//! reads the rules of a network. It stands on `nc_graph`, `nc_marks` and `nc_diagram`, and promises nothing but
+//! that each table is a lawful flow graph.
+#![tactic(auto)]
+
+mod diagrams;
+mod graphs;
+mod marks;
+mod shapes;
+mod table;
+
+use anyhow::Result;
+
+fn main(rt: HostRuntime) -> Result<()> {
+    graphs::measure(&rt)?;
+    marks::measure(&rt)?;
+    diagrams::measure(&rt)?;
+    Ok(())
+}

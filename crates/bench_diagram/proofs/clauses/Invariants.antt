@@ -1,6 +1,0 @@
-use Rattle.nc_diagram.specs.Diagrams.{Belongs}
-use Rattle.bench_diagram.specs.Held.{HoldsOn}
-use Rattle.bench_diagram.proofs.clauses.Given as goal
-
-abbrev pub invariant-loop-step : goal.invariant-loop-step
-invariant-loop-step l = record { belongs : Belongs l.store.nodes l.all; kept : HoldsOn l.fn.store l.store }
