@@ -1,5 +1,4 @@
-// What no clause says: that calls succeed, that the definitions are the ones meant, and that long
-// chains end. Expected values come from truth tables, by plain enumeration.
+// What no clause says: that calls succeed, and that the definitions are the ones meant. Expected values come from truth tables, by plain enumeration.
 
 ghost use Rattle.std.specs.Prelude.{◌<◌};
 ghost use Rattle.nc_diagram.specs.Diagrams.{Belongs};
@@ -157,36 +156,6 @@ fn comparisons_agree_with_the_tables(rt: HostRuntime) -> Result<(), Fail> {
             }
         }
     }
-    Ok(())
-}
-
-// The conjunction of every second variable below 200,000.
-fn chain(rt: &impl Abort, store: &mut Store, first: u32) -> Result<Ref, StoreFault>
-    requires { first < 2 }
-{
-    let mut all = store.constant(true);
-    for step in 0..100000u32 {
-        let variable = store.variable(199998 + first - 2 * step)?;
-        let a = held(rt, store, variable);
-        let b = held(rt, store, all);
-        all = store.and(a, b)?;
-    }
-    Ok(all)
-}
-
-#[test]
-fn long_chains_are_conjoined(rt: HostRuntime) -> Result<(), Fail> {
-    let mut store = Store::new(rt.alloc(), 1000000);
-    let even = chain(&rt, &mut store, 0)?;
-    let odd = chain(&rt, &mut store, 1)?;
-    let before = store.len();
-    let a = held(&rt, &store, even);
-    let b = held(&rt, &store, odd);
-    let both = store.and(a, b)?;
-    // Of the conjunction's 200,000 nodes the last is the odd chain's last.
-    assert_eq!(rt; u64::from(store.len()), u64::from(before) + 199999);
-    let all = held(&rt, &store, both);
-    assert!(rt; store.needs(all, 0) && store.needs(all, 199999) && !store.needs(all, 200000));
     Ok(())
 }
 
