@@ -122,9 +122,15 @@ impl<'a> TableRules<'a> {
 }
 
 impl<'a> Inference for TableRules<'a> {
+    ghost use Rattle.bench.specs.Table.{Rows};
+
     type Fact = u32;
 
     ghost flow = { λ rules. flow_of rules.table.now };
+
+    ghost Basis = { Rows };
+
+    ghost basis = { λ rules. rules.table.now };
 
     ghost asked = { λ rules. rules.asked };
 
