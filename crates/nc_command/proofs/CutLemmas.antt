@@ -91,9 +91,6 @@ feed_none xs none = none_past xs (on (nat_lt (position_or_len is_feed xs) (lengt
     on false is e = ltb-false (position_or_len is_feed xs) (length xs) is
 
 module _ (xs : List ℕ) (i : ℕ) (found : position is_feed xs ≡ Some i) where
-  pub feed_within : i < length xs
-  feed_within = (position-Some is_feed xs i 0 found).0
-
   pub feed_parts : xs ≡ take i xs ++ 10 ∷ drop (i + 1) xs
   feed_parts =
       let at = position-Some is_feed xs i 0 found in

@@ -69,7 +69,8 @@ fn prefix_test(
     key: &[u8],
     addr: Option<Addr>,
 ) -> Result<Vec<u8>, AllocError>
-    ensures { IfOk result (λ text. text.items ≡ prefix_text command.now name.now prefix key.now addr) }
+    ensures { IfOk result (λ text.
+        text.items ≡ prefix_text command.now name.now prefix key.now addr) }
 {
     let mut text = start(alloc, command, name)?;
     push_prefix(alloc, &mut text, prefix)?;

@@ -1,199 +1,252 @@
 -- How a run ends, from what its last step answered.
-use Rattle.std.proofs.Common.{◌≡◌, ◌⊎◌, ℕ, ◌≤◌, Bool, true, false, length, List, Option, None, Some, Result, Ok, Err, IfSome, refl, sym, ap, ◌∙◌, subst, inl, inr}
+use Rattle.std.proofs.Common.{◌≡◌, ◌≢◌, ◌⊎◌, ℕ, ◌<◌, ◌≤◌, true, false, length, List, [], ◌++◌, Option, None, Some, Result, Ok, Err, IfSome, refl, sym, ap, ◌∙◌, subst, inl, inr, arith}
+use Rattle.std.specs.Prelude.{IfOk, MatchResult}
 use Rattle.std.specs.Option.{option_map_or}
-use Rattle.std.specs.Io.KnownBytes.{Appends}
-use Rattle.nc_types.specs.Config.{ConfigView}
+use Rattle.std.specs.Io.KnownBytes.{Appends, Keeps}
 use Rattle.nc_outside.specs.Named.{Named}
-use Rattle.nc_outside.specs.Counts.{Rose}
-use Rattle.nc_tables.specs.State.{static_state}
-use Rattle.nc_session.specs.declared.TheConstants.{ROUTER_LIMIT}
+use Rattle.nc_outside.specs.Counts.{Faults, Rose, Follows}
+use Rattle.nc_tables.specs.State.{StateView}
+use Rattle.nc_types.specs.declared.TheConstants.{ROUTER_LIMIT}
 use Rattle.nc_session.specs.declared.refusal.LoadFault.{LoadFault}
 use Rattle.nc_session.specs.declared.refusal.LoadFault.TheVariants as load
+use Rattle.nc_session.specs.declared.refusal.Quantity.TheVariants.{Routers}
 use Rattle.nc_session.specs.declared.status.Status.{Status}
 use Rattle.nc_session.specs.declared.status.Status.TheVariants.{Done, Config, Usage, Unstable, InputFault, OutputFault, FileFault, Memory, Limit}
+use Rattle.nc_session.specs.Words.{RequestView, request_of}
+use Rattle.nc_session.specs.Load.{Refusal, WrongWords, TooMany, Faulty, load, load_names, load_settled, load_request, file_named}
+use Rattle.nc_session.specs.Refusals.{usage_text, refusal_status, refusal_text}
+use Rattle.nc_session.specs.Output.{Concludes, Output, Writes, Serves, is_within}
+use Rattle.nc_session.specs.Serving.{AppendsFront}
+use Rattle.nc_session.specs.Leaving.{Takes, IsCutShort, Begins, Leaves, FailsAs, Told, Failures}
+use Rattle.nc_session.specs.Causes.{IsEarly, IsLate, IsAbsent, Settles, IsOverLimit, IsOpenSession, AnswersTaken, IsBeginning}
 use Rattle.nc_session.specs.Loading.{IsFault, IsMissingOf, HasFaultCause}
-use Rattle.nc_session.specs.Output.{Refusal, WrongWords, TooMany, Faulty, Concludes, Settles, Output, load, load_names, files_of, file_named, usage_text, refusal_status, refusal_text, Writes, IsAbsent, IsOverLimit, IsServable, is_within}
-use Rattle.nc_session.specs.Ending.{Says, Silent, Refuses, ServesTo, Seen, NoFault, IsTold, IsLimited, EndsAs}
-use Rattle.nc_session.proofs.Options.{some_of, some_more}
-use Rattle.nc_session.proofs.Concluding.{writes}
+use Rattle.nc_session.specs.Ending.{SinkSeen, Says, Silent, EndsRefused, Seen, NoFault, IsTold, IsLimited, IsTakenWhole, IsCutOff, IsBrokenOff, EndsAs}
+use Rattle.nc_session.proofs.Options.{some_of, some_more, writes, writes_none, writes_more}
 
 abbrev Outcome : Type 0
-Outcome = Result (List ConfigView) Refusal
+Outcome = Result StateView Refusal
 
 -- the load of words that name files, and of words that don't
-pub load_is : (words names : List (List ℕ)) (files : List Named) → files_of words ≡ Some names → load words files ≡ load_names names files
-load_is words names files named = ap (λ (o : Option (List (List ℕ))). option_map_or (λ ns. load_names ns files) o (Err WrongWords)) named
+pub load_is : (words : List (List ℕ)) (request : RequestView) (files : List Named) → request_of words ≡ Some request → load words files ≡ load_request request files
+load_is words request files named = ap (λ (o : Option RequestView). option_map_or (λ r. load_request r files) o (Err WrongWords)) named
 
-pub load_nothing : (words : List (List ℕ)) (files : List Named) → files_of words ≡ None → load words files ≡ Err WrongWords
-load_nothing words files none = ap (λ (o : Option (List (List ℕ))). option_map_or (λ ns. load_names ns files) o (Err WrongWords)) none
+load_nothing : (words : List (List ℕ)) (files : List Named) → request_of words ≡ None → load words files ≡ Err WrongWords
+load_nothing words files none = ap (λ (o : Option RequestView). option_map_or (λ r. load_request r files) o (Err WrongWords)) none
 
 -- of files that are told, what their load gives was loaded
 abbrev IsLoadOf : List (List ℕ) → Option (List Named) → Outcome → Type 0
 IsLoadOf words files loaded = IfSome files (λ fs. load words fs ≡ loaded)
 
--- the status and the bytes are those of what was loaded
-told : (words : List (List ℕ)) (before now : Seen) (loaded : Outcome) (status : Status) → IsLoadOf words before.files loaded → Settles loaded status
-    → IfSome before.rest (λ session. Writes before.written now.written (λ bytes. Concludes loaded session status bytes)) → IsTold words before now status
-told words before now loaded status is settles writes =
-    some_more before.files (λ fs. load words fs ≡ loaded) (λ fs. Settles (load words fs) status × IfSome before.rest (λ session. Writes before.written now.written (λ bytes. Output words fs session status bytes)))
-    (λ fs same. subst (λ (l : Outcome). Settles l status × IfSome before.rest (λ session. Writes before.written now.written (λ bytes. Concludes l session status bytes))) (sym same) (settles, writes)) is
+-- what holds of what was loaded holds of the load
+by_load : (words : List (List ℕ)) (files : Option (List Named)) (loaded : Outcome) (P : Outcome → Type 0) → IsLoadOf words files loaded → P loaded → IfSome files (λ fs. P (load words fs))
+by_load words files loaded P is holds = some_more files (λ fs. load words fs ≡ loaded) (λ fs. P (load words fs)) (λ fs same. subst P (sym same) holds) is
+
+-- ---- what stands written
+
+-- what is written to tell an outcome
+abbrev IsSaid : Seen → Seen → Status → Outcome → Type 0
+IsSaid before now status loaded =
+    Settles loaded status × IfSome before.told.rest (λ session. Writes before.told.written now.told.written (λ bytes. Concludes loaded session status bytes))
+
+-- what stands written is a beginning of what tells an outcome
+abbrev IsBegunFor : Seen → Seen → Outcome → Type 0
+IsBegunFor before now loaded =
+    IfSome before.told.rest (λ session. Writes before.told.written now.told.written (IsBeginning loaded session))
 
 -- a refusal was written, which doesn't depend on the session
-told_text : (words : List (List ℕ)) (before now : Seen) (refusal : Refusal) → IsLoadOf words before.files (Err refusal) → Appends before.written now.written (refusal_text refusal)
-    → IsTold words before now (refusal_status refusal)
-told_text words before now refusal is appends =
-    told words before now (Err refusal) (refusal_status refusal) is refl
-    (some_of before.rest (λ session. Writes before.written now.written (λ bytes. Concludes (Err refusal) session (refusal_status refusal) bytes))
-    (λ session. writes before.written now.written (refusal_text refusal) (λ bytes. Concludes (Err refusal) session (refusal_status refusal) bytes) appends (refl, refl)))
+said_text : (before now : Seen) (refusal : Refusal) → Appends before.told.written now.told.written (refusal_text refusal) → IsSaid before now (refusal_status refusal) (Err refusal)
+said_text before now refusal appends = (
+  refl,
+  some_of before.told.rest (λ session. Writes before.told.written now.told.written (λ bytes. Concludes (Err refusal) session (refusal_status refusal) bytes))
+      (λ session. writes before.told.written now.told.written (refusal_text refusal) (λ bytes. Concludes (Err refusal) session (refusal_status refusal) bytes) appends (refl, refl)),
+)
+
+-- a front of a refusal was written
+begun_text : (before now : Seen) (refusal : Refusal) → AppendsFront before.told.written now.told.written (refusal_text refusal) → IsBegunFor before now (Err refusal)
+begun_text before now refusal front =
+    some_of before.told.rest (λ session. Writes before.told.written now.told.written (IsBeginning (Err refusal) session))
+    (λ session. writes before.told.written now.told.written front.front (IsBeginning (Err refusal) session) front.written (inr (refusal_status refusal, front.behind, (refl, sym front.parts))))
+
+-- nothing was written
+begun_none : (words : List (List ℕ)) (before now : Seen) → Keeps before.told.written now.told.written → IsBrokenOff words before now
+begun_none words before now keeps =
+    some_of before.files (λ fs. IsBegunFor before now (load words fs))
+    (λ fs. some_of before.told.rest (λ session. Writes before.told.written now.told.written (IsBeginning (load words fs) session))
+    (λ session. writes_none before.told.written now.told.written (IsBeginning (load words fs) session) keeps (inl refl)))
+
+-- ---- the steps
+
+abbrev sink_of : Seen → SinkSeen
+sink_of seen = record { written = seen.told.written; faults = seen.failures.sink }
 
 module _ (words : List (List ℕ)) (before now : Seen) (result : Status) where
   by_status : (status : Status) → result ≡ status → EndsAs words before now status → EndsAs words before now result
   by_status status same ends = subst (EndsAs words before now) (sym same) ends
 
-  -- the words name no file
-  pub usage_ends : files_of words ≡ None → now.file_faults ≡ before.file_faults → now.input_faults ≡ before.input_faults
-      → Says Usage usage_text before.written now.written before.output_faults now.output_faults result → EndsAs words before now result
-  usage_ends none files input (inl said) =
-      let quiet : NoFault before now = record { files = files; input = input; output = said.1 } in
-      let is : IsLoadOf words before.files (Err WrongWords) = some_of before.files (λ fs. load words fs ≡ Err WrongWords) (λ fs. load_nothing words fs none) in
-      by_status Usage said.0 (quiet, told_text words before now WrongWords is said.2, none, said.2)
-  usage_ends none files input (inr failed) = by_status OutputFault failed.0 (files, input, failed.1)
+  -- a refusal was said, or its sink failed
+  said_ends : (refusal : Refusal) → now.faults ≡ before.faults → now.failures.source ≡ before.failures.source → IsLoadOf words before.files (Err refusal)
+      → (NoFault before now → IsTold words before now (refusal_status refusal) → Appends before.told.written now.told.written (refusal_text refusal) → EndsAs words before now (refusal_status refusal))
+      → Says (refusal_status refusal) (refusal_text refusal) (sink_of before) (sink_of now) result → EndsAs words before now result
+  said_ends refusal files source is ends (inl said) =
+      by_status (refusal_status refusal) said.0
+      (ends (record { files = files; source = source; sink = said.1 })
+      (by_load words before.files (Err refusal) (IsSaid before now (refusal_status refusal)) is (said_text before now refusal said.2)) said.2)
+  said_ends refusal files source is ends (inr failed) =
+      by_status OutputFault failed.0 (files, source, failed.1, by_load words before.files (Err refusal) (IsBegunFor before now) is (begun_text before now refusal failed.2))
 
-  module _ (names : List (List ℕ)) (named : files_of words ≡ Some names) (input : now.input_faults ≡ before.input_faults) where
+  -- the words ask for nothing that is known
+  pub usage_ends : request_of words ≡ None → now.faults ≡ before.faults → now.failures.source ≡ before.failures.source
+      → Says Usage usage_text (sink_of before) (sink_of now) result → EndsAs words before now result
+  usage_ends none files source said =
+      said_ends WrongWords files source (some_of before.files (λ fs. load words fs ≡ Err WrongWords) (λ fs. load_nothing words fs none)) (λ quiet told appends. (quiet, told, none, appends)) said
+
+  module _ (request : RequestView) (named : request_of words ≡ Some request) where
     -- what was loaded, by the words
-    is_load : (loaded : Outcome) → IfSome before.files (λ fs. load_names names fs ≡ loaded) → IsLoadOf words before.files loaded
-    is_load loaded is = some_more before.files (λ fs. load_names names fs ≡ loaded) (λ fs. load words fs ≡ loaded) (λ fs same. load_is words names fs named ∙ same) is
+    is_load : (loaded : Outcome) → IfSome before.files (λ fs. load_request request fs ≡ loaded) → IsLoadOf words before.files loaded
+    is_load loaded is = some_more before.files (λ fs. load_request request fs ≡ loaded) (λ fs. load words fs ≡ loaded) (λ fs same. load_is words request fs named ∙ same) is
 
-    absent : (files : Option (List Named)) → IsMissingOf files (load_names names) → IsAbsent words files
+    absent : (files : Option (List Named)) → IsMissingOf files (load_request request) → IsAbsent words files
     absent None missing = missing
-    absent (Some fs) missing = load_is words names fs named ∙ missing
+    absent (Some fs) missing = load_is words request fs named ∙ missing
 
-    file_cause : Rose before.file_faults now.file_faults ⊎ (IsMissingOf before.files (load_names names) × (before.file_faults ≤ now.file_faults)) → Rose before.file_faults now.file_faults ⊎ IsAbsent words before.files
+    file_cause : Rose before.faults now.faults ⊎ (IsMissingOf before.files (load_request request) × Follows before.faults now.faults) → Rose before.faults now.faults ⊎ IsAbsent words before.files
     file_cause (inl rose) = inl rose
     file_cause (inr missing) = inr (absent before.files missing.0)
 
-    said_ends : (refusal : Refusal) → now.file_faults ≡ before.file_faults → IsLoadOf words before.files (Err refusal)
-        → (NoFault before now → IsTold words before now (refusal_status refusal) → EndsAs words before now (refusal_status refusal))
-        → Says (refusal_status refusal) (refusal_text refusal) before.written now.written before.output_faults now.output_faults result → EndsAs words before now result
-    said_ends refusal files is ends (inl said) =
-        by_status (refusal_status refusal) said.0 (ends (record { files = files; input = input; output = said.1 }) (told_text words before now refusal is said.2))
-    said_ends refusal files is ends (inr failed) = by_status OutputFault failed.0 (files, input, failed.1)
+    few_by : (fault : LoadFault) → (fault ≡ load.Over Routers → ⊥) → (fault ≡ load.Over Routers) ⊎ (length request.files ≤ ROUTER_LIMIT) → length request.files ≤ ROUTER_LIMIT
+    few_by fault other (inl many) = absurd (other many)
+    few_by fault other (inr few) = few
+
+    silent_memory : now.faults ≡ before.faults → now.failures.source ≡ before.failures.source → Silent Memory (sink_of before) (sink_of now) result → EndsAs words before now result
+    silent_memory files source silent =
+        by_status Memory silent.0 (record { files = files; source = source; sink = silent.1 }, (request, named), begun_none words before now silent.2)
 
     -- a limit of the files is passed
     over : (loaded : Outcome) → ((session : List ℕ) → IsOverLimit loaded session) → IsLoadOf words before.files loaded → IsLimited words before
     over loaded passed is =
-        some_more before.files (λ fs. load words fs ≡ loaded) (λ fs. IfSome before.rest (λ session. IsOverLimit (load words fs) session))
-        (λ fs same. some_of before.rest (λ session. IsOverLimit (load words fs) session) (λ session. subst (λ (l : Outcome). IsOverLimit l session) (sym same) (passed session))) is
-
-    silent_memory : now.file_faults ≡ before.file_faults → Silent Memory before.written now.written before.output_faults now.output_faults result → EndsAs words before now result
-    silent_memory files silent = by_status Memory silent.0 (record { files = files; input = input; output = silent.1 }, (names, named))
+        by_load words before.files loaded (λ l. IfSome before.told.rest (λ session. IsOverLimit l session)) is (some_of before.told.rest (λ session. IsOverLimit loaded session) passed)
 
     -- the files give no network
-    pub refused_ends : (fault : LoadFault) → IfSome before.files (λ fs. IsFault names fault (load_names names fs))
-        → HasFaultCause before.files (load_names names) before.file_faults now.file_faults fault → (fault ≡ load.Outside → length names ≤ ROUTER_LIMIT)
-        → Refuses names fault before.written now.written before.output_faults now.output_faults result → EndsAs words before now result
-    refused_ends load.Outside is cause few silent = by_status FileFault silent.0 (file_cause cause, input, silent.1, (names, named, few refl), silent.2)
-    refused_ends load.Memory is cause few silent = silent_memory cause silent
-    refused_ends (load.Over quantity) is cause few (inl said) =
-        said_ends (TooMany quantity) cause (is_load (Err (TooMany quantity)) is) (λ quiet told. (quiet, told, (names, named), over (Err (TooMany quantity)) (λ session. tt) (is_load (Err (TooMany quantity)) is))) said
-    refused_ends (load.Over quantity) is cause few (inr silent) = silent_memory cause silent
-    refused_ends (load.Bad file line reason) is cause few (inl said) =
-        let why : Refusal = Faulty (file_named names file) line reason in
-        said_ends why cause (is_load (Err why) is) (λ quiet told. (quiet, told, (names, named))) said
-    refused_ends (load.Bad file line reason) is cause few (inr silent) = silent_memory cause silent
+    pub refused_ends : (fault : LoadFault) → now.failures.source ≡ before.failures.source → IfSome before.files (λ fs. IsFault request.files fault (load_request request fs))
+        → HasFaultCause before.files (load_request request) before.faults now.faults fault → (fault ≡ load.Over Routers) ⊎ (length request.files ≤ ROUTER_LIMIT)
+        → EndsRefused request.files fault (sink_of before) (sink_of now) result → EndsAs words before now result
+    refused_ends load.Outside source is cause few silent =
+        by_status FileFault silent.0 (file_cause cause, source, silent.1, (request, named, few_by load.Outside (λ e. absurd cc) few), silent.2)
+    refused_ends load.Memory source is cause few silent = silent_memory cause source silent
+    refused_ends (load.Over quantity) source is cause few (inl said) =
+        let why : Refusal = TooMany quantity in
+        said_ends why cause source (is_load (Err why) is) (λ quiet told appends. (quiet, told, (request, named), over (Err why) (λ session. tt) (is_load (Err why) is))) said
+    refused_ends (load.Over quantity) source is cause few (inr silent) = silent_memory cause source silent
+    refused_ends (load.Bad file line reason) source is cause few (inl said) =
+        let why : Refusal = Faulty (file_named request.files file) line reason in
+        said_ends why cause source (is_load (Err why) is) (λ quiet told appends. (quiet, told, (request, named, few_by (load.Bad file line reason) (λ e. absurd cc) few))) said
+    refused_ends (load.Bad file line reason) source is cause few (inr silent) = silent_memory cause source silent
 
-  -- the files give a network
-  module _ (names : List (List ℕ)) (named : files_of words ≡ Some names) (routers : List ConfigView) (files : now.file_faults ≡ before.file_faults)
-      (is : IfSome before.files (λ fs. load_names names fs ≡ Ok routers)) where
-    is_ready : IsLoadOf words before.files (Ok routers)
-    is_ready = some_more before.files (λ fs. load_names names fs ≡ Ok routers) (λ fs. load words fs ≡ Ok routers) (λ fs same. load_is words names fs named ∙ same) is
+    -- the files give a network
+    module _ (few : length request.files ≤ ROUTER_LIMIT) (state : StateView) (files : now.faults ≡ before.faults) (is : IfSome before.files (λ fs. load_request request fs ≡ Ok state)) where
+      ready : IsLoadOf words before.files (Ok state)
+      ready = is_load (Ok state) is
 
-    settled : (status : Status) → Settles (Ok routers) status → IfSome before.files (λ fs. Settles (load words fs) status)
-    settled status settles = some_more before.files (λ fs. load words fs ≡ Ok routers) (λ fs. Settles (load words fs) status) (λ fs same. subst (λ (l : Outcome). Settles l status) (sym same) settles) is_ready
+      quiet_by : now.failures.source ≡ before.failures.source → now.failures.sink ≡ before.failures.sink → NoFault before now
+      quiet_by source sink = record { files = files; source = source; sink = sink }
 
-    quiet_by : now.input_faults ≡ before.input_faults → now.output_faults ≡ before.output_faults → NoFault before now
-    quiet_by input output = record { files = files; input = input; output = output }
+      -- what was written for the session
+      abbrev ServesBy : Status → List ℕ → Type 0
+      ServesBy status session = Writes before.told.written now.told.written (λ bytes. Serves state session status bytes)
 
-    -- the session is longer than its limit
-    long : (P : List ℕ → Type 0) → IfSome before.rest (λ session. (is_within session ≡ false) × P session) → IsLimited words before
-    long P past =
-        some_more before.files (λ fs. load words fs ≡ Ok routers) (λ fs. IfSome before.rest (λ session. IsOverLimit (load words fs) session))
-        (λ fs same. some_more before.rest (λ session. (is_within session ≡ false) × P session) (λ session. IsOverLimit (load words fs) session)
-        (λ session both. subst (λ (l : Outcome). IsOverLimit l session) (sym same) both.0) past) is_ready
+      told_by : (status : Status) → Settles (Ok state) status → IfSome before.told.rest (ServesBy status) → IsTold words before now status
+      told_by status settles written = by_load words before.files (Ok state) (IsSaid before now status) ready (settles, written)
 
-    -- what was written for the session
-    written_for : (status : Status) (within : Bool) → IfSome before.rest (λ session. (is_within session ≡ within) × Writes before.written now.written (λ bytes. Concludes (Ok routers) session status bytes))
-        → IfSome before.rest (λ session. Writes before.written now.written (λ bytes. Concludes (Ok routers) session status bytes))
-    written_for status within past =
-        some_more before.rest (λ session. (is_within session ≡ within) × Writes before.written now.written (λ bytes. Concludes (Ok routers) session status bytes))
-        (λ session. Writes before.written now.written (λ bytes. Concludes (Ok routers) session status bytes)) (λ session both. both.1) past
+      begun_by : IfSome before.told.rest (λ session. Writes before.told.written now.told.written (Begins state session)) → IsBrokenOff words before now
+      begun_by begun =
+          by_load words before.files (Ok state) (IsBegunFor before now) ready
+          (some_more before.told.rest (λ session. Writes before.told.written now.told.written (Begins state session)) (λ session. Writes before.told.written now.told.written (IsBeginning (Ok state) session))
+          (λ session. writes_more before.told.written now.told.written (Begins state session) (IsBeginning (Ok state) session) (λ bytes begins. inr begins)) begun)
 
-    pub served_ends : (status : Status) → ServesTo (static_state routers) before.rest now.rest before.written now.written before.input_faults now.input_faults before.output_faults now.output_faults status → EndsAs words before now status
-    served_ends Done s = (quiet_by s.0 s.1, told words before now (Ok routers) Done is_ready (inl refl) (written_for Done true s.3), (names, named), s.2)
-    served_ends Limit s = (
-      quiet_by s.0 s.1,
-      told words before now (Ok routers) Limit is_ready (inr (inl refl)) (written_for Limit false s.2),
-      (names, named),
-      long (λ session. Writes before.written now.written (λ bytes. Concludes (Ok routers) session Limit bytes)) s.2,
-    )
-    served_ends InputFault s = (files, s.0, s.1, settled InputFault (inr (inr refl)), (names, named), s.2)
-    served_ends OutputFault s = (files, s.0, s.1)
-    served_ends Memory s = (quiet_by s.0 s.1, (names, named))
-    served_ends Config s = absurd s
-    served_ends Usage s = absurd s
-    served_ends Unstable s = absurd s
-    served_ends FileFault s = absurd s
+      open_of_cut : (rest left : Option (List ℕ)) → Takes rest left (IsCutShort state before.told.written now.told.written) → Takes rest left IsOpenSession
+      open_of_cut None left takes = tt
+      open_of_cut (Some r) None takes = takes
+      open_of_cut (Some r) (Some l) takes = (takes.0, takes.1, record { few = takes.2.few; goes = takes.2.goes })
 
--- ---- completeness
+      pub served_ends : (status : Status) → Leaves state before.told now.told status → FailsAs before.failures now.failures status → EndsAs words before now status
+      served_ends Done leaves fails = (
+        quiet_by fails.0 fails.1,
+        told_by Done (inl refl) (some_more before.told.rest (λ session. (is_within session ≡ true) × ServesBy Done session) (ServesBy Done) (λ session both. both.1) leaves.0),
+        (request, named, few),
+        record { within = some_more before.told.rest (λ session. (is_within session ≡ true) × ServesBy Done session) (λ session. is_within session ≡ true) (λ session both. both.0) leaves.0; taken = leaves.1 },
+      )
+      served_ends Limit leaves fails = (
+        quiet_by fails.0 fails.1,
+        told_by Limit (inr (inl refl)) (some_more before.told.rest (λ session. (is_within session ≡ false) × ServesBy Limit session) (ServesBy Limit) (λ session both. both.1) leaves),
+        (request, named),
+        by_load words before.files (Ok state) (λ l. IfSome before.told.rest (λ session. IsOverLimit l session)) ready
+            (some_more before.told.rest (λ session. (is_within session ≡ false) × ServesBy Limit session) (λ session. is_within session ≡ false) (λ session both. both.0) leaves),
+      )
+      served_ends InputFault leaves fails = (
+        files,
+        fails.0,
+        fails.1,
+        (request, named, few),
+        record {
+          taken = open_of_cut before.told.rest now.told.rest leaves;
+          settles = by_load words before.files (Ok state) (λ l. Settles l InputFault) ready (inr (inr refl));
+          answers = by_load words before.files (Ok state) (λ l. AnswersTaken l before.told.rest now.told.rest before.told.written now.told.written) ready leaves;
+        },
+      )
+      served_ends OutputFault leaves fails = (files, fails.0, fails.1, begun_by leaves)
+      served_ends Memory leaves fails = (quiet_by fails.0 fails.1, (request, named), begun_by leaves)
+      served_ends Config leaves fails = absurd leaves
+      served_ends Usage leaves fails = absurd leaves
+      served_ends Unstable leaves fails = absurd leaves
+      served_ends FileFault leaves fails = absurd leaves
 
-abbrev IsDone : Status → Type 0
-IsDone status = (status ≡ Done) ⊎ (status ≡ Memory)
+-- ---- a refusal whose text is made first
 
-not_refused : (l : Outcome) (session : List ℕ) (status : Status) → ((status ≡ Done) ⊎ ((status ≡ Limit) ⊎ (status ≡ InputFault)) → ⊥) → Settles l status → IsServable l session → ⊥
-not_refused (Ok routers) session status other settles servable = other settles
-not_refused (Err refusal) session status other settles servable = servable
+pub made_as : {V E : Type 0} (items : V → List ℕ) (made : Result V E) (text other : List ℕ) → text ≡ other → IfOk made (λ t. items t ≡ text) → IfOk made (λ t. items t ≡ other)
+made_as items (Ok t) text other same is = is ∙ same
+made_as items (Err e) text other same is = tt
 
-other_usage : (Usage ≡ Done) ⊎ ((Usage ≡ Limit) ⊎ (Usage ≡ InputFault)) → ⊥
-other_usage (inl e) = absurd cc
-other_usage (inr (inl e)) = absurd cc
-other_usage (inr (inr e)) = absurd cc
+pub said_made : {V E : Type 0} (items : V → List ℕ) (status : Status) (text : List ℕ) (made : Result V E) (before now : SinkSeen) (result : Status) → IfOk made (λ t. items t ≡ text)
+    → MatchResult made (λ t. Says status (items t) before now result) (λ e. Silent Memory before now result) → Says status text before now result ⊎ Silent Memory before now result
+said_made items status text (Ok t) before now result is says = inl (subst (λ (l : List ℕ). Says status l before now result) is says)
+said_made items status text (Err e) before now result is says = inr says
 
-other_config : (Config ≡ Done) ⊎ ((Config ≡ Limit) ⊎ (Config ≡ InputFault)) → ⊥
-other_config (inl e) = absurd cc
-other_config (inr (inl e)) = absurd cc
-other_config (inr (inr e)) = absurd cc
+-- ---- what a step can't answer
 
-not_limit : (l : Outcome) (session : List ℕ) → IsOverLimit l session → IsServable l session → ⊥
-not_limit (Ok routers) session over servable = let both : false ≡ true = sym over ∙ servable in absurd cc
-not_limit (Err refusal) session over servable = servable
+-- files that give no network end no session, and end as a fault of the files only where the outside failed
+pub refused_early : (names : List (List ℕ)) (fault : LoadFault) (before now : SinkSeen) (result : Status) → EndsRefused names fault before now result → IsLate result → ⊥
+refused_early names load.Outside before now result silent late = subst IsLate silent.0 late
+refused_early names load.Memory before now result silent late = subst IsLate silent.0 late
+refused_early names (load.Over quantity) before now result (inl (inl said)) late = subst IsLate said.0 late
+refused_early names (load.Over quantity) before now result (inl (inr failed)) late = subst IsLate failed.0 late
+refused_early names (load.Over quantity) before now result (inr silent) late = subst IsLate silent.0 late
+refused_early names (load.Bad file line reason) before now result (inl (inl said)) late = subst IsLate said.0 late
+refused_early names (load.Bad file line reason) before now result (inl (inr failed)) late = subst IsLate failed.0 late
+refused_early names (load.Bad file line reason) before now result (inr silent) late = subst IsLate silent.0 late
 
-module _ (words : List (List ℕ)) (fs : List Named) (session : List ℕ) (written : Option (List ℕ)) (file_faults input_faults output_faults : ℕ) (now : Seen) where
-  abbrev told_before : Seen
-  told_before =
-      record { files = Some fs; rest = Some session; written = written; file_faults = file_faults; input_faults = input_faults; output_faults = output_faults }
+pub refused_outside : (names : List (List ℕ)) (fault : LoadFault) (before now : SinkSeen) (result : Status) → EndsRefused names fault before now result → result ≡ FileFault → fault ≡ load.Outside
+refused_outside names load.Outside before now result silent is = refl
+refused_outside names load.Memory before now result silent is = let both : Memory ≡ FileFault = sym silent.0 ∙ is in absurd cc
+refused_outside names (load.Over quantity) before now result (inl (inl said)) is = let both : Limit ≡ FileFault = sym said.0 ∙ is in absurd cc
+refused_outside names (load.Over quantity) before now result (inl (inr failed)) is = let both : OutputFault ≡ FileFault = sym failed.0 ∙ is in absurd cc
+refused_outside names (load.Over quantity) before now result (inr silent) is = let both : Memory ≡ FileFault = sym silent.0 ∙ is in absurd cc
+refused_outside names (load.Bad file line reason) before now result (inl (inl said)) is = let both : Config ≡ FileFault = sym said.0 ∙ is in absurd cc
+refused_outside names (load.Bad file line reason) before now result (inl (inr failed)) is = let both : OutputFault ≡ FileFault = sym failed.0 ∙ is in absurd cc
+refused_outside names (load.Bad file line reason) before now result (inr silent) is = let both : Memory ≡ FileFault = sym silent.0 ∙ is in absurd cc
 
-  not_file : Rose file_faults now.file_faults ⊎ IsAbsent words (Some fs) → IsServable (load words fs) session → ¬ Rose file_faults now.file_faults → ⊥
-  not_file (inl rose) servable files = files rose
-  not_file (inr missing) servable files = subst (λ (l : Outcome). IsServable l session) missing servable
+-- a session that was served doesn't end before it is read
+pub served_late : (state : StateView) (before now : Told) (status : Status) → Leaves state before now status → IsEarly status → ⊥
+served_late state before now Done leaves early = early
+served_late state before now Limit leaves early = early
+served_late state before now InputFault leaves early = early
+served_late state before now OutputFault leaves early = early
+served_late state before now Memory leaves early = early
+served_late state before now Config leaves early = leaves
+served_late state before now Usage leaves early = leaves
+served_late state before now Unstable leaves early = leaves
+served_late state before now FileFault leaves early = leaves
 
-  -- a run whose load and session are served, and in which nothing outside fails, is done
-  done_by : (status : Status) → EndsAs words told_before now status → IsServable (load words fs) session → ¬ Rose file_faults now.file_faults
-      → ¬ Rose input_faults now.input_faults → ¬ Rose output_faults now.output_faults → IsDone status
-  done_by Done e servable files input output = inl refl
-  done_by Memory e servable files input output = inr refl
-  done_by Usage e servable files input output = absurd (not_refused (load words fs) session Usage other_usage e.1.0 servable)
-  done_by Config e servable files input output = absurd (not_refused (load words fs) session Config other_config e.1.0 servable)
-  done_by Limit e servable files input output = absurd (not_limit (load words fs) session e.3 servable)
-  done_by InputFault e servable files input output = absurd (input e.1)
-  done_by OutputFault e servable files input output = absurd (output e.2)
-  done_by FileFault e servable files input output = absurd (not_file e.0 servable files)
-  done_by Unstable e servable files input output = absurd e
-
--- the same for all objects
-pub completes : (words : List (List ℕ)) (files : Option (List Named)) (rest written : Option (List ℕ)) (file_faults input_faults output_faults : ℕ) (now : Seen) (status : Status)
-    → EndsAs words (record { files = files; rest = rest; written = written; file_faults = file_faults; input_faults = input_faults; output_faults = output_faults }) now status
-    → IfSome files (λ fs. IfSome rest (λ session. IsServable (load words fs) session → ¬ Rose file_faults now.file_faults
-    → ¬ Rose input_faults now.input_faults → ¬ Rose output_faults now.output_faults → IsDone status))
-completes words None rest written ff fi fo now status e = tt
-completes words (Some fs) None written ff fi fo now status e = tt
-completes words (Some fs) (Some session) written ff fi fo now status e = done_by words fs session written ff fi fo now status e
+-- what was said to words that name no file is no status of files or of a session
+pub usage_other : (text : List ℕ) (before now : SinkSeen) (result : Status) → Says Usage text before now result → (IsLate result → ⊥) × (result ≢ FileFault)
+usage_other text before now result (inl said) = (λ late. subst IsLate said.0 late, λ is. let both : Usage ≡ FileFault = sym said.0 ∙ is in absurd cc)
+usage_other text before now result (inr failed) = (λ late. subst IsLate failed.0 late, λ is. let both : OutputFault ≡ FileFault = sym failed.0 ∙ is in absurd cc)

@@ -1,23 +1,26 @@
 -- What is told of configurations: of one by itself, and of several together.
-use Rattle.std.proofs.Common.{◌≡◌, ℕ, zero, suc, ◌≤◌, List, [], ◌∷◌, length, map, Option, Some, None, Ok, Err, All, refl, sym, ap, ◌∙◌, subst}
-use Rattle.std.specs.Prelude.{slice_index_or}
+use Rattle.std.proofs.Common.{◌≡◌, ℕ, zero, suc, ◌≤◌, List, [], ◌∷◌, length, map, Option, Some, None, Result, Ok, Err, All, refl, sym, ap, ◌∙◌, subst}
+use Rattle.std.specs.Prelude.{slice_get}
 use Rattle.std.specs.Option.{option_map_or}
 use Rattle.std.proofs.lemmas.List.Elements.{All-map}
+use Rattle.std.proofs.lemmas.List.{length-map}
 use Rattle.std.proofs.lemmas.Simd.{map-map}
 use Rattle.nc_types.specs.Config.{ConfigView, config_view}
 use Rattle.nc_types.specs.WellFormed.{IsWellFormed}
 use Rattle.nc_types.specs.declared.config.RouterConfig.{RouterConfig}
 use Rattle.nc_types.specs.declared.fault.Fault.{Fault}
 use Rattle.nc_reader.specs.Configuration.{configuration}
-use Rattle.nc_tables.specs.State.{HaveNoProcess}
+use Rattle.nc_tables.specs.State.{StateView, HaveNoProcess}
+use Rattle.nc_tables.specs.Settling.{settled}
+use Rattle.nc_session.specs.declared.TheConstants.{ROUND_LIMIT}
 use Rattle.nc_network.specs.Judged.{Names, Overlaps, Addresses, References, Judgement, Clashing, OverLimit, Fine}
 use Rattle.nc_network.specs.Told.{IsTold, fault_of, router_of}
 use Rattle.nc_network.specs.declared.fault.JoinFault.{JoinFault}
 use Rattle.nc_network.specs.declared.fault.JoinFault.TheVariants as joins
-use Rattle.nc_session.specs.declared.TheConstants.{LINE_LIMIT}
-use Rattle.nc_session.specs.declared.refusal.Reason.TheVariants.{SameName}
-use Rattle.nc_session.specs.Output.{Faulty, Refusal, load_judged, file_named, name_line_of}
-use Rattle.nc_session.specs.Loading.{IsFault, IsRead, joining_fault}
+use Rattle.nc_types.specs.declared.TheConstants.{LINE_LIMIT}
+use Rattle.nc_session.specs.File.{FileView, AreFilesOf}
+use Rattle.nc_session.specs.Load.{Unsettled, load_judged, load_settled}
+use Rattle.nc_session.specs.Loading.{IsFault, IsConfigured, AreBeside, joining_fault}
 
 -- ---- one configuration
 
@@ -37,30 +40,22 @@ configured lines c e = by_parts (length lines) _ _ _ _ c e (λ n. (refl, refl))
 
 -- ---- several
 
-pub all_formed : (cs : List RouterConfig) → All (λ c. IsRead (config_view c)) cs → All IsWellFormed (map config_view cs)
+pub all_formed : (cs : List RouterConfig) → All (λ c. IsConfigured (config_view c)) cs → All IsWellFormed (map config_view cs)
 all_formed cs read = All-map IsWellFormed config_view cs (λ k d within. (read k d within).formed)
 
-pub all_short : (cs : List RouterConfig) → All (λ c. IsRead (config_view c)) cs → All (λ c. c.line_count ≤ LINE_LIMIT) cs
+pub all_short : (cs : List RouterConfig) → All (λ c. IsConfigured (config_view c)) cs → All (λ c. c.line_count ≤ LINE_LIMIT) cs
 all_short cs read = λ k d within. (read k d within).lines
 
-pub none_has_process : (cs : List RouterConfig) → All (λ c. IsRead (config_view c)) cs → HaveNoProcess (map config_view cs)
+pub none_has_process : (cs : List RouterConfig) → All (λ c. IsConfigured (config_view c)) cs → HaveNoProcess (map config_view cs)
 none_has_process cs read = All-map (λ c. c.process ≡ None) config_view cs (λ k d within. (read k d within).process)
 
--- the line that names a router, by the list of these lines
-line_at : (routers : List ConfigView) (router : ℕ) → slice_index_or (map (λ (c : ConfigView). c.name_line) routers) router 0 ≡ name_line_of routers router
-line_at [] router = refl
-line_at (c ∷ cs) zero = refl
-line_at (c ∷ cs) (suc router) = line_at cs router
-
-module _ (names : List (List ℕ)) (routers : List ConfigView) (lines : List ℕ) (are : lines ≡ map (λ (c : ConfigView). c.name_line) routers) where
+module _ (names : List (List ℕ)) (routers : List ConfigView) where
   abbrev Holds : Judgement → JoinFault → Type 0
-  Holds j fault = IsFault names (joining_fault lines fault) (load_judged names routers j)
+  Holds j fault = IsFault names (joining_fault fault) (load_settled (load_judged names routers j))
 
   known : (j : Judgement) (fault : JoinFault) → fault_of j ≡ Some fault → Holds j fault
   known (Clashing Names c) fault e =
-      let same : joins.SameName (router_of c.first) (router_of c.second) ≡ fault = cc in
-      let line : name_line_of routers c.second ≡ slice_index_or lines c.second 0 = sym (ap (λ (ls : List ℕ). slice_index_or ls c.second 0) are ∙ line_at routers c.second) in
-      subst (Holds (Clashing Names c)) same (ap (λ (n : ℕ). let r : Refusal = Faulty (file_named names c.second) n SameName in Err r) line)
+      let same : joins.SameName (router_of c.first) (router_of c.second) c.second_line ≡ fault = cc in subst (Holds (Clashing Names c)) same refl
   known (Clashing Overlaps c) fault e =
       let same : joins.Overlap (router_of c.first) c.first_line c.second_line ≡ fault = cc in subst (Holds (Clashing Overlaps c)) same refl
   known (Clashing Addresses c) fault e =
@@ -73,14 +68,36 @@ module _ (names : List (List ℕ)) (routers : List ConfigView) (lines : List ℕ
   -- a fault of joining is what is told of the files
   pub told_fault : (T : Type 0) (j : Judgement) (fault : JoinFault) → IsTold {T = T} j (Err fault) → Holds j fault
   told_fault T j joins.Memory told = tt
-  told_fault T j (joins.SameName first second) told = known j (joins.SameName first second) told
+  told_fault T j (joins.SameName first second line) told = known j (joins.SameName first second line) told
   told_fault T j (joins.Overlap router first second) told = known j (joins.Overlap router first second) told
   told_fault T j (joins.SameAddress first first_line second second_line) told = known j (joins.SameAddress first first_line second second_line) told
   told_fault T j (joins.Undefined router line) told = known j (joins.Undefined router line) told
   told_fault T j (joins.Limit which) told = known j (joins.Limit which) told
 
-pub lines_of_views : (cs : List RouterConfig) → map (λ (c : RouterConfig). c.name_line) cs ≡ map (λ (c : ConfigView). c.name_line) (map config_view cs)
-lines_of_views cs = sym (map-map (λ (c : ConfigView). c.name_line) config_view cs)
+-- configurations with which nothing is wrong, and which settle
+pub load_fine : (names : List (List ℕ)) (routers : List ConfigView) (j : Judgement) (state : StateView) → j ≡ Fine → settled ROUND_LIMIT routers ≡ Some state → load_settled (load_judged names routers j) ≡ Ok state
+load_fine names routers j state fine is =
+    ap (λ (k : Judgement). load_settled (load_judged names routers k)) fine ∙ ap (λ (o : Option StateView). option_map_or Ok o (Err (Unsettled ROUND_LIMIT))) is
 
-pub load_fine : (names : List (List ℕ)) (routers : List ConfigView) (j : Judgement) → j ≡ Fine → load_judged names routers j ≡ Ok routers
-load_fine names routers j fine = ap (load_judged names routers) fine
+-- ---- the files of the routers
+
+abbrev lines_in : FileView → ℕ
+lines_in f = length f.lines
+
+abbrev count_in : ConfigView → ℕ
+count_in c = c.line_count
+
+each_fits : (files : List FileView) (routers : List ConfigView) → map lines_in files ≡ map count_in routers → (router : ℕ) (c : ConfigView) (f : FileView) → slice_get routers router ≡ Some c → slice_get files router ≡ Some f → length f.lines ≡ c.line_count
+each_fits [] routers beside router c f at file = absurd cc
+each_fits (g ∷ files) [] beside router c f at file = absurd cc
+each_fits (g ∷ files) (d ∷ routers) beside zero c f at file = cc
+each_fits (g ∷ files) (d ∷ routers) beside (suc router) c f at file =
+    let tails : map lines_in files ≡ map count_in routers = cc in
+    each_fits files routers tails router c f at file
+
+-- files that stand beside configurations are those of their routers
+pub files_fit : (files : List FileView) (routers : List ConfigView) → AreBeside files routers → AreFilesOf routers files
+files_fit files routers beside = record {
+  count = sym (length-map files lines_in) ∙ ap length beside ∙ length-map routers count_in;
+  each = λ router c f at file. each_fits files routers beside router c f at file;
+}

@@ -12,7 +12,8 @@ use Rattle.nc_marks.specs.Marks.{IsMark}
 use Rattle.nc_marks.specs.declared.mark.Mark.{Mark}
 use Rattle.nc_marks.specs.declared.mark.Mark.TheVariants.{Strong, Weak, Uncovered, Outside}
 use Rattle.nc_reader.specs.Configuration.{configuration}
-use Rattle.nc_tables.specs.State.{StateView, IsState, static_state}
+use Rattle.nc_tables.specs.State.{StateView, IsState, HaveNoProcess, static_state}
+use Rattle.nc_tables.specs.Settling.{settled}
 use Rattle.nc_fact.specs.declared.fact.Fact.{Fact}
 use Rattle.nc_fact.specs.Tested.{tested_facts}
 use Rattle.nc_rules.specs.Rules.{flow_of}
@@ -22,8 +23,10 @@ use Rattle.nc_session.specs.declared.TheConstants.{TEST_LIMIT}
 use Rattle.nc_session.specs.declared.status.Status.{Status}
 use Rattle.nc_session.specs.Texts.{Sheet, letter, accepted_of, report_of}
 use Rattle.nc_session.specs.Marks.{AreLineMarks, IsSheet, IsReport}
-use Rattle.nc_session.specs.Session.{State, no_tests, tested_in, router_of, until_quit, IsReply, Counts, Tests, Named as IsNamed, Answers, Run, AreReplies}
-use Rattle.nc_session.specs.Output.{Refusal, Replied, Concludes, Output, load, is_within, served_lines, long_session_text}
+use Rattle.nc_session.specs.Session.{KeptTest, State, no_tests, asked_in, live_in, router_of, until_quit, IsReply, Counts, Tests, Named as IsNamed, Answers, Run, AreReplies}
+use Rattle.nc_session.specs.Load.{Refusal, load}
+use Rattle.nc_session.specs.Refusals.{long_session_text}
+use Rattle.nc_session.specs.Output.{ServesWithin, Concludes, Output, is_within, served_lines}
 use Rattle.nc_session.proofs.ValidLoads.{loaded_state}
 
 -- ---- one mark
@@ -100,10 +103,10 @@ module _ (lengths : (g : Flow Fact) → IsFlow g → (fs xs ys : List Fact) → 
   abbrev Same : List ℕ → List ℕ → State → State → Type 0
   Same r t m n = (r ≡ t) × (m ≡ n)
 
-  reply_once : (tests : List (List Fact)) (r t : List ℕ) → IsReply s tests r → IsReply s tests t → r ≡ t
+  reply_once : (tests : List KeptTest) (r t : List ℕ) → IsReply s tests r → IsReply s tests t → r ≡ t
   reply_once tests r t p q =
-      let count : length p.asked ≡ length q.asked = lengths (flow_of s) lawful (tested_in tests) p.asked q.asked p.closure q.closure in
-      let report : p.report ≡ q.report = report_once (flow_of s) (tested_in tests) s.routers p.report q.report p.is_report q.is_report in
+      let count : length p.asked ≡ length q.asked = lengths (flow_of s) lawful (asked_in tests) p.asked q.asked p.closure q.closure in
+      let report : p.report ≡ q.report = report_once (flow_of s) (live_in tests) s.routers p.report q.report p.is_report q.is_report in
       p.text
       ∙ ap (λ (n : ℕ). accepted_of (length tests) n ++ p.report) count
       ∙ ap (λ (l : List ℕ). accepted_of (length tests) (length q.asked) ++ l) report
@@ -143,7 +146,7 @@ module _ (lengths : (g : Flow Fact) → IsFlow g → (fs xs ys : List Fact) → 
   replies_once : (lines : List (List ℕ)) (r t : List ℕ) → AreReplies s lines r → AreReplies s lines t → r ≡ t
   replies_once lines r t p q = run_once no_tests (until_quit lines) r t p.last q.last p.run q.run
 
-  replied_once : (session : List ℕ) (within : Bool) (m n : Status) (r t : List ℕ) → Replied s session within m r → Replied s session within n t → (m ≡ n) × (r ≡ t)
+  replied_once : (session : List ℕ) (within : Bool) (m n : Status) (r t : List ℕ) → ServesWithin s session within m r → ServesWithin s session within n t → (m ≡ n) × (r ≡ t)
   replied_once session true m n r t p q = (p.0 ∙ sym q.0, replies_once (served_lines session) r t p.1 q.1)
   replied_once session false m n r t p q =
       let replies : p.1 ≡ q.1 = replies_once (served_lines session) p.1 q.1 p.2 q.2 in
@@ -151,13 +154,14 @@ module _ (lengths : (g : Flow Fact) → IsFlow g → (fs xs ys : List Fact) → 
 
 -- ---- one output
 
-module _ (formed : (lines : List (List ℕ)) (c : ConfigView) → configuration lines ≡ Ok c → IsWellFormed c) (flows : (s : StateView) → IsState s → IsFlow (flow_of s))
+module _ (formed : (lines : List (List ℕ)) (c : ConfigView) → configuration lines ≡ Ok c → IsWellFormed c)
+    (settles : (routers : List ConfigView) (rounds : ℕ) → HaveNoProcess routers → 0 < rounds → settled rounds routers ≡ Some (static_state routers)) (flows : (s : StateView) → IsState s → IsFlow (flow_of s))
     (lengths : (g : Flow Fact) → IsFlow g → (fs xs ys : List Fact) → IsClosure g fs xs → IsClosure g fs ys → length xs ≡ length ys) where
-  concludes_once : (loaded : Result (List ConfigView) Refusal) (session : List ℕ) (m n : Status) (r t : List ℕ) → ((routers : List ConfigView) → loaded ≡ Ok routers → IsState (static_state routers))
+  concludes_once : (loaded : Result StateView Refusal) (session : List ℕ) (m n : Status) (r t : List ℕ) → ((state : StateView) → loaded ≡ Ok state → IsState state)
       → Concludes loaded session m r → Concludes loaded session n t → (m ≡ n) × (r ≡ t)
   concludes_once (Err refusal) session m n r t state p q = (p.0 ∙ sym q.0, p.1 ∙ sym q.1)
-  concludes_once (Ok routers) session m n r t state p q =
-      replied_once lengths (static_state routers) (flows (static_state routers) (state routers refl)) session (is_within session) m n r t p q
+  concludes_once (Ok s) session m n r t state p q =
+      replied_once lengths s (flows s (state s refl)) session (is_within session) m n r t p q
 
   pub one_output : (words : List (List ℕ)) (files : List Named) (session : List ℕ) (m n : Status) (r t : List ℕ) → Output words files session m r → Output words files session n t → (m ≡ n) × (r ≡ t)
-  one_output words files session m n r t p q = concludes_once (load words files) session m n r t (loaded_state formed words files) p q
+  one_output words files session m n r t p q = concludes_once (load words files) session m n r t (loaded_state formed settles words files) p q

@@ -1,5 +1,8 @@
--- What holds of a value that may be there.
-use Rattle.std.proofs.Common.{Option, Some, None, IfSome}
+-- What holds of a value that may be there, and of bytes that may be told.
+use Rattle.std.proofs.Common.{◌≡◌, ◌⊎◌, ℕ, ◌<◌, ◌≤◌, Bool, true, false, nat_le, List, [], Option, Some, None, IfSome, refl, sym, ◌∙◌, append-nil, inl, inr}
+use Rattle.std.proofs.lemmas.Bool.{leb-true, leb-false}
+use Rattle.std.specs.Io.KnownBytes.{Appends, Keeps}
+use Rattle.nc_session.specs.Output.{Writes}
 
 -- what holds of every value holds of one that may be there
 pub some_of : {A : Type 0} (o : Option A) (P : A → Type 0) → ((x : A) → P x) → IfSome o P
@@ -9,3 +12,26 @@ some_of (Some x) P holds = holds x
 pub some_more : {A : Type 0} (o : Option A) (P Q : A → Type 0) → ((x : A) → P x → Q x) → IfSome o P → IfSome o Q
 some_more None P Q holds h = tt
 some_more (Some x) P Q holds h = holds x h
+
+-- what was appended is what was written
+pub writes : (old new : Option (List ℕ)) (bytes : List ℕ) (P : List ℕ → Type 0) → Appends old new bytes → P bytes → Writes old new P
+writes None new bytes P appends holds = tt
+writes (Some xs) None bytes P appends holds = absurd appends
+writes (Some xs) (Some ys) bytes P appends holds = (bytes, appends, holds)
+
+pub writes_none : (old new : Option (List ℕ)) (P : List ℕ → Type 0) → Keeps old new → P [] → Writes old new P
+writes_none None new P keeps holds = tt
+writes_none (Some xs) None P keeps holds = absurd keeps
+writes_none (Some xs) (Some ys) P keeps holds = ([], keeps ∙ sym (append-nil xs), holds)
+
+pub writes_more : (old new : Option (List ℕ)) (P Q : List ℕ → Type 0) → ((bytes : List ℕ) → P bytes → Q bytes) → Writes old new P → Writes old new Q
+writes_more None new P Q holds w = tt
+writes_more (Some xs) None P Q holds w = w
+writes_more (Some xs) (Some ys) P Q holds w = (w.0, w.1, holds w.0 w.2)
+
+pub by_length : (n m : ℕ) → (n ≤ m) ⊎ (m < n)
+by_length n m = on (nat_le n m) refl
+  where
+    on : (b : Bool) → nat_le n m ≡ b → (n ≤ m) ⊎ (m < n)
+    on true e = inl (leb-true n m e)
+    on false e = inr (leb-false n m e)

@@ -6,7 +6,7 @@ use Rattle.std.proofs.KnownBytes.{Consumes-nil, Consumes-trans, Consumes-kept}
 use Rattle.nc_outside.specs.Named.{Named, Enters, content_of}
 use Rattle.nc_session.specs.declared.TheConstants.{FILE_LIMIT}
 use Rattle.nc_session.specs.Reading.{TakesAtMost}
-use Rattle.nc_session.specs.Loading.{TakesOfEntered}
+use Rattle.nc_session.specs.Causes.{TakesOfEntered}
 
 -- nothing was read
 pub takes_none : (most : ℕ) (a : Option (List ℕ)) → TakesAtMost most a a

@@ -1,5 +1,5 @@
 -- What is loaded is a valid network, and has a state.
-use Rattle.std.proofs.Common.{◌≡◌, ℕ, ◌≤◌, Bool, true, false, cond, nat_le, List, [], ◌∷◌, length, All, Option, Some, None, Result, Ok, Err, refl, ap, ◌∙◌, subst, arith}
+use Rattle.std.proofs.Common.{◌≡◌, ℕ, ◌<◌, ◌≤◌, Bool, true, false, cond, nat_le, List, [], ◌∷◌, length, All, Option, Some, None, Result, Ok, Err, refl, ap, ◌∙◌, subst, arith}
 use Rattle.std.specs.Option.{option_map_or}
 use Rattle.std.proofs.lemmas.Bool.{leb-true}
 use Rattle.std.proofs.lemmas.List.Elements.{All-cons}
@@ -11,11 +11,14 @@ use Rattle.nc_outside.specs.Named.{Named, content_of}
 use Rattle.nc_lines.specs.Lines.{lines_of}
 use Rattle.nc_reader.specs.Configuration.{configuration}
 use Rattle.nc_network.specs.Judged.{ClashKind, Names, Overlaps, Addresses, References, Judgement, Clashing, OverLimit, Fine, or_clash, judged}
-use Rattle.nc_tables.specs.State.{IsState, static_state}
+use Rattle.nc_tables.specs.State.{StateView, IsState, HaveNoProcess, static_state}
+use Rattle.nc_tables.specs.Settling.{settled}
 use Rattle.nc_stable.proofs.WithoutBgp.{is_state}
-use Rattle.nc_session.specs.declared.TheConstants.{ROUTER_LIMIT, FILE_LIMIT, LINE_LIMIT}
+use Rattle.nc_types.specs.declared.TheConstants.{ROUTER_LIMIT, LINE_LIMIT}
+use Rattle.nc_session.specs.declared.TheConstants.{FILE_LIMIT, ROUND_LIMIT}
 use Rattle.nc_session.specs.declared.refusal.Quantity.TheVariants.{Routers, Bytes, Lines}
-use Rattle.nc_session.specs.Output.{Refusal, WrongWords, TooMany, files_of, load, load_result, load_lines, load_content, load_each, and_then, load_judged, load_joined, load_names}
+use Rattle.nc_session.specs.Words.{RequestView, request_of}
+use Rattle.nc_session.specs.Load.{Refusal, WrongWords, TooMany, Unsettled, load, load_result, load_lines, load_content, load_each, and_then, load_judged, load_joined, load_names, load_settled, load_request}
 use Rattle.nc_session.proofs.Joined.{configured}
 
 -- ---- joining
@@ -33,17 +36,10 @@ valid routers formed fine =
     let references = clean References (undefined routers) _ addresses.1 in
     record { each = formed; names = names.0; prefixes = prefixes.0; addresses = addresses.0; references = references.0 }
 
-fine_of : (names : List (List ℕ)) (routers loaded : List ConfigView) (j : Judgement) → load_judged names routers j ≡ Ok loaded → (routers ≡ loaded) × (j ≡ Fine)
-fine_of names routers loaded (Clashing Names c) e = absurd (cc)
-fine_of names routers loaded (Clashing Overlaps c) e = absurd (cc)
-fine_of names routers loaded (Clashing Addresses c) e = absurd (cc)
-fine_of names routers loaded (Clashing References c) e = absurd (cc)
-fine_of names routers loaded (OverLimit which) e = absurd (cc)
-fine_of names routers loaded Fine e = (cc, refl)
-
 -- ---- file by file
 
-module _ (formed : (lines : List (List ℕ)) (c : ConfigView) → configuration lines ≡ Ok c → IsWellFormed c) where
+module _ (formed : (lines : List (List ℕ)) (c : ConfigView) → configuration lines ≡ Ok c → IsWellFormed c)
+    (settles : (routers : List ConfigView) (rounds : ℕ) → HaveNoProcess routers → 0 < rounds → settled rounds routers ≡ Some (static_state routers)) where
   -- what is known of a configuration that was loaded
   record IsOne (c : ConfigView) : Type 0 where
     well : IsWellFormed c
@@ -89,25 +85,52 @@ module _ (formed : (lines : List (List ℕ)) (c : ConfigView) → configuration 
 
   -- ---- all together
 
-  joined_state : (names : List (List ℕ)) (each : Result (List ConfigView) Refusal) (routers : List ConfigView) → length names ≤ ROUTER_LIMIT
-      → ((cs : List ConfigView) → each ≡ Ok cs → AreLoaded names cs) → load_joined names each ≡ Ok routers → IsState (static_state routers)
-  joined_state names (Err refusal) routers few loaded e = absurd (cc)
-  joined_state names (Ok cs) routers few loaded e =
-      let fine = fine_of names cs routers (judged cs) e in
-      let are = loaded cs refl in
-      subst (λ (rs : List ConfigView). IsState (static_state rs)) fine.0 (
-      is_state cs (λ k d lt. (are.each k d lt).process) (valid cs (λ k d lt. (are.each k d lt).well) fine.1) (omega (arith, are.count, few)))
+  -- routers that were loaded have a state, and so has what settles
+  IsSettled : Result (List ConfigView) Refusal → Type 0
+  IsSettled loaded = (state : StateView) → load_settled loaded ≡ Ok state → IsState state
 
-  names_state : (names : List (List ℕ)) (files : List Named) (routers : List ConfigView) (few : Bool) → nat_le (length names) ROUTER_LIMIT ≡ few
-      → cond few (load_joined names (load_each files names)) (Err (TooMany Routers)) ≡ Ok routers → IsState (static_state routers)
-  names_state names files routers true few e = joined_state names (load_each files names) routers (leb-true (length names) ROUTER_LIMIT few) (each_loaded files names) e
-  names_state names files routers false few e = absurd (cc)
+  by_settled : (o : Option StateView) (s state : StateView) → o ≡ Some s → IsState s → option_map_or Ok o (Err (Unsettled ROUND_LIMIT)) ≡ Ok state → IsState state
+  by_settled None s state is holds e = absurd cc
+  by_settled (Some t) s state is holds e =
+      let same : s ≡ state = cc in subst IsState same holds
 
-  named_state : (named : Option (List (List ℕ))) (files : List Named) (routers : List ConfigView) → option_map_or (λ names. load_names names files) named (Err WrongWords) ≡ Ok routers → IsState (static_state routers)
+  routers_settled : (routers : List ConfigView) → HaveNoProcess routers → IsState (static_state routers) → IsSettled (Ok routers)
+  unfolding IsSettled
+  routers_settled routers none is state e = by_settled (settled ROUND_LIMIT routers) (static_state routers) state (settles routers ROUND_LIMIT none (omega arith)) is e
+
+  refusal_settled : (refusal : Refusal) → IsSettled (Err refusal)
+  unfolding IsSettled
+  refusal_settled refusal state e = absurd cc
+
+  judged_settled : (names : List (List ℕ)) (cs : List ConfigView) (j : Judgement) → judged cs ≡ j → All IsOne cs → length cs ≤ ROUTER_LIMIT → IsSettled (load_judged names cs j)
+  judged_settled names cs (Clashing Names c) is each few = refusal_settled _
+  judged_settled names cs (Clashing Overlaps c) is each few = refusal_settled _
+  judged_settled names cs (Clashing Addresses c) is each few = refusal_settled _
+  judged_settled names cs (Clashing References c) is each few = refusal_settled _
+  judged_settled names cs (OverLimit which) is each few = refusal_settled _
+  judged_settled names cs Fine is each few =
+      routers_settled cs (λ k d lt. (each k d lt).process) (is_state cs (λ k d lt. (each k d lt).process) (valid cs (λ k d lt. (each k d lt).well) is) few)
+
+  joined_settled : (names : List (List ℕ)) (each : Result (List ConfigView) Refusal) → length names ≤ ROUTER_LIMIT
+      → ((cs : List ConfigView) → each ≡ Ok cs → AreLoaded names cs) → IsSettled (load_joined names each)
+  joined_settled names (Err refusal) few loaded = refusal_settled refusal
+  joined_settled names (Ok cs) few loaded =
+      let are = loaded cs refl in judged_settled names cs (judged cs) refl are.each (omega (arith, are.count, few))
+
+  names_settled : (names : List (List ℕ)) (files : List Named) (few : Bool) → nat_le (length names) ROUTER_LIMIT ≡ few
+      → IsSettled (cond few (load_joined names (load_each files names)) (Err (TooMany Routers)))
+  names_settled names files true few = joined_settled names (load_each files names) (leb-true (length names) ROUTER_LIMIT few) (each_loaded files names)
+  names_settled names files false few = refusal_settled (TooMany Routers)
+
+  request_settled : (request : RequestView) (files : List Named) → IsSettled (load_names request.files files)
   unfolding load_names
-  named_state None files routers e = absurd (cc)
-  named_state (Some names) files routers e = names_state names files routers (nat_le (length names) ROUTER_LIMIT) refl e
+  request_settled request files = names_settled request.files files (nat_le (length request.files) ROUTER_LIMIT) refl
 
-  -- what the words and the files load has a state
-  pub loaded_state : (words : List (List ℕ)) (files : List Named) (routers : List ConfigView) → load words files ≡ Ok routers → IsState (static_state routers)
-  loaded_state words files routers e = named_state (files_of words) files routers e
+  by_request : (asked : Option RequestView) (files : List Named) (state : StateView) → option_map_or (λ request. load_request request files) asked (Err WrongWords) ≡ Ok state → IsState state
+  unfolding IsSettled
+  by_request None files state e = absurd cc
+  by_request (Some request) files state e = request_settled request files state e
+
+  -- what the words and the files load is a state
+  pub loaded_state : (words : List (List ℕ)) (files : List Named) (state : StateView) → load words files ≡ Ok state → IsState state
+  loaded_state words files state e = by_request (request_of words) files state e

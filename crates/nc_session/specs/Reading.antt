@@ -1,7 +1,8 @@
 -- Reading from the outside up to one byte past a limit.
-use Rattle.std.specs.Prelude.{◌≡◌, ℕ, ◌+◌, ◌≤◌, List, ◌++◌, length, Option, Result, Ok, Err}
+use Rattle.std.specs.Prelude.{◌≡◌, ℕ, ◌+◌, ◌≤◌, false, List, ◌++◌, length, Option, Result, Ok, Err}
 use Rattle.std.specs.Io.KnownBytes.{Consumes, IsAtEnd}
-use Rattle.nc_outside.specs.Counts.{Rose}
+use Rattle.nc_outside.specs.declared.end.End.{End}
+use Rattle.nc_outside.specs.Counts.{Faults, Rose}
 use Rattle.nc_session.specs.declared.reading.Stop.{Stop}
 use Rattle.nc_session.specs.declared.reading.Stop.TheVariants.{Outside, Memory}
 
@@ -24,8 +25,16 @@ pub record IsRead (most : ℕ) (left rest : Option (List ℕ)) (bytes : List ℕ
 abbrev pub TakesAtMost : ℕ → Option (List ℕ) → Option (List ℕ) → Type 0
 TakesAtMost most old new = (taken : List ℕ) × Consumes old new taken × (length taken ≤ most)
 
+-- no read came behind the end
+abbrev pub IsInTime : End → End → Type 0
+IsInTime before now = now.late ≡ before.late
+
+-- no read came behind the end, unless that was told before
+abbrev pub StaysInTime : End → End → Type 0
+StaysInTime before now = before.is_told ≡ false → IsInTime before now
+
 -- work stops for the outside only where its count of faults rose, and else leaves the count
-abbrev pub HasStopCause : {T : Type 0} → ℕ → ℕ → Result T Stop → Type 0
+abbrev pub HasStopCause : {T : Type 0} → Faults → Faults → Result T Stop → Type 0
 HasStopCause before now (Ok x) = now ≡ before
 HasStopCause before now (Err Outside) = Rose before now
 HasStopCause before now (Err Memory) = now ≡ before

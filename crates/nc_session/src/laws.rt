@@ -4,11 +4,14 @@ ghost use Rattle.std.specs.Prelude.{◌≡◌, ℕ, List};
 ghost use Rattle.nc_outside.specs.Named.{Named};
 ghost use Rattle.nc_session.specs.declared.status.Status.{Status};
 ghost use Rattle.nc_session.specs.Output.{Output};
+ghost use Rattle.nc_session.specs.Leaving.{GoesOn};
+ghost use Rattle.nc_tables.specs.State.{StateView, IsState};
 
 use nc_fact::Fact;
-use nc_graph::laws::closures_have_one_length;
+use nc_graph::laws::{closures_have_one_length, some_is_evaluation, strong_is_evaluation};
 use nc_reader::laws::configurations_are_well_formed;
 use nc_rules::rules_make_a_flow;
+use nc_tables::settling_is_lawful;
 
 /// The law of the output: for the same words, files and session the definitions allow one status and one text.
 pub fn output_is_one()
@@ -16,6 +19,17 @@ pub fn output_is_one()
         → Output words files session m bytes → Output words files session n more → (m ≡ n) × (bytes ≡ more) }
 {
     configurations_are_well_formed();
+    settling_is_lawful();
     rules_make_a_flow();
     closures_have_one_length::<Fact>();
+}
+
+/// The law of a session: whatever lines were answered, further lines can be, each with a reply.
+pub fn sessions_go_on()
+    ensures { (s : StateView) → IsState s → GoesOn s }
+{
+    rules_make_a_flow();
+    closures_have_one_length::<Fact>();
+    strong_is_evaluation::<Fact>();
+    some_is_evaluation::<Fact>();
 }

@@ -12,6 +12,7 @@ mod engine;
 mod file;
 pub mod laws;
 mod load;
+mod pieces;
 mod reading;
 mod refusal;
 mod report;
@@ -21,6 +22,7 @@ mod shown;
 mod status;
 #[cfg(test)]
 mod tests;
+mod words;
 mod work;
 mod writing;
 
@@ -30,14 +32,11 @@ pub use refusal::{Quantity, Reason};
 pub use runs::run;
 pub use status::Status;
 
-/// How many files are read: the routers of a network.
-pub const ROUTER_LIMIT: usize = 256;
-
 /// How many bytes of a file are read.
 pub const FILE_LIMIT: usize = 4_194_304;
 
-/// How many lines of a file are read.
-pub const LINE_LIMIT: u32 = 65_535;
+/// How many rounds of the routing are made until it settles.
+pub const ROUND_LIMIT: usize = 256;
 
 /// How many bytes of a session are read.
 pub const SESSION_LIMIT: usize = 16_777_216;

@@ -1,28 +1,32 @@
-//! Loading: from the names of files to the network that they configure, and its state.
+//! Loading: from the names of files to the state of the network that they configure.
 
-ghost use Rattle.std.specs.Prelude.{◌≡◌, ◌+◌, ◌≤◌, ◌<◌, ℕ, List, Some, None, length, map, All, IfSome, IfOk, OnOk, IsErrOf, MatchOption, MatchResult};
-ghost use Rattle.std.specs.List.{list_any};
+ghost use Rattle.std.specs.Prelude.{◌≡◌, ◌⊎◌, ◌+◌, ◌≤◌, ◌<◌, ℕ, List, length, map, All, IfSome, IfOk, OnOk, IsErrOf, MatchResult};
 ghost use Rattle.nc_types.specs.Config.{config_view};
 ghost use Rattle.nc_lines.specs.Lines.{lines_of};
 ghost use Rattle.nc_outside.specs.Named.{content_of};
-ghost use Rattle.nc_tables.specs.State.{static_state};
-ghost use Rattle.nc_session.specs.declared.TheConstants.{FILE_LIMIT, ROUTER_LIMIT};
+ghost use Rattle.nc_outside.specs.Counts.{one_entry, entries_after};
+ghost use Rattle.nc_types.specs.declared.TheConstants.{ROUTER_LIMIT};
+ghost use Rattle.nc_session.specs.declared.TheConstants.{FILE_LIMIT};
 ghost use Rattle.nc_session.specs.declared.refusal.LoadFault.TheVariants as LoadFault;
 ghost use Rattle.nc_session.specs.declared.refusal.Quantity.TheVariants as Quantity;
-ghost use Rattle.nc_session.specs.Output.{files_of, is_option, file_named, load_content, load_lines, load_each, load_names};
-ghost use Rattle.nc_session.specs.Loading.{IsOne, AddsOne, IsEach, IsJoined, IsLoad, IsRead, joining_fault, HasCauseOf, TakesOfEntered, IsTaken, IsInTurn, texts};
+ghost use Rattle.nc_session.specs.File.{AreFilesOf, file_view};
+ghost use Rattle.nc_session.specs.Words.{texts};
+ghost use Rattle.nc_session.specs.Load.{file_named, load_content, load_lines, load_each, load_names, load_settled};
+ghost use Rattle.nc_session.specs.Reading.{IsInTime};
+ghost use Rattle.nc_session.specs.Causes.{TakesOfEntered, TakesOfFiles, IsInTurn, EntersInTurn, EntersEach};
+ghost use Rattle.nc_session.specs.Loading.{IsOne, IsFileOf, AddsOne, AddsFile, IsEach, AreBeside, AreFilesNamed, IsJoined, IsLoad, IsConfigured, joining_fault, HasCauseOf};
 
+use crate::FILE_LIMIT;
 use crate::file::LoadedFile;
 use crate::reading::read_file;
 use crate::refusal::{LoadFault, Quantity, Reason};
-use crate::{FILE_LIMIT, LINE_LIMIT, ROUTER_LIMIT};
 use nc_lines::split::split_lines;
 use nc_network::{JoinFault, join};
 use nc_outside::Files;
 use nc_reader::read_config;
 use nc_stable::settle_static;
 use nc_tables::Stable;
-use nc_types::{ConfigFault, RouterConfig, RouterId, Text};
+use nc_types::{ConfigFault, LINE_LIMIT, ROUTER_LIMIT, RouterConfig, RouterId, Text};
 use std::alloc::{AllocError, Global};
 
 // A file that was read, with its configuration.
@@ -46,37 +50,6 @@ pub(crate) struct Loaded {
     pub(crate) files: Vec<LoadedFile>,
 }
 
-// Whether a word isn't taken as a file: several bytes, of which the first is a dash.
-fn is_option(word: &str) -> bool
-    ensures { result ≡ is_option word.now }
-{
-    let bytes = word.as_bytes();
-    bytes.len() > 1 && bytes[0] == b'-'
-}
-
-// Whether some word is an option.
-fn has_option(words: &[String]) -> bool
-    ensures { result ≡ list_any is_option (texts words.now) }
-{
-    'words: for word in words {
-        if is_option(word.as_str()) {
-            return true;
-        }
-    }
-    false
-}
-
-/// The files that the words name: there is one at least, and no word is an option.
-pub(crate) fn files_of(words: &[String]) -> Option<&[String]>
-    ensures { MatchOption result (files_of (texts words.now) ≡ None) (λ names. files_of (texts words.now) ≡ Some (texts names.now)) }
-{
-    if words.is_empty() || has_option(words) {
-        None
-    } else {
-        Some(words)
-    }
-}
-
 // Splits the file at a place and reads its configuration.
 fn read_lines(
     alloc: Global,
@@ -86,8 +59,13 @@ fn read_lines(
 ) -> Result<FileRead, LoadFault>
     requires place { place < length names.now }
     requires short { length bytes.items ≤ FILE_LIMIT }
-    ensures loaded { IsOne (texts names.now) result (load_lines (file_named (texts names.now) place) (lines_of bytes.items)) }
-    ensures read { IfOk result (λ one. IsRead (config_view one.config)) }
+    ensures loaded { IsOne (texts names.now) result
+        (load_lines (file_named (texts names.now) place) (lines_of bytes.items)) }
+    ensures read { IfOk result (λ one. IsConfigured (config_view one.config)) }
+    ensures file { IfOk result (λ one. file_view one.file
+        ≡ record { name = file_named (texts names.now) place; lines = lines_of bytes.items }) }
+    ensures beside { IfOk result (λ one.
+        length (file_view one.file).lines ≡ (config_view one.config).line_count) }
     ensures inside { IsErrOf result LoadFault.Outside → ⊥ }
 {
     let lines = split_lines(alloc, bytes)?;
@@ -119,12 +97,23 @@ fn load_file<F: Files>(
     requires { place < length names.now }
     ensures files { F.files files.new ≡ F.files files.old }
     ensures loaded { IfSome (F.files files.old) (λ fs. IsOne (texts names.now) result
-        (load_content (file_named (texts names.now) place) (content_of fs (file_named (texts names.now) place)))) }
-    ensures read { IfOk result (λ one. IsRead (config_view one.config)) }
-    ensures cause { HasCauseOf (F.files files.old) (λ fs. load_content (file_named (texts names.now) place) (content_of fs (file_named (texts names.now) place)))
+        (load_content (file_named (texts names.now) place)
+        (content_of fs (file_named (texts names.now) place)))) }
+    ensures read { IfOk result (λ one. IsConfigured (config_view one.config)) }
+    ensures file { IfOk result (λ one. IsFileOf (F.files files.old)
+        (file_named (texts names.now) place) (file_view one.file)) }
+    ensures beside { IfOk result (λ one.
+        length (file_view one.file).lines ≡ (config_view one.config).line_count) }
+    ensures cause { HasCauseOf (F.files files.old)
+        (λ fs. load_content (file_named (texts names.now) place)
+        (content_of fs (file_named (texts names.now) place)))
         (F.faults files.old) (F.faults files.new) result }
-    ensures entered { IfSome (F.entered files.new) (λ entered. entered ≡ file_named (texts names.now) place) }
+    ensures entered { IfSome (F.entered files.new)
+        (λ entered. entered ≡ file_named (texts names.now) place) }
+    ensures entries { F.entries files.new
+        ≡ one_entry (file_named (texts names.now) place) (F.entries files.old) }
     ensures takes { TakesOfEntered (F.files files.old) (F.entered files.new) (F.left files.new) }
+    ensures in_time { IsInTime (F.end files.old) (F.end files.new) }
 {
     if files.enter(names[place].as_str()).is_err() {
         return Err(LoadFault::Outside);
@@ -146,14 +135,30 @@ fn add_file<F: Files>(
 ) -> Result<(), LoadFault>
     requires { place < length names.now }
     ensures files { F.files files.new ≡ F.files files.old }
-    ensures loaded { IfSome (F.files files.old) (λ fs. AddsOne (texts names.now) result each.old each.new
-        (load_content (file_named (texts names.now) place) (content_of fs (file_named (texts names.now) place)))) }
-    ensures read { OnOk result (All (λ c. IsRead (config_view c)) each.old.configs.items → All (λ c. IsRead (config_view c)) each.new.configs.items) }
-    ensures count { OnOk result (length each.new.configs.items ≡ length each.old.configs.items + 1) }
-    ensures cause { HasCauseOf (F.files files.old) (λ fs. load_content (file_named (texts names.now) place) (content_of fs (file_named (texts names.now) place)))
+    ensures loaded { IfSome (F.files files.old)
+        (λ fs. AddsOne (texts names.now) result each.old each.new
+        (load_content (file_named (texts names.now) place)
+        (content_of fs (file_named (texts names.now) place)))) }
+    ensures read { OnOk result (All (λ c. IsConfigured (config_view c)) each.old.configs.items
+        → All (λ c. IsConfigured (config_view c)) each.new.configs.items) }
+    ensures file { OnOk result (AddsFile (F.files files.old)
+        (file_named (texts names.now) place)
+        (map file_view each.old.files.items) (map file_view each.new.files.items)) }
+    ensures beside { OnOk result
+        (AreBeside (map file_view each.old.files.items) (map config_view each.old.configs.items)
+        → AreBeside (map file_view each.new.files.items) (map config_view each.new.configs.items)) }
+    ensures count { OnOk result
+        (length each.new.configs.items ≡ length each.old.configs.items + 1) }
+    ensures cause { HasCauseOf (F.files files.old)
+        (λ fs. load_content (file_named (texts names.now) place)
+        (content_of fs (file_named (texts names.now) place)))
         (F.faults files.old) (F.faults files.new) result }
-    ensures entered { IfSome (F.entered files.new) (λ entered. entered ≡ file_named (texts names.now) place) }
+    ensures entered { IfSome (F.entered files.new)
+        (λ entered. entered ≡ file_named (texts names.now) place) }
+    ensures entries { F.entries files.new
+        ≡ one_entry (file_named (texts names.now) place) (F.entries files.old) }
     ensures takes { TakesOfEntered (F.files files.old) (F.entered files.new) (F.left files.new) }
+    ensures in_time { IsInTime (F.end files.old) (F.end files.new) }
 {
     let one = load_file(alloc, names, place, files)?;
     each.files.push(one.file)?;
@@ -168,12 +173,27 @@ fn load_each<F: Files>(
     files: &mut F,
 ) -> Result<FilesRead, LoadFault>
     ensures files { F.files files.new ≡ F.files files.old }
-    ensures loaded { IfSome (F.files files.old) (λ fs. IsEach (texts names.now) result (load_each fs (texts names.now))) }
-    ensures read { IfOk result (λ each. All (λ c. IsRead (config_view c)) each.configs.items) }
+    ensures loaded { IfSome (F.files files.old)
+        (λ fs. IsEach (texts names.now) result (load_each fs (texts names.now))) }
+    ensures read { IfOk result (λ each. All (λ c. IsConfigured (config_view c)) each.configs.items) }
+    ensures named { IfOk result (λ each. AreFilesNamed (F.files files.old)
+        (texts names.now) (map file_view each.files.items)) }
+    ensures beside { IfOk result (λ each.
+        AreBeside (map file_view each.files.items) (map config_view each.configs.items)) }
     ensures count { IfOk result (λ each. length each.configs.items ≡ length names.now) }
-    ensures cause { HasCauseOf (F.files files.old) (λ fs. load_each fs (texts names.now)) (F.faults files.old) (F.faults files.new) result }
-    ensures entered { IsInTurn (texts names.now) (F.files files.old) (F.entered files.old) (F.entered files.new) }
-    ensures taken { IsTaken (F.files files.old) (F.entered files.old) (F.left files.old) (F.entered files.new) (F.left files.new) }
+    ensures cause { HasCauseOf (F.files files.old) (λ fs. load_each fs (texts names.now))
+        (F.faults files.old) (F.faults files.new) result }
+    ensures entered { IsInTurn (texts names.now) (F.files files.old)
+        (F.entered files.old) (F.entered files.new) }
+    ensures outside { IsErrOf result LoadFault.Outside
+        → IfSome (F.entered files.new) (EntersInTurn (texts names.now) (F.files files.old)) }
+    ensures entries { EntersEach (texts names.now) (F.files files.old)
+        (F.entries files.old) (F.entries files.new) }
+    ensures all { OnOk result
+        (F.entries files.new ≡ entries_after (texts names.now) (F.entries files.old)) }
+    ensures taken { TakesOfFiles (F.files files.old) (F.entered files.old) (F.left files.old)
+        (F.entered files.new) (F.left files.new) }
+    ensures in_time { IsInTime (F.end files.old) (F.end files.new) }
 {
     let mut each = FilesRead {
         files: Vec::new(alloc),
@@ -188,17 +208,6 @@ fn load_each<F: Files>(
     Ok(each)
 }
 
-// The lines that name the routers.
-fn name_lines(alloc: Global, configs: &[RouterConfig]) -> Result<Vec<u32>, AllocError>
-    ensures { IfOk result (λ lines. lines.items ≡ map (λ c. c.name_line) configs.now) }
-{
-    let mut lines = Vec::new(alloc);
-    'configs: for config in configs {
-        lines.push(config.name_line)?;
-    }
-    Ok(lines)
-}
-
 // What is wrong with a line of a router's file.
 fn bad(router: RouterId, line: u32, reason: Reason) -> LoadFault
     ensures { result ≡ LoadFault.Bad router.0 line reason }
@@ -210,15 +219,12 @@ fn bad(router: RouterId, line: u32, reason: Reason) -> LoadFault
     }
 }
 
-// What is told of configurations that don't go together, given the lines that name the routers.
-fn join_fault(name_lines: &[u32], fault: JoinFault) -> LoadFault
-    ensures { result ≡ joining_fault name_lines.now fault }
+// What is told of configurations that don't go together.
+fn join_fault(fault: JoinFault) -> LoadFault
+    ensures { result ≡ joining_fault fault }
 {
     match fault {
-        JoinFault::SameName { second, .. } => {
-            let line = name_lines.get(second.0 as usize).copied().unwrap_or(0);
-            bad(second, line, Reason::SameName)
-        }
+        JoinFault::SameName { second, line, .. } => bad(second, line, Reason::SameName),
         JoinFault::Overlap { router, second, .. } => bad(router, second, Reason::Overlap),
         JoinFault::SameAddress {
             second,
@@ -234,15 +240,14 @@ fn join_fault(name_lines: &[u32], fault: JoinFault) -> LoadFault
 // Joins configurations, and settles their network.
 fn join_all(alloc: Global, configs: Vec<RouterConfig>) -> Result<Stable, LoadFault>
     requires few { length configs.items ≤ ROUTER_LIMIT }
-    requires read { All (λ c. IsRead (config_view c)) configs.items }
-    ensures joined { (names : List (List ℕ)) → IsJoined names result (map config_view configs.items) }
-    ensures state { IfOk result (λ state. state ≡ static_state state.routers) }
+    requires read { All (λ c. IsConfigured (config_view c)) configs.items }
+    ensures joined { (names : List (List ℕ))
+        → IsJoined names result (map config_view configs.items) }
     ensures inside { IsErrOf result LoadFault.Outside → ⊥ }
 {
-    let name_lines = name_lines(alloc, &configs)?;
     match join(alloc, configs) {
         Ok(network) => Ok(settle_static(alloc, network)?),
-        Err(fault) => Err(join_fault(&name_lines, fault)),
+        Err(fault) => Err(join_fault(fault)),
     }
 }
 
@@ -252,12 +257,32 @@ pub(crate) fn load<F: Files>(
     names: &[String],
     files: &mut F,
 ) -> Result<Loaded, LoadFault>
-    ensures loaded { IfSome (F.files files.old) (λ fs. IsLoad (texts names.now) result (load_names (texts names.now) fs)) }
-    ensures state { IfOk result (λ loaded. loaded.state ≡ static_state loaded.state.routers) }
-    ensures cause { HasCauseOf (F.files files.old) (load_names (texts names.now)) (F.faults files.old) (F.faults files.new) result }
-    ensures entered { IsInTurn (texts names.now) (F.files files.old) (F.entered files.old) (F.entered files.new) }
-    ensures taken { IsTaken (F.files files.old) (F.entered files.old) (F.left files.old) (F.entered files.new) (F.left files.new) }
-    ensures many { ROUTER_LIMIT < length names.now → MatchResult result (λ _. ⊥) (λ fault. fault ≡ LoadFault.Over Quantity.Routers) × (F.entered files.new ≡ F.entered files.old) × (F.left files.new ≡ F.left files.old) }
+    ensures files { F.files files.new ≡ F.files files.old }
+    ensures loaded { IfSome (F.files files.old) (λ fs. IsLoad (texts names.now) result
+        (load_settled (load_names (texts names.now) fs))) }
+    ensures named { IfOk result (λ loaded. AreFilesNamed (F.files files.old)
+        (texts names.now) (map file_view loaded.files.items)) }
+    ensures fit { IfOk result (λ loaded.
+        AreFilesOf loaded.state.routers (map file_view loaded.files.items)) }
+    ensures few { MatchResult result (λ _. length names.now ≤ ROUTER_LIMIT)
+        (λ fault. (fault ≡ LoadFault.Over Quantity.Routers) ⊎ (length names.now ≤ ROUTER_LIMIT)) }
+    ensures cause { HasCauseOf (F.files files.old)
+        (λ fs. load_settled (load_names (texts names.now) fs))
+        (F.faults files.old) (F.faults files.new) result }
+    ensures entered { IsInTurn (texts names.now) (F.files files.old)
+        (F.entered files.old) (F.entered files.new) }
+    ensures outside { IsErrOf result LoadFault.Outside
+        → IfSome (F.entered files.new) (EntersInTurn (texts names.now) (F.files files.old)) }
+    ensures entries { EntersEach (texts names.now) (F.files files.old)
+        (F.entries files.old) (F.entries files.new) }
+    ensures all { OnOk result
+        (F.entries files.new ≡ entries_after (texts names.now) (F.entries files.old)) }
+    ensures taken { TakesOfFiles (F.files files.old) (F.entered files.old) (F.left files.old)
+        (F.entered files.new) (F.left files.new) }
+    ensures many { ROUTER_LIMIT < length names.now
+        → (F.entries files.new ≡ F.entries files.old)
+        × (F.entered files.new ≡ F.entered files.old) × (F.left files.new ≡ F.left files.old) }
+    ensures in_time { IsInTime (F.end files.old) (F.end files.new) }
 {
     if names.len() > ROUTER_LIMIT {
         return Err(LoadFault::Over(Quantity::Routers));

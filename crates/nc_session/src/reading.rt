@@ -1,11 +1,11 @@
-//! Reading files and sessions, each up to one byte past its limit.
+//! Reading files, each up to one byte past its limit, and why work stops.
 
-ghost use Rattle.std.specs.Prelude.{◌≡◌, ◌≤◌, ◌+◌, ◌-◌, length, IfOk};
-ghost use Rattle.nc_session.specs.Reading.{IsPiece, IsRead, TakesAtMost, HasStopCause};
+ghost use Rattle.std.specs.Prelude.{◌≡◌, ◌≢◌, ◌≤◌, ◌+◌, ◌-◌, false, length, IfOk};
+ghost use Rattle.nc_session.specs.Reading.{IsPiece, IsRead, TakesAtMost, StaysInTime, HasStopCause};
 ghost use Rattle.nc_session.specs.declared.reading.Stop.TheVariants.{Outside, Memory};
 
-use crate::{FILE_LIMIT, SESSION_LIMIT};
-use nc_outside::{Failed, Files, Source};
+use crate::FILE_LIMIT;
+use nc_outside::{Failed, Files};
 use std::alloc::{AllocError, AllocFailed, Global};
 
 // How many bytes a read asks for at most.
@@ -45,12 +45,18 @@ impl<T: Drop> From<AllocFailed<T>> for Stop {
 }
 
 // One read from the entered file.
-fn read_file_piece<F: Files>(files: &mut F, bytes: &mut Vec<u8>) -> Result<usize, Stop>
+fn read_piece<F: Files>(files: &mut F, bytes: &mut Vec<u8>) -> Result<usize, Stop>
     requires { length bytes.old.items ≤ FILE_LIMIT }
     ensures files { F.files files.new ≡ F.files files.old }
     ensures entered { F.entered files.new ≡ F.entered files.old }
-    ensures piece { IfOk result (IsPiece FILE_LIMIT (F.left files.old) (F.left files.new) bytes.old.items bytes.new.items) }
-    ensures takes { TakesAtMost (FILE_LIMIT + 1 - length bytes.old.items) (F.left files.old) (F.left files.new) }
+    ensures entries { F.entries files.new ≡ F.entries files.old }
+    ensures piece { IfOk result (IsPiece FILE_LIMIT (F.left files.old) (F.left files.new)
+        bytes.old.items bytes.new.items) }
+    ensures takes { TakesAtMost (FILE_LIMIT + 1 - length bytes.old.items)
+        (F.left files.old) (F.left files.new) }
+    ensures in_time { StaysInTime (F.end files.old) (F.end files.new) }
+    ensures goes_on { (F.end files.old).is_told ≡ false
+        → IfOk result (λ count. count ≢ 0 → (F.end files.new).is_told ≡ false) }
     ensures cause { HasStopCause (F.faults files.old) (F.faults files.new) result }
 {
     let mut buffer = [0u8; PIECE];
@@ -60,46 +66,20 @@ fn read_file_piece<F: Files>(files: &mut F, bytes: &mut Vec<u8>) -> Result<usize
     Ok(count)
 }
 
-/// The bytes of the entered file, or one byte more than the limit.
+/// The bytes of the entered file, or one byte more than the limit. No read comes behind its end.
 pub(crate) fn read_file<F: Files>(alloc: Global, files: &mut F) -> Result<Vec<u8>, Stop>
     ensures files { F.files files.new ≡ F.files files.old }
     ensures entered { F.entered files.new ≡ F.entered files.old }
-    ensures read { IfOk result (λ bytes. IsRead FILE_LIMIT (F.left files.old) (F.left files.new) bytes.items) }
+    ensures entries { F.entries files.new ≡ F.entries files.old }
+    ensures read { IfOk result (λ bytes.
+        IsRead FILE_LIMIT (F.left files.old) (F.left files.new) bytes.items) }
     ensures takes { TakesAtMost (FILE_LIMIT + 1) (F.left files.old) (F.left files.new) }
+    ensures in_time { StaysInTime (F.end files.old) (F.end files.new) }
     ensures cause { HasStopCause (F.faults files.old) (F.faults files.new) result }
 {
     let mut bytes = Vec::new(alloc);
     'reading: while bytes.len() <= FILE_LIMIT {
-        if read_file_piece(files, &mut bytes)? == 0 {
-            return Ok(bytes);
-        }
-    }
-    Ok(bytes)
-}
-
-// One read from the session.
-fn read_session_piece<S: Source>(input: &mut S, bytes: &mut Vec<u8>) -> Result<usize, Stop>
-    requires { length bytes.old.items ≤ SESSION_LIMIT }
-    ensures piece { IfOk result (IsPiece SESSION_LIMIT (S.rest input.old) (S.rest input.new) bytes.old.items bytes.new.items) }
-    ensures takes { TakesAtMost (SESSION_LIMIT + 1 - length bytes.old.items) (S.rest input.old) (S.rest input.new) }
-    ensures cause { HasStopCause (S.faults input.old) (S.faults input.new) result }
-{
-    let mut buffer = [0u8; PIECE];
-    let room = PIECE.min(SESSION_LIMIT + 1 - bytes.len());
-    let count = input.read(&mut buffer[..room])?;
-    bytes.extend_from_slice(&buffer[..count])?;
-    Ok(count)
-}
-
-/// The bytes of the session, or one byte more than the limit.
-pub(crate) fn read_session<S: Source>(alloc: Global, input: &mut S) -> Result<Vec<u8>, Stop>
-    ensures read { IfOk result (λ bytes. IsRead SESSION_LIMIT (S.rest input.old) (S.rest input.new) bytes.items) }
-    ensures takes { TakesAtMost (SESSION_LIMIT + 1) (S.rest input.old) (S.rest input.new) }
-    ensures cause { HasStopCause (S.faults input.old) (S.faults input.new) result }
-{
-    let mut bytes = Vec::new(alloc);
-    'reading: while bytes.len() <= SESSION_LIMIT {
-        if read_session_piece(input, &mut bytes)? == 0 {
+        if read_piece(files, &mut bytes)? == 0 {
             return Ok(bytes);
         }
     }

@@ -1,7 +1,8 @@
 //! Why a run ends before its session.
 
 ghost use Rattle.std.specs.Prelude.{◌≡◌};
-ghost use Rattle.nc_session.specs.Output.{quantity_text, reason_text, reason_of, quantity_of};
+ghost use Rattle.nc_session.specs.Load.{reason_of, quantity_of};
+ghost use Rattle.nc_session.specs.Refusals.{quantity_text, reason_text};
 ghost use Rattle.nc_session.specs.Loading.{load_stop};
 ghost use Rattle.nc_session.specs.declared.refusal.LoadFault.TheVariants as LoadFault;
 

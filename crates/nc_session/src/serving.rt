@@ -1,53 +1,104 @@
 //! Serving a session: every line is answered, and its reply written before the next is looked at.
 
-ghost use Rattle.std.specs.Prelude.{◌≡◌, Some, OnOk, IfOk};
-ghost use Rattle.nc_lines.specs.Lines.{lines_of};
-ghost use Rattle.nc_command.specs.Command.{command_of};
+ghost use Rattle.std.specs.Prelude.{◌≡◌, ℕ, ◌++◌, ◌∷◌, [], List, Option, IfOk, OnErr};
+ghost use Rattle.std.specs.Io.KnownBytes.{Appends};
+ghost use Rattle.nc_lines.specs.Lines.{without_return};
+ghost use Rattle.nc_lines.specs.WholeLines.{whole_lines_of};
+ghost use Rattle.nc_command.specs.Cutting.{cut_of, held_of};
+ghost use Rattle.nc_session.specs.declared.engine.Flow.TheVariants as flow;
 ghost use Rattle.nc_session.specs.Reading.{HasStopCause};
-ghost use Rattle.nc_session.specs.Engine.{Progress, flow_behind};
-ghost use Rattle.nc_session.specs.Serving.{Replied, TurnsTo};
+ghost use Rattle.nc_session.specs.Engine.{Progress};
+ghost use Rattle.nc_session.specs.Serving.{AppendsFront, AreServed, ServesLines};
 
 use crate::engine::{Engine, Flow};
 use crate::reading::Stop;
 use crate::writing::write_all;
-use nc_lines::cut::cut_line;
+use nc_command::{Cut, Cutter};
 use nc_outside::Sink;
 use std::alloc::Global;
 
-// Answers one line.
+// Writes the reply to a line behind which the session goes on.
+fn write_reply<K: Sink>(output: &mut K, reply: &[u8]) -> Result<Flow, Stop>
+    ensures written { IfOk result (λ how. (how ≡ flow.Go)
+        × Appends (K.written output.old) (K.written output.new) reply.now) }
+    ensures begun { OnErr result
+        (AppendsFront (K.written output.old) (K.written output.new) reply.now) }
+    ensures cause { HasStopCause (K.faults output.old) (K.faults output.new) result }
+{
+    write_all(output, reply)?;
+    Ok(Flow::Go)
+}
+
+// Answers one line. A line that ends the session has no reply.
 fn answer_line<K: Sink>(
     alloc: Global,
     engine: &mut Engine,
     line: &[u8],
     output: &mut K,
 ) -> Result<Flow, Stop>
-    ensures turns { OnOk result (TurnsTo engine.old engine.new line.now (K.written output.old) (K.written output.new)) }
-    ensures flow { IfOk result (λ flow. flow ≡ flow_behind (command_of line.now)) }
+    ensures serves { (from : Progress) (lines : List (List ℕ)) (start : Option (List ℕ))
+        → AreServed from lines engine.old start (K.written output.old)
+        → ServesLines from (lines ++ line.now ∷ []) engine.new start (K.written output.new) result }
     ensures cause { HasStopCause (K.faults output.old) (K.faults output.new) result }
 {
     let mut reply = Vec::new(alloc);
-    let flow = engine.answer(alloc, line, &mut reply)?;
-    write_all(output, &reply)?;
-    Ok(flow)
+    match engine.answer(alloc, line, &mut reply) {
+        Ok(Flow::Go) => write_reply(output, &reply),
+        Ok(Flow::Stop) => Ok(Flow::Stop),
+        Err(_) => Err(Stop::Memory),
+    }
 }
 
-/// Answers the lines of a text, in order, up to one that ends the session, and says whether there is one.
-pub(crate) fn answer_lines<K: Sink>(
+// Answers a line as it was cut. The engine needs no byte of one that is too long.
+pub(crate) fn answer_cut<K: Sink>(
     alloc: Global,
     engine: &mut Engine,
-    text: &[u8],
+    cut: Cut,
     output: &mut K,
 ) -> Result<Flow, Stop>
-    ensures replied { IfOk result (λ flow. (from : Progress) → engine.old ≡ Some from
-        → Replied from (lines_of text.now) flow (K.written output.old) (K.written output.new)) }
+    ensures serves { (from : Progress) (lines : List (List ℕ)) (start : Option (List ℕ))
+        (raw : List ℕ) → cut ≡ cut_of raw
+        → AreServed from lines engine.old start (K.written output.old)
+        → ServesLines from (lines ++ without_return raw ∷ []) engine.new start
+        (K.written output.new) result }
     ensures cause { HasStopCause (K.faults output.old) (K.faults output.new) result }
 {
-    let mut rest = text;
-    'lines: while let Some((line, behind)) = cut_line(rest) {
-        match answer_line(alloc, engine, line, output)? {
-            Flow::Go => rest = behind,
-            Flow::Stop => return Ok(Flow::Stop),
+    match cut {
+        Cut::Line(line) => answer_line(alloc, engine, line.bytes(), output),
+        Cut::Long => write_reply(output, b"refused long\n"),
+    }
+}
+
+/// Answers the lines that a piece of a session ends, each before the next is looked at, up to one that ends the
+/// session, and says whether there is one. What the piece leaves open is held for the next.
+pub(crate) fn take_piece<K: Sink>(
+    alloc: Global,
+    engine: &mut Engine,
+    cutter: &mut Cutter,
+    piece: &[u8],
+    output: &mut K,
+) -> Result<Flow, Stop>
+    ensures serves { (from : Progress) (taken : List ℕ) (start : Option (List ℕ))
+        → cutter.old ≡ held_of taken
+        → AreServed from (whole_lines_of taken) engine.old start (K.written output.old)
+        → ServesLines from (whole_lines_of (taken ++ piece.now)) engine.new start
+        (K.written output.new) result }
+    ensures held { IfOk result (λ how. how ≡ flow.Go → (taken : List ℕ)
+        → cutter.old ≡ held_of taken → cutter.new ≡ held_of (taken ++ piece.now)) }
+    ensures cause { HasStopCause (K.faults output.old) (K.faults output.new) result }
+{
+    let mut rest = piece;
+    'lines: loop {
+        let Ok(next) = cutter.push_line(rest) else {
+            return Err(Stop::Memory);
+        };
+        let Some((cut, behind)) = next else {
+            return Ok(Flow::Go);
+        };
+        match answer_cut(alloc, engine, cut, output) {
+            Ok(Flow::Go) => rest = behind,
+            Ok(Flow::Stop) => return Ok(Flow::Stop),
+            Err(stop) => return Err(stop),
         }
     }
-    Ok(Flow::Go)
 }

@@ -1,5 +1,5 @@
 ghost use Rattle.std.specs.Prelude.{◌≡◌};
-ghost use Rattle.nc_session.specs.Output.{number_of};
+ghost use Rattle.nc_session.specs.Refusals.{number_of};
 
 /// How a run ended, with the number that the program ends with.
 #[derive(Clone, Copy, Debug, PartialEq, Eq)]

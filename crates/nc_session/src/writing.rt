@@ -1,15 +1,17 @@
 //! Writing replies to the sink, however few bytes it takes at once.
 
-ghost use Rattle.std.specs.Prelude.{OnOk, IsErrOf};
+ghost use Rattle.std.specs.Prelude.{OnOk, OnErr, IsErrOf};
 ghost use Rattle.std.specs.Io.KnownBytes.{Appends};
 ghost use Rattle.nc_session.specs.Reading.{HasStopCause};
+ghost use Rattle.nc_session.specs.Serving.{AppendsFront};
 
 use crate::reading::Stop;
 use nc_outside::Sink;
 
-/// Writes all bytes.
+/// Writes all bytes. A write that failed is not tried again: a front of the bytes stands written then.
 pub(crate) fn write_all<K: Sink>(output: &mut K, bytes: &[u8]) -> Result<(), Stop>
     ensures written { OnOk result (Appends (K.written output.old) (K.written output.new) bytes.now) }
+    ensures begun { OnErr result (AppendsFront (K.written output.old) (K.written output.new) bytes.now) }
     ensures cause { HasStopCause (K.faults output.old) (K.faults output.new) result }
     ensures no_memory { IsErrOf result Stop.Memory → ⊥ }
 {

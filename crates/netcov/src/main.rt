@@ -8,8 +8,7 @@
 ghost use Rattle.std.specs.Prelude.{◌≡◌, ◌≢◌, MatchOption};
 ghost use Rattle.std.specs.IoError.{error_kind};
 ghost use Rattle.nc_session.specs.declared.status.Status.TheVariants as Status;
-ghost use Rattle.nc_session.specs.Loading.{texts};
-ghost use Rattle.nc_session.specs.Output.{files_of};
+ghost use Rattle.nc_session.specs.Words.{texts, request_of};
 ghost use Rattle.netcov.specs.Ending.{number_untaken, IsWithoutFile};
 
 use nc_outside::{FolderFiles, StdinSource, StdoutSink};
@@ -42,7 +41,8 @@ fn untaken(error: &Error) -> u8
 
 // Runs over the system.
 fn run_here(rt: &HostRuntime, words: &[String]) -> Status
-    ensures usage { MatchOption (files_of (texts words.now)) (IsWithoutFile result) (λ _. result ≢ Status.Usage) }
+    ensures usage { MatchOption (request_of (texts words.now))
+        (IsWithoutFile result) (λ _. result ≢ Status.Usage) }
     ensures stable { result ≢ Status.Unstable }
 {
     let Ok(system) = rt.clone() else {

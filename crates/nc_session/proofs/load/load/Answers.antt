@@ -1,10 +1,13 @@
-use Rattle.std.proofs.Common.{◌≤◌, ◌<◌, length, map, arith}
+use Rattle.std.proofs.Common.{◌≤◌, ◌<◌, List, length, map, sym, subst, arith}
 use Rattle.std.proofs.lemmas.List.{length-map}
 use Rattle.std.specs.String.{string_bytes}
-use Rattle.nc_types.specs.Config.{config_view}
-use Rattle.nc_session.specs.declared.TheConstants.{ROUTER_LIMIT}
-use Rattle.nc_session.specs.Loading.{texts}
+use Rattle.nc_types.specs.Config.{ConfigView, config_view}
+use Rattle.nc_session.specs.File.{file_view}
+use Rattle.nc_types.specs.declared.TheConstants.{ROUTER_LIMIT}
+use Rattle.nc_session.specs.Words.{texts}
 use Rattle.nc_session.proofs.AllFiles.{too_many, fault_each, cause_each, fault_together, fine_together}
+use Rattle.nc_session.specs.Loading.{AreBeside}
+use Rattle.nc_session.proofs.Joined.{files_fit}
 use Rattle.nc_session.proofs.load.load.Goals as goal
 
 pub returns-then-names-gt-ROUTER_LIMIT-clause-loaded : goal.returns-then-names-gt-ROUTER_LIMIT-clause-loaded
@@ -27,10 +30,16 @@ returns-in-Ok-join_all-clause-loaded g c =
     let names = texts c.args.names.now in
     let few : length names ≤ ROUTER_LIMIT = omega (arith, length-map c.args.names.now string_bytes, c.if-names-gt-ROUTER_LIMIT.false) in
     let joined = c.in-Ok-join_all.ensures.joined names in
-    fine_together names few (g.F.Files.files c.args.files.now) (map config_view c.in-Ok.each.configs.items) c.in-Ok.ensures.loaded c.in-Ok-join_all.state.routers joined.0 joined.1
+    fine_together names few (g.F.Files.files c.args.files.now) (map config_view c.in-Ok.each.configs.items) c.in-Ok.ensures.loaded c.in-Ok-join_all.state joined.0
 
 pub returns-in-Err-join_all-clause-loaded : goal.returns-in-Err-join_all-clause-loaded
 returns-in-Err-join_all-clause-loaded g c =
     let names = texts c.args.names.now in
     let few : length names ≤ ROUTER_LIMIT = omega (arith, length-map c.args.names.now string_bytes, c.if-names-gt-ROUTER_LIMIT.false) in
     fault_together names few (g.F.Files.files c.args.files.now) (map config_view c.in-Ok.each.configs.items) c.in-Ok.ensures.loaded c.in-Err-join_all.fault (c.in-Err-join_all.ensures.joined names)
+
+pub returns-in-Ok-join_all-clause-fit : goal.returns-in-Ok-join_all-clause-fit
+returns-in-Ok-join_all-clause-fit g c =
+    let files = map file_view c.in-Ok.each.files.items in
+    let same = (c.in-Ok-join_all.ensures.joined (texts c.args.names.now)).1 in
+    files_fit files c.in-Ok-join_all.state.routers (subst (λ (routers : List ConfigView). AreBeside files routers) (sym same) c.in-Ok.ensures.beside)

@@ -1,4 +1,4 @@
-use Rattle.std.proofs.Common.{arith}
+use Rattle.std.proofs.Common.{sym, arith}
 use Rattle.nc_types.specs.Config.{config_view}
 use Rattle.nc_session.proofs.Joined.{configured}
 use Rattle.nc_session.proofs.load.read_lines.Goals as goal
@@ -7,3 +7,6 @@ pub returns-in-Ok-clause-read : goal.returns-in-Ok-clause-read
 returns-in-Ok-clause-read c =
     let facts = configured c.in_ok-lines.lines (config_view c.in-Ok.config) c.in-Ok.ensures.read in
     record { formed = c.in-Ok.ensures.well_formed; process = facts.0; lines = omega (arith, facts.1, c.count.ensures, c.if-count-gt-LINE_LIMIT.false) }
+
+pub returns-in-Ok-clause-beside : goal.returns-in-Ok-clause-beside
+returns-in-Ok-clause-beside c = sym (configured c.in_ok-lines.lines (config_view c.in-Ok.config) c.in-Ok.ensures.read).1

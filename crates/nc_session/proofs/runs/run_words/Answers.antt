@@ -1,71 +1,67 @@
-use Rattle.std.proofs.Common.{refl, subst, arith}
+use Rattle.std.proofs.Common.{◌≡◌, refl, ap, sym, ◌∙◌, subst, List, ℕ, IfSome, length, arith}
 use Rattle.std.proofs.lemmas.List.{length-map}
 use Rattle.std.specs.String.{string_bytes}
-use Rattle.nc_tables.specs.State.{StateView}
-use Rattle.nc_session.specs.Loading.{texts}
-use Rattle.nc_session.specs.Ending.{Seen, ServesTo}
-use Rattle.nc_session.proofs.Ends.{usage_ends, refused_ends, served_ends}
-use Rattle.nc_session.proofs.Entering.{few_of}
+use Rattle.nc_outside.specs.Counts.{entries_after}
+use Rattle.nc_session.specs.Words.{RequestView, texts}
+use Rattle.nc_session.specs.Causes.{files_of, EntersInTurn, IsInTurn, EntersEach}
+use Rattle.nc_session.specs.Ending.{Seen}
+use Rattle.nc_session.proofs.Ends.{usage_ends, usage_other}
+use Rattle.nc_session.proofs.Entering.{enters_none}
+use Rattle.nc_session.proofs.Completing.{files_are}
 use Rattle.nc_session.proofs.runs.run_words.Goals as goal
 
 pub returns-in_default-clause-ends : goal.returns-in_default-clause-ends
 returns-in_default-clause-ends g c =
     let before : Seen = record {
       files = g.F.Files.files c.args.files.now;
-      rest = g.S.Source.rest c.args.input.now;
-      written = g.K.Sink.written c.args.output.now;
-      file_faults = g.F.Files.faults c.args.files.now;
-      input_faults = g.S.Source.faults c.args.input.now;
-      output_faults = g.K.Sink.faults c.args.output.now;
+      faults = g.F.Files.faults c.args.files.now;
+      told = record { rest = g.S.Source.rest c.args.input.now; written = g.K.Sink.written c.args.output.now };
+      failures = record { source = g.S.Source.faults c.args.input.now; sink = g.K.Sink.faults c.args.output.now };
     } in
     let now : Seen = record {
       files = g.F.Files.files c.args.files.now;
-      rest = g.S.Source.rest c.args.input.now;
-      written = g.K.Sink.written c.say.new.output;
-      file_faults = g.F.Files.faults c.args.files.now;
-      input_faults = g.S.Source.faults c.args.input.now;
-      output_faults = g.K.Sink.faults c.say.new.output;
+      faults = g.F.Files.faults c.args.files.now;
+      told = record { rest = g.S.Source.rest c.args.input.now; written = g.K.Sink.written c.say.new.output };
+      failures = record { source = g.S.Source.faults c.args.input.now; sink = g.K.Sink.faults c.say.new.output };
     } in
     usage_ends (texts c.args.words.now) before now c.say.result c.in_default.ensures refl refl c.say.ensures
 
-pub returns-in-Ok-clause-ends : goal.returns-in-Ok-clause-ends
-returns-in-Ok-clause-ends g c =
-    let before : Seen = record {
-      files = g.F.Files.files c.args.files.now;
-      rest = g.S.Source.rest c.args.input.now;
-      written = g.K.Sink.written c.args.output.now;
-      file_faults = g.F.Files.faults c.args.files.now;
-      input_faults = g.S.Source.faults c.args.input.now;
-      output_faults = g.K.Sink.faults c.args.output.now;
-    } in
-    let now : Seen = record {
-      files = g.F.Files.files c.load.new.files;
-      rest = g.S.Source.rest c.serve.new.input;
-      written = g.K.Sink.written c.serve.new.output;
-      file_faults = g.F.Files.faults c.load.new.files;
-      input_faults = g.S.Source.faults c.serve.new.input;
-      output_faults = g.K.Sink.faults c.serve.new.output;
-    } in
-    let serves = subst (λ (s : StateView). ServesTo s before.rest now.rest before.written now.written before.input_faults now.input_faults before.output_faults now.output_faults c.serve.result) c.in-Ok.ensures.state c.serve.ensures.serves in
-    served_ends (texts c.args.words.now) before now c.serve.result (texts c.in-Some.names.now) c.in-Some.ensures c.in-Ok.loaded.state.routers c.in-Ok.ensures.cause c.in-Ok.ensures.loaded c.serve.result serves
+pub returns-in_default-clause-entries : goal.returns-in_default-clause-entries
+returns-in_default-clause-entries g c = enters_none (files_of (texts c.args.words.now)) (g.F.Files.files c.args.files.now) (g.F.Files.entries c.args.files.now)
 
-pub returns-in-Err-clause-ends : goal.returns-in-Err-clause-ends
-returns-in-Err-clause-ends g c =
-    let before : Seen = record {
-      files = g.F.Files.files c.args.files.now;
-      rest = g.S.Source.rest c.args.input.now;
-      written = g.K.Sink.written c.args.output.now;
-      file_faults = g.F.Files.faults c.args.files.now;
-      input_faults = g.S.Source.faults c.args.input.now;
-      output_faults = g.K.Sink.faults c.args.output.now;
-    } in
-    let now : Seen = record {
-      files = g.F.Files.files c.load.new.files;
-      rest = g.S.Source.rest c.args.input.now;
-      written = g.K.Sink.written c.refuse.new.output;
-      file_faults = g.F.Files.faults c.load.new.files;
-      input_faults = g.S.Source.faults c.args.input.now;
-      output_faults = g.K.Sink.faults c.refuse.new.output;
-    } in
-    refused_ends (texts c.args.words.now) before now c.refuse.result (texts c.in-Some.names.now) c.in-Some.ensures refl c.in-Err.fault c.in-Err.ensures.loaded c.in-Err.ensures.cause
-    (few_of (texts c.in-Some.names.now) c.in-Err.fault (λ long. (c.in-Err.ensures.many (omega (arith, length-map c.in-Some.names.now string_bytes, long))).0)) c.refuse.ensures
+pub returns-in_default-clause-entries_all : goal.returns-in_default-clause-entries_all
+returns-in_default-clause-entries_all g c late = absurd ((usage_other _ _ _ c.say.result c.say.ensures).0 late)
+
+pub returns-in_default-clause-entered_last : goal.returns-in_default-clause-entered_last
+returns-in_default-clause-entered_last g c is = absurd ((usage_other _ _ _ c.say.result c.say.ensures).1 is)
+
+pub returns-clause-ends : goal.returns-clause-ends
+returns-clause-ends g c = c.run_files.ensures.ends (texts c.args.words.now) c.in-Some.ensures
+
+pub returns-clause-entered : goal.returns-clause-entered
+returns-clause-entered g c =
+    let request : RequestView = record { files = texts c.in-Some.request.files.now } in
+    subst (λ (names : List (List ℕ)). IsInTurn names (g.F.Files.files c.args.files.now) (g.F.Files.entered c.args.files.now) (g.F.Files.entered c.run_files.new.files))
+    (sym (files_are (texts c.args.words.now) request c.in-Some.ensures)) c.run_files.ensures.entered
+
+pub returns-clause-entries : goal.returns-clause-entries
+returns-clause-entries g c =
+    let request : RequestView = record { files = texts c.in-Some.request.files.now } in
+    subst (λ (names : List (List ℕ)). EntersEach names (g.F.Files.files c.args.files.now) (g.F.Files.entries c.args.files.now) (g.F.Files.entries c.run_files.new.files))
+    (sym (files_are (texts c.args.words.now) request c.in-Some.ensures)) c.run_files.ensures.entries
+
+pub returns-clause-entries_all : goal.returns-clause-entries_all
+returns-clause-entries_all g c late =
+    let request : RequestView = record { files = texts c.in-Some.request.files.now } in
+    c.run_files.ensures.entries_all late ∙ ap (λ (names : List (List ℕ)). entries_after names (g.F.Files.entries c.args.files.now)) (sym (files_are (texts c.args.words.now) request c.in-Some.ensures))
+
+pub returns-clause-entered_last : goal.returns-clause-entered_last
+returns-clause-entered_last g c is =
+    let request : RequestView = record { files = texts c.in-Some.request.files.now } in
+    subst (λ (names : List (List ℕ)). IfSome (g.F.Files.entered c.run_files.new.files) (EntersInTurn names (g.F.Files.files c.args.files.now)))
+    (sym (files_are (texts c.args.words.now) request c.in-Some.ensures)) (c.run_files.ensures.entered_last is)
+
+pub returns-clause-entered_none : goal.returns-clause-entered_none
+returns-clause-entered_none g c many =
+    let request : RequestView = record { files = texts c.in-Some.request.files.now } in
+    c.run_files.ensures.entered_none (omega (arith, many, ap length (files_are (texts c.args.words.now) request c.in-Some.ensures), length-map c.in-Some.request.files.now string_bytes))

@@ -1,19 +1,21 @@
-use Rattle.std.proofs.Common.{◌≡◌, ◌∙◌, ◌++◌, List, ℕ, ap, subst}
-use Rattle.std.specs.Io.KnownBytes.{Appends}
+use Rattle.std.proofs.Common.{◌≡◌, ◌++◌, ◌∷◌, [], ◌∙◌, List, ℕ, sym, ap}
+use Rattle.nc_session.proofs.ServedLines.{goes_by, stops_by, served_broken, served_quit, line_replied}
 use Rattle.nc_session.proofs.serving.answer_line.Goals as goal
 
-pub returns-clause-turns : goal.returns-clause-turns
-returns-clause-turns g c =
-    let t = c.in_ok-flow.ensures.turns in
-    let a = t.answered in
-    let is : c.deref.result.now ≡ a.reply = c.deref.ensures.value ∙ a.text ∙ ap (λ (l : List ℕ). l ++ a.reply) c.new-reply.ensures.items in
-    record {
-      from = t.from;
-      from_is = t.from_is;
-      to = t.to;
-      to_is = t.to_is;
-      state = a.state;
-      reply = a.reply;
-      step = a.step;
-      written = subst (Appends (g.K.Sink.written c.args.output.now) (g.K.Sink.written c.write_all.new.output)) is c.in_ok-write_all.ensures.written;
-    }
+pub returns-in-Ok-Go-clause-serves : goal.returns-in-Ok-Go-clause-serves
+returns-in-Ok-Go-clause-serves g c from lines start a =
+    let line = c.args.line.now in
+    let t = c.in-Ok-Go.ensures.turns in
+    let is : c.deref.result.now ≡ t.answered.reply = c.deref.ensures.value ∙ t.answered.text ∙ ap (λ (l : List ℕ). l ++ t.answered.reply) c.new-reply.ensures.items in
+    line_replied from lines c.args.engine.now start (g.K.Sink.written c.args.output.now) a line c.answer.new.self c.new-reply.result.items c.answer.new.out.items t
+    (g.K.Sink.written c.write_reply.new.output) (goes_by line (sym c.in-Ok-Go.field-0-is ∙ c.in-Ok-Go.ensures.flow)) c.deref.result.now c.write_reply.result is
+    c.write_reply.ensures.written c.write_reply.ensures.begun
+
+pub returns-in-Ok-Stop-clause-serves : goal.returns-in-Ok-Stop-clause-serves
+returns-in-Ok-Stop-clause-serves g c from lines start a =
+    served_quit from lines c.args.engine.now start (g.K.Sink.written c.args.output.now) a c.args.line.now
+    (stops_by c.args.line.now (sym c.in-Ok-Stop.field-0-is ∙ c.in-Ok-Stop.ensures.flow))
+
+pub returns-clause-serves : goal.returns-clause-serves
+returns-clause-serves g c from lines start a =
+    served_broken from lines c.args.engine.now start (g.K.Sink.written c.args.output.now) a (c.args.line.now ∷ [])

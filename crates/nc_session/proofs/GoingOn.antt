@@ -1,0 +1,261 @@
+-- A session can always go on: while the facts of all tests hold, there is a reply to every line.
+use Rattle.std.proofs.Common.{◌≡◌, ◌↔◌, ◌⊎◌, ℕ, zero, suc, ◌+◌, ◌<◌, ◌≤◌, Bool, true, false, cond, nat_lt, List, [], ◌∷◌, ◌++◌, length, map, filter, All, Any, Option, Some, None, refl, sym, ap, ◌∙◌, subst, inl, inr, append-nil, arith}
+use Rattle.std.specs.Prelude.{slice_get, slice_index_or, codes, if◌then◌else◌}
+use Rattle.std.specs.List.{list_any, flat_map}
+use Rattle.std.proofs.Math.Seq.{take-append_seam, drop-append_seam}
+use Rattle.std.proofs.lemmas.Bool.{cases_lt, both_ways}
+use Rattle.std.proofs.lemmas.Grind.{flat_map-append}
+use Rattle.std.proofs.lemmas.List.Elements.{All-nil, All-cons, All-append, All-get_or, All-take, All-drop}
+use Rattle.std.proofs.lemmas.List.Folds.{Any-from_list_any, list_any-from_Any}
+use Rattle.nc_types.specs.Config.{ConfigView}
+use Rattle.nc_types.specs.Network.{owner_at, router_named}
+use Rattle.nc_types.specs.declared.command.TestCommand.{TestCommand}
+use Rattle.nc_graph.specs.Closure.{IsClosure, ReachesMoreThan}
+use Rattle.nc_graph.specs.Flow.{Flow, IsFlow}
+use Rattle.nc_graph.specs.Derivation.{IsStrong, IsInSome, strong, occurs}
+use Rattle.nc_marks.specs.Marks.{IsMark}
+use Rattle.nc_marks.specs.declared.mark.Mark.{Mark}
+use Rattle.nc_marks.specs.declared.mark.Mark.TheVariants.{Strong, Weak, Uncovered, Outside}
+use Rattle.nc_tables.specs.State.{StateView, IsState}
+use Rattle.nc_fact.specs.declared.fact.Fact.{Fact}
+use Rattle.nc_fact.specs.Facts.{holds}
+use Rattle.nc_fact.specs.Tested.{tested_facts, named_facts}
+use Rattle.nc_rules.specs.Rules.{flow_of}
+use Rattle.nc_command.specs.declared.command.Command.TheVariants.{Test, Quit}
+use Rattle.nc_command.specs.Command.{Line, Passed, TooLong, Unread, Asks, command_of, text_of}
+use Rattle.nc_session.specs.declared.TheConstants.{TEST_LIMIT, FACT_LIMIT}
+use Rattle.nc_session.specs.Texts.{Sheet, letter, line_of, accepted_of, report_of}
+use Rattle.nc_session.specs.Marks.{AreLineMarks, IsSheet, IsReport}
+use Rattle.nc_session.specs.Session.{KeptTest, live_test, State, no_tests, asked_in, live_in, router_of, IsReply, Counts, Tests, Named as IsNamed, Answers, Step, Run}
+use Rattle.nc_session.specs.Leaving.{GoesOn}
+
+-- ---- lists that are made
+
+-- f of the numbers below n, in order
+made : {A : Type 0} → (ℕ → A) → ℕ → List A
+made f zero = []
+made f (suc n) = f 0 ∷ made (λ k. f (suc k)) n
+
+length-made : {A : Type 0} (f : ℕ → A) (n : ℕ) → length (made f n) ≡ n
+unfolding made
+length-made f zero = refl
+length-made f (suc n) = ap suc (length-made (λ k. f (suc k)) n)
+
+made-at : {A : Type 0} (f : ℕ → A) (n k : ℕ) (d : A) → k < n → slice_index_or (made f n) k d ≡ f k
+unfolding made
+made-at f zero k d below = absurd (omega arith)
+made-at f (suc n) zero d below = refl
+made-at f (suc n) (suc k) d below = made-at (λ i. f (suc i)) n k d (omega arith)
+
+-- f of the items with their places, in order
+placed : {C S : Type 0} → (ℕ → C → S) → List C → List S
+placed f [] = []
+placed f (c ∷ cs) = f 0 c ∷ placed (λ k. f (suc k)) cs
+
+length-placed : {C S : Type 0} (f : ℕ → C → S) (cs : List C) → length (placed f cs) ≡ length cs
+unfolding placed
+length-placed f [] = refl
+length-placed f (c ∷ cs) = ap suc (length-placed (λ k. f (suc k)) cs)
+
+placed-at : {C S : Type 0} (f : ℕ → C → S) (cs : List C) (k : ℕ) (c : C) (s : S) → slice_get cs k ≡ Some c → slice_get (placed f cs) k ≡ Some s → s ≡ f k c
+unfolding placed
+placed-at f [] k c s at is = absurd cc
+placed-at f (d ∷ cs) zero c s at is = cc
+placed-at f (d ∷ cs) (suc k) c s at is = placed-at (λ i. f (suc i)) cs k c s at is
+
+-- what some item is of those of which H holds
+any_weaker : {A : Type 0} (H P Q : A → Type 0) (xs : List A) → All H xs → ((x : A) → H x → P x → Q x) → Any P xs → Any Q xs
+any_weaker H P Q xs hold weaker a = (a.0, a.1, a.2, a.3, weaker a.1 (subst H a.3 (All-get_or H xs a.0 a.1 a.2 hold)) a.4)
+
+passed : {A : Type 0} (p : A → Bool) (xs : List A) → All (λ x. p x ≡ true) (filter p xs)
+passed p [] = All-nil (λ x. p x ≡ true)
+passed p (x ∷ xs) = on (p x) refl (passed p xs)
+  where
+    on : (b : Bool) → p x ≡ b → All (λ y. p y ≡ true) (filter p xs) → All (λ y. p y ≡ true) (cond b (x ∷ filter p xs) (filter p xs))
+    on true is rest = All-cons (λ y. p y ≡ true) x (filter p xs) is rest
+    on false is rest = rest
+
+-- ---- marks
+
+abbrev Hold : Flow Fact → List Fact → Type 0
+Hold g facts = All (λ f. g.holds f ≡ true) facts
+
+module _ (g : Flow Fact) (strongs : (e : ℕ) (f : Fact) → g.holds f ≡ true → IsStrong g e f ↔ (strong g e f ≡ true))
+    (somes : (e : ℕ) (f : Fact) → g.holds f ≡ true → IsInSome g e f ↔ (occurs g e f ≡ true)) where
+  module _ (tested : List Fact) (hold : Hold g tested) (e : ℕ) where
+    strong_yes : list_any (strong g e) tested ≡ true → Any (IsStrong g e) tested
+    strong_yes is = any_weaker (λ f. g.holds f ≡ true) (λ f. strong g e f ≡ true) (IsStrong g e) tested hold (λ f h. (strongs e f h).1) (Any-from_list_any (strong g e) tested is)
+
+    strong_no : list_any (strong g e) tested ≡ false → ¬ Any (IsStrong g e) tested
+    strong_no is some =
+        let found : list_any (strong g e) tested ≡ true =
+        list_any-from_Any (strong g e) tested (any_weaker (λ f. g.holds f ≡ true) (IsStrong g e) (λ f. strong g e f ≡ true) tested hold (λ f h. (strongs e f h).0) some) in
+        both_ways (list_any (strong g e) tested) is found
+
+    some_yes : list_any (occurs g e) tested ≡ true → Any (IsInSome g e) tested
+    some_yes is = any_weaker (λ f. g.holds f ≡ true) (λ f. occurs g e f ≡ true) (IsInSome g e) tested hold (λ f h. (somes e f h).1) (Any-from_list_any (occurs g e) tested is)
+
+    some_no : list_any (occurs g e) tested ≡ false → ¬ Any (IsInSome g e) tested
+    some_no is some =
+        let found : list_any (occurs g e) tested ≡ true =
+        list_any-from_Any (occurs g e) tested (any_weaker (λ f. g.holds f ≡ true) (IsInSome g e) (λ f. occurs g e f ≡ true) tested hold (λ f h. (somes e f h).0) some) in
+        both_ways (list_any (occurs g e) tested) is found
+
+    -- each element has a mark
+    element_mark : (m : Mark) × IsMark g tested (Some e) m
+    element_mark = on (list_any (strong g e) tested) (list_any (occurs g e) tested) refl refl
+      where
+        on : (b c : Bool) → list_any (strong g e) tested ≡ b → list_any (occurs g e) tested ≡ c → (m : Mark) × IsMark g tested (Some e) m
+        on true c is in-some = (Strong, strong_yes is)
+        on false true is in-some = (Weak, (strong_no is, some_yes in-some))
+        on false false is in-some = (Uncovered, (strong_no is, some_no in-some))
+
+  module _ (tested : List Fact) (hold : Hold g tested) (routers : List ConfigView) where
+    mark_of_line : (o : Option ℕ) → (m : Mark) × IsMark g tested o m
+    mark_of_line None = (Outside, tt)
+    mark_of_line (Some e) = element_mark tested hold e
+
+    -- the marks of a router's lines, its sheet, and the report
+    abbrev marks_at : ℕ → ℕ → List Mark
+    marks_at router lines = made (λ k. (mark_of_line (owner_at routers router (k + 1))).0) lines
+
+    are_marks : (router lines : ℕ) → AreLineMarks g tested routers router lines (marks_at router lines)
+    are_marks router lines = record {
+      count = length-made (λ k. (mark_of_line (owner_at routers router (k + 1))).0) lines;
+      each = λ k below. subst (IsMark g tested (owner_at routers router (k + 1)))
+          (sym (made-at (λ k. (mark_of_line (owner_at routers router (k + 1))).0) lines k Outside below)) (mark_of_line (owner_at routers router (k + 1))).1;
+    }
+
+    sheet_at : ℕ → ConfigView → Sheet
+    sheet_at router c = record { name = c.name; letters = map letter (marks_at router c.line_count) }
+
+    is_sheet : (router : ℕ) (c : ConfigView) → IsSheet g tested routers router c (sheet_at router c)
+    unfolding sheet_at
+    is_sheet router c = record { name = refl; marks = marks_at router c.line_count; are_marks = are_marks router c.line_count; letters = refl }
+
+    a_report : (report : List ℕ) × IsReport g tested routers report
+    a_report = (
+      report_of (placed sheet_at routers),
+      record {
+        sheets = placed sheet_at routers;
+        count = length-placed sheet_at routers;
+        each = λ router c s at made. subst (IsSheet g tested routers router c) (sym (placed-at sheet_at routers router c s at made)) (is_sheet router c);
+        text = refl;
+      },
+    )
+
+-- ---- tests
+
+all_front : (P : Fact → Type 0) (xs ys : List Fact) → All P (xs ++ ys) → All P xs
+all_front P xs ys all = subst (All P) (take-append_seam xs ys) (All-take P (length xs) (xs ++ ys) all)
+
+all_behind : (P : Fact → Type 0) (xs ys : List Fact) → All P (xs ++ ys) → All P ys
+all_behind P xs ys all = subst (All P) (drop-append_seam xs ys) (All-drop P (length xs) (xs ++ ys) all)
+
+-- the live tests are among all
+all_live : (P : Fact → Type 0) (tests : List KeptTest) → All P (asked_in tests) → All P (live_in tests)
+all_live P [] all = All-nil P
+all_live P (t ∷ tests) all = on t.live (all_front P t.facts (asked_in tests) all) (all_live P tests (all_behind P t.facts (asked_in tests) all))
+  where
+    on : (b : Bool) → All P t.facts → All P (live_in tests) → All P (cond b t.facts [] ++ live_in tests)
+    on true these rest = All-append P t.facts (live_in tests) these rest
+    on false these rest = rest
+
+module _ (s : StateView) where
+  -- the facts of all tests hold
+  abbrev Holds : State → Type 0
+  Holds st = Hold (flow_of s) (asked_in st.tests)
+
+  tested_hold : (test : TestCommand) → Hold (flow_of s) (tested_facts s test)
+  unfolding flow_of tested_facts
+  tested_hold test = passed (holds s) (named_facts s test)
+
+  one_more : (tests : List KeptTest) (facts : List Fact) → asked_in (tests ++ live_test facts ∷ []) ≡ asked_in tests ++ facts
+  one_more tests facts =
+      flat_map-append (λ t. t.facts) tests (live_test facts ∷ []) ∙ ap (λ (fs : List Fact). asked_in tests ++ fs) (append-nil facts)
+
+  more_hold : (st : State) (facts : List Fact) → Holds st → Hold (flow_of s) facts → Hold (flow_of s) (asked_in st.tests ++ facts)
+  more_hold st facts hold these = All-append (λ f. (flow_of s).holds f ≡ true) (asked_in st.tests) facts hold these
+
+  accepted_hold : (st : State) (facts : List Fact) → Holds st → Hold (flow_of s) facts → Holds (record { tests = st.tests ++ live_test facts ∷ [] })
+  accepted_hold st facts hold these = subst (Hold (flow_of s)) (sym (one_more st.tests facts)) (more_hold st facts hold these)
+
+  -- ---- a step keeps that they hold
+
+  counts_keep : (room : Bool) (old : State) (facts reply : _) (new : State) → Hold (flow_of s) facts → Holds old → Counts s room old facts reply new → Holds new
+  counts_keep true old facts reply new these hold (inl over) = subst Holds (sym over.1.1) hold
+  counts_keep true old facts reply new these hold (inr took) = subst Holds (sym took.1) (accepted_hold old facts hold these)
+  counts_keep false old facts reply new these hold full = subst Holds (sym full.1) hold
+
+  tests_keep : (old : State) (facts : List Fact) (text reply : List ℕ) (new : State) → Hold (flow_of s) facts → Holds old → Tests s old facts text reply new → Holds new
+  tests_keep old [] text reply new these hold absent = subst Holds (sym absent.1) hold
+  tests_keep old (fact ∷ facts) text reply new these hold counted = counts_keep (nat_lt (length old.tests) TEST_LIMIT) old (fact ∷ facts) reply new these hold counted
+
+  named_keep : (router : Option ℕ) (old : State) (test : TestCommand) (reply : List ℕ) (new : State) → Holds old → IsNamed s router old test reply new → Holds new
+  named_keep None old test reply new hold unknown = subst Holds (sym unknown.1) hold
+  named_keep (Some router) old test reply new hold tested = tests_keep old (tested_facts s test) (text_of test) reply new (tested_hold test) hold tested
+
+  answer_keeps : (old : State) (line : Line) (reply : List ℕ) (new : State) → Holds old → Answers s old line reply new → Holds new
+  answer_keeps old Passed reply new hold a = subst Holds (sym a.1) hold
+  answer_keeps old TooLong reply new hold a = subst Holds (sym a.1) hold
+  answer_keeps old Unread reply new hold a = subst Holds (sym a.1) hold
+  answer_keeps old (Asks Quit) reply new hold a = subst Holds (sym a.1) hold
+  answer_keeps old (Asks (Test test)) reply new hold a = named_keep (router_named s.routers (router_of test)) old test reply new hold a
+
+  run_keeps : (old : State) (lines : List (List ℕ)) (replies : List ℕ) (last : State) → Holds old → Run s old lines replies last → Holds last
+  run_keeps old [] replies last hold run = subst Holds (sym run.1) hold
+  run_keeps old (line ∷ lines) replies last hold run = run_keeps run.1 lines run.2 last (answer_keeps old (command_of line) run.0 run.1 hold run.3) run.4
+
+  -- ---- there is a reply
+
+  module _ (strongs : (e : ℕ) (f : Fact) → (flow_of s).holds f ≡ true → IsStrong (flow_of s) e f ↔ (strong (flow_of s) e f ≡ true))
+      (somes : (e : ℕ) (f : Fact) → (flow_of s).holds f ≡ true → IsInSome (flow_of s) e f ↔ (occurs (flow_of s) e f ≡ true))
+      (exists : (fs : List Fact) → Hold (flow_of s) fs → (xs : List Fact) × IsClosure (flow_of s) fs xs)
+      (decided : (n : ℕ) (fs xs : List Fact) → IsClosure (flow_of s) fs xs → ReachesMoreThan (flow_of s) n fs ↔ (n < length xs)) where
+    a_reply : (tests : List KeptTest) → Hold (flow_of s) (asked_in tests) → (reply : List ℕ) × IsReply s tests reply
+    a_reply tests hold =
+        let closed = exists (asked_in tests) hold in
+        let report = a_report (flow_of s) strongs somes (live_in tests) (all_live (λ f. (flow_of s).holds f ≡ true) tests hold) s.routers in (
+          accepted_of (length tests) (length closed.0) ++ report.0,
+          record { asked = closed.0; closure = closed.1; report = report.0; is_report = report.1; text = refl },
+        )
+
+    counts_some : (room : Bool) (old : State) (facts : List Fact) → Hold (flow_of s) facts → Holds old → (reply : List ℕ) × (new : State) × Counts s room old facts reply new
+    counts_some false old facts these hold = (line_of (codes "refused limit tests"), old, (refl, refl))
+    counts_some true old facts these hold =
+        let all : Hold (flow_of s) (asked_in old.tests ++ facts) = more_hold old facts hold these in
+        let closed = exists (asked_in old.tests ++ facts) all in
+        let next : State = record { tests = old.tests ++ live_test facts ∷ [] } in
+        let test = decided FACT_LIMIT (asked_in old.tests ++ facts) closed.0 closed.1 in
+        elim (cases_lt FACT_LIMIT (length closed.0)) [
+          | inl many ↦ (line_of (codes "refused limit facts"), old, inl (test.1 many, (refl, refl)))
+          | inr few ↦
+              let reply = a_reply next.tests (accepted_hold old facts hold these) in
+              (reply.0, next, inr ((λ more. let many : FACT_LIMIT < length closed.0 = test.0 more in absurd (omega arith)), refl, reply.1))
+        ]
+
+    tests_some : (old : State) (facts : List Fact) (text : List ℕ) → Hold (flow_of s) facts → Holds old → (reply : List ℕ) × (new : State) × Tests s old facts text reply new
+    tests_some old [] text these hold = (line_of (codes "refused absent " ++ text), old, (refl, refl))
+    tests_some old (fact ∷ facts) text these hold = counts_some (nat_lt (length old.tests) TEST_LIMIT) old (fact ∷ facts) these hold
+
+    named_some : (router : Option ℕ) (old : State) (test : TestCommand) → Holds old → (reply : List ℕ) × (new : State) × IsNamed s router old test reply new
+    named_some None old test hold = (line_of (codes "refused router " ++ router_of test), old, (refl, refl))
+    named_some (Some router) old test hold = tests_some old (tested_facts s test) (text_of test) (tested_hold test) hold
+
+    answer_some : (old : State) (line : Line) → Holds old → (reply : List ℕ) × (new : State) × Answers s old line reply new
+    answer_some old Passed hold = ([], old, (refl, refl))
+    answer_some old TooLong hold = (line_of (codes "refused long"), old, (refl, refl))
+    answer_some old Unread hold = (line_of (codes "refused syntax"), old, (refl, refl))
+    answer_some old (Asks Quit) hold = ([], old, (refl, refl))
+    answer_some old (Asks (Test test)) hold = named_some (router_named s.routers (router_of test)) old test hold
+
+    run_some : (old : State) (lines : List (List ℕ)) → Holds old → (replies : List ℕ) × (last : State) × Run s old lines replies last
+    run_some old [] hold = ([], old, (refl, refl))
+    run_some old (line ∷ lines) hold =
+        let step = answer_some old (command_of line) hold in
+        let more = run_some step.1 lines (answer_keeps old (command_of line) step.0 step.1 hold step.2) in
+        (step.0 ++ more.0, more.1, (step.0, step.1, more.0, step.2, more.2, refl))
+
+    pub session_goes_on : GoesOn s
+    session_goes_on lines more replies last run =
+        run_some last more (run_keeps no_tests lines replies last (All-nil (λ f. (flow_of s).holds f ≡ true)) run)

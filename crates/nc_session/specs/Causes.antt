@@ -1,0 +1,144 @@
+-- With which status a run ends and for what cause, and what it leaves of the files, the source and the sink.
+use Rattle.std.specs.Prelude.{◌≡◌, ◌⊎◌, ℕ, ◌<◌, ◌+◌, ◌≤◌, false, List, [], ◌∷◌, ◌++◌, length, Option, None, Some, IfSome, Result, Ok, Err, IsOkAnd, if◌then◌else◌}
+use Rattle.std.specs.Option.{option_map_or}
+use Rattle.nc_outside.specs.Named.{Named, content_of}
+use Rattle.nc_outside.specs.Counts.{Entries, entries_after}
+use Rattle.nc_lines.specs.WholeLines.{all_but_last, whole_lines_of}
+use Rattle.nc_types.specs.Config.{ConfigView}
+use Rattle.nc_tables.specs.State.{StateView}
+use Rattle.nc_session.specs.declared.TheConstants.{FILE_LIMIT, SESSION_LIMIT}
+use Rattle.nc_session.specs.declared.status.Status.{Status}
+use Rattle.nc_session.specs.declared.status.Status.TheVariants.{Done, Config, Usage, Unstable, InputFault, OutputFault, FileFault, Memory, Limit}
+use Rattle.nc_session.specs.Words.{request_of}
+use Rattle.nc_session.specs.Load.{Refusal, TooMany, Missing, load, load_each}
+use Rattle.nc_session.specs.Refusals.{refusal_status}
+use Rattle.nc_session.specs.Output.{Concludes, Writes, has_quit, is_within}
+use Rattle.nc_session.specs.Reading.{TakesAtMost}
+use Rattle.nc_session.specs.Leaving.{Takes, IsCutShort}
+
+-- ---- kinds of statuses
+
+-- a status that comes with its bytes
+abbrev pub IsAnswer : Status → Type 0
+IsAnswer Done = Unit {0}
+IsAnswer Config = Unit {0}
+IsAnswer Usage = Unit {0}
+IsAnswer Unstable = Unit {0}
+IsAnswer Limit = Unit {0}
+IsAnswer status = ⊥
+
+-- a status with which words that name no file may end: their own, or that the refusal wasn't written
+abbrev pub IsUsageOrUntold : Status → Type 0
+IsUsageOrUntold Usage = Unit {0}
+IsUsageOrUntold OutputFault = Unit {0}
+IsUsageOrUntold status = ⊥
+
+-- a status with which too many files may end: that a limit is passed, or that the refusal wasn't made or written
+abbrev pub IsLimitOrUntold : Status → Type 0
+IsLimitOrUntold Limit = Unit {0}
+IsLimitOrUntold OutputFault = Unit {0}
+IsLimitOrUntold Memory = Unit {0}
+IsLimitOrUntold status = ⊥
+
+-- a status which says what came of the files
+abbrev pub IsOfFiles : Status → Type 0
+IsOfFiles InputFault = Unit {0}
+IsOfFiles status = IsAnswer status
+
+-- a status that comes before the session is read
+abbrev pub IsEarly : Status → Type 0
+IsEarly Config = Unit {0}
+IsEarly Usage = Unit {0}
+IsEarly Unstable = Unit {0}
+IsEarly FileFault = Unit {0}
+IsEarly status = ⊥
+
+-- a status that comes once the session is read
+abbrev pub IsLate : Status → Type 0
+IsLate Done = Unit {0}
+IsLate InputFault = Unit {0}
+IsLate status = ⊥
+
+-- a status with which a reply, or a refusal, may stand half written
+abbrev pub IsCut : Status → Type 0
+IsCut OutputFault = Unit {0}
+IsCut Memory = Unit {0}
+IsCut status = ⊥
+
+-- ---- causes
+
+-- the files that the words name, none where they ask for nothing that is known
+abbrev pub files_of : List (List ℕ) → List (List ℕ)
+files_of words = option_map_or (λ request. request.files) (request_of words) []
+
+-- the status with which a run ends where nothing fails
+abbrev pub status_of : Result StateView Refusal → List ℕ → Status
+status_of (Ok state) session = if is_within session then Done else Limit
+status_of (Err refusal) session = refusal_status refusal
+
+-- the statuses that come of a load where nothing failed but the source
+abbrev pub Settles : Result StateView Refusal → Status → Type 0
+Settles (Ok state) status = (status ≡ Done) ⊎ ((status ≡ Limit) ⊎ (status ≡ InputFault))
+Settles (Err refusal) status = status ≡ refusal_status refusal
+
+-- a limit is passed: by the files or what they configure, or by the session
+abbrev pub IsOverLimit : Result StateView Refusal → List ℕ → Type 0
+IsOverLimit (Ok state) session = is_within session ≡ false
+IsOverLimit (Err (TooMany quantity)) session = Unit {0}
+IsOverLimit (Err refusal) session = ⊥
+
+-- the files are told, and the first refusal is of one that isn't there
+abbrev pub IsAbsent : List (List ℕ) → Option (List Named) → Type 0
+IsAbsent words None = ⊥
+IsAbsent words (Some files) = load words files ≡ Err Missing
+
+-- ---- what is left of the files
+
+-- a file is entered in its turn: it is named at a place, and all files before it were loaded
+pub record EntersInTurn (names : List (List ℕ)) (files : Option (List Named)) (name : List ℕ) : Type 0 where
+  pub before : List (List ℕ)
+  pub behind : List (List ℕ)
+  pub place : names ≡ before ++ name ∷ behind
+  pub loaded : IfSome files (λ fs. (routers : List ConfigView) × (load_each fs before ≡ Ok routers))
+
+-- the entered file is as before, or it is one of these names, in its turn
+abbrev pub IsInTurn : List (List ℕ) → Option (List Named) → Option (List ℕ) → Option (List ℕ) → Type 0
+IsInTurn names files before now = (now ≡ before) ⊎ IfSome now (EntersInTurn names files)
+
+-- files were entered each once and in order: those in front of these names, and all but the last of them were loaded
+pub record EntersEach (names : List (List ℕ)) (files : Option (List Named)) (before now : Entries) : Type 0 where
+  pub entered : List (List ℕ)
+  pub others : List (List ℕ)
+  pub parts : names ≡ entered ++ others
+  pub entries : now ≡ entries_after entered before
+  pub loaded : IfSome files (λ fs. (routers : List ConfigView) × (load_each fs (all_but_last entered) ≡ Ok routers))
+
+-- where the files are told, what is left of the entered one is its content less at most one byte more than is read of a file
+abbrev pub TakesOfEntered : Option (List Named) → Option (List ℕ) → Option (List ℕ) → Type 0
+TakesOfEntered None entered left = Unit {0}
+TakesOfEntered (Some files) None left = Unit {0}
+TakesOfEntered (Some files) (Some name) None = Unit {0}
+TakesOfEntered (Some files) (Some name) (Some left) =
+    (content : List ℕ) × (content_of files name ≡ Some content) × TakesAtMost (FILE_LIMIT + 1) (Some content) (Some left)
+
+-- the file entered before is entered still and nothing was taken of it, or of the one that is entered now no more was taken
+-- than is read of a file
+abbrev pub TakesOfFiles : Option (List Named) → Option (List ℕ) → Option (List ℕ) → Option (List ℕ) → Option (List ℕ) → Type 0
+TakesOfFiles files before left_before now left_now =
+    ((now ≡ before) × (left_now ≡ left_before)) ⊎ TakesOfEntered files now left_now
+
+-- ---- what is left of the source and the sink
+
+-- what was taken of a session before its source failed: no more than its limit, and no line that ends it
+pub record IsOpenSession (taken : List ℕ) : Type 0 where
+  pub few : length taken ≤ SESSION_LIMIT
+  pub goes : has_quit (whole_lines_of taken) ≡ false
+
+-- the source failed behind bytes of a session: the whole lines among them were replied over the state that was loaded
+abbrev pub AnswersTaken : Result StateView Refusal → Option (List ℕ) → Option (List ℕ) → Option (List ℕ) → Option (List ℕ) → Type 0
+AnswersTaken loaded rest left old new = IsOkAnd loaded (λ state. Takes rest left (IsCutShort state old new))
+
+-- the bytes are a beginning of what would have been written
+abbrev pub IsBeginning : Result StateView Refusal → List ℕ → List ℕ → Type 0
+IsBeginning loaded session bytes =
+    (bytes ≡ []) ⊎ ((status : Status) × (more : List ℕ) × Concludes loaded session status (bytes ++ more))

@@ -1,0 +1,176 @@
+//! A session in pieces: it is read up to its end or one byte past its limit, and the whole lines of each piece
+//! are answered before the next is read.
+
+ghost use Rattle.std.specs.Prelude.{◌≡◌, ◌≢◌, ℕ, ◌+◌, ◌<◌, ◌≤◌, Some, List, Option, length, map, take, false, IfOk, OnErr};
+ghost use Rattle.std.specs.Io.KnownBytes.{Consumes, Keeps, IsAtEnd};
+ghost use Rattle.nc_outside.specs.Counts.{Faults, HasCause};
+ghost use Rattle.nc_tables.specs.State.{StateView};
+ghost use Rattle.nc_session.specs.File.{AreFilesOf, FileView, file_view};
+ghost use Rattle.nc_session.specs.Reading.{TakesAtMost, StaysInTime};
+ghost use Rattle.nc_session.specs.Engine.{begin_at};
+ghost use Rattle.nc_session.specs.Leaving.{Told, told, failures, Leaves, FailsAs, GoesOn, stopped_as};
+ghost use Rattle.nc_session.specs.SoFar.{IsTaken, RefusesRest};
+
+use crate::SESSION_LIMIT;
+use crate::engine::{Engine, Flow};
+use crate::file::LoadedFile;
+use crate::laws::sessions_go_on;
+use crate::reading::Stop;
+use crate::serving::{answer_cut, take_piece};
+use crate::status::Status;
+use crate::writing::write_all;
+use nc_command::Cutter;
+use nc_outside::{Failed, Sink, Source};
+use nc_tables::Stable;
+use std::alloc::Global;
+
+// How many bytes a read asks for at most.
+const PIECE: usize = 8192;
+
+// One read of a session, for as many bytes as there is room, to the front of the buffer.
+fn read_piece<S: Source>(input: &mut S, buffer: &mut [u8], room: usize) -> Result<usize, Failed>
+    requires some { 0 < room }
+    requires space { 0 < length buffer.old }
+    ensures within { IfOk result (λ count. (count ≤ room) × (count ≤ length buffer.new)) }
+    ensures bytes { IfOk result (λ count.
+        Consumes (S.rest input.old) (S.rest input.new) (take count buffer.new)) }
+    ensures ended { IfOk result (λ count. count ≡ 0 → IsAtEnd (S.rest input.new)) }
+    ensures kept { OnErr result (Keeps (S.rest input.old) (S.rest input.new)) }
+    ensures cause { HasCause (S.faults input.old) (S.faults input.new) result }
+    ensures in_time { StaysInTime (S.end input.old) (S.end input.new) }
+    ensures goes_on { (S.end input.old).is_told ≡ false
+        → IfOk result (λ count. count ≢ 0 → (S.end input.new).is_told ≡ false) }
+{
+    let most = buffer.len().min(room);
+    let count = input.read(&mut buffer[..most])?;
+    Ok(count)
+}
+
+// Why replies ended early.
+fn stopped(stop: Stop) -> Status
+    ensures { result ≡ stopped_as stop }
+{
+    match stop {
+        Stop::Outside => Status::OutputFault,
+        Stop::Memory => Status::Memory,
+    }
+}
+
+// Answers the line that no line feed ended, where there is one: the session is at its end.
+fn finish<K: Sink>(alloc: Global, engine: &mut Engine, cutter: Cutter, output: &mut K) -> Status
+    ensures leaves { (s : StateView) (files : List FileView) (before : Told)
+        (rest : Option (List ℕ)) (room : ℕ)
+        → IsTaken (begin_at s files) before (told rest (K.written output.old)) engine.old cutter room
+        → IsAtEnd rest → GoesOn s → Leaves s before (told rest (K.written output.new)) result }
+    ensures fails { (source : Faults) → FailsAs (failures source (K.faults output.old))
+        (failures source (K.faults output.new)) result }
+{
+    let Some(cut) = cutter.end() else {
+        return Status::Done;
+    };
+    match answer_cut(alloc, engine, cut, output) {
+        Ok(_) => Status::Done,
+        Err(stop) => stopped(stop),
+    }
+}
+
+// Says that the session is longer than its limit.
+fn refuse_rest<K: Sink>(output: &mut K) -> Status
+    ensures says { RefusesRest (K.written output.old) (K.written output.new) result }
+    ensures fails { (source : Faults) → FailsAs (failures source (K.faults output.old))
+        (failures source (K.faults output.new)) result }
+{
+    match write_all(output, b"refused limit session\n") {
+        Ok(()) => Status::Limit,
+        Err(_) => Status::OutputFault,
+    }
+}
+
+// Ends a session of which as many bytes were taken as its limit allows: one byte more is past it.
+fn close<S: Source, K: Sink>(
+    alloc: Global,
+    engine: &mut Engine,
+    cutter: Cutter,
+    input: &mut S,
+    output: &mut K,
+) -> Status
+    ensures leaves { (s : StateView) (files : List FileView) (before : Told)
+        → IsTaken (begin_at s files) before (told (S.rest input.old) (K.written output.old))
+        engine.old cutter 0
+        → GoesOn s → Leaves s before (told (S.rest input.new) (K.written output.new)) result }
+    ensures fails { FailsAs (failures (S.faults input.old) (K.faults output.old))
+        (failures (S.faults input.new) (K.faults output.new)) result }
+    ensures takes { TakesAtMost 1 (S.rest input.old) (S.rest input.new) }
+    ensures in_time { StaysInTime (S.end input.old) (S.end input.new) }
+{
+    let mut byte = [0u8; 1];
+    let count = match input.read(&mut byte) {
+        Ok(count) => count,
+        Err(_) => return Status::InputFault,
+    };
+    if count == 0 {
+        return finish(alloc, engine, cutter, output);
+    }
+    refuse_rest(output)
+}
+
+// Serves a session from its first byte on.
+fn serve_pieces<S: Source, K: Sink>(
+    alloc: Global,
+    engine: &mut Engine,
+    input: &mut S,
+    output: &mut K,
+) -> Status
+    ensures leaves { (s : StateView) (files : List FileView)
+        → engine.old ≡ Some (begin_at s files) → GoesOn s
+        → Leaves s (told (S.rest input.old) (K.written output.old))
+        (told (S.rest input.new) (K.written output.new)) result }
+    ensures fails { FailsAs (failures (S.faults input.old) (K.faults output.old))
+        (failures (S.faults input.new) (K.faults output.new)) result }
+    ensures takes { TakesAtMost (SESSION_LIMIT + 1) (S.rest input.old) (S.rest input.new) }
+    ensures in_time { StaysInTime (S.end input.old) (S.end input.new) }
+{
+    let mut cutter = Cutter::new(alloc);
+    let mut room = SESSION_LIMIT;
+    'reading: while room > 0 {
+        let mut buffer = [0u8; PIECE];
+        let count = match read_piece(input, &mut buffer, room) {
+            Ok(count) => count,
+            Err(_) => return Status::InputFault,
+        };
+        if count == 0 {
+            return finish(alloc, engine, cutter, output);
+        }
+        match take_piece(alloc, engine, &mut cutter, &buffer[..count], output) {
+            Ok(Flow::Go) => room -= count,
+            Ok(Flow::Stop) => return Status::Done,
+            Err(stop) => return stopped(stop),
+        }
+    }
+    close(alloc, engine, cutter, input, output)
+}
+
+/// Answers a session while it is read: each whole line before the next read, up to one that ends the session, to the
+/// end of the source, or to the limit of [`SESSION_LIMIT`] bytes, past which one byte is taken and the rest refused.
+pub(crate) fn serve<S: Source, K: Sink>(
+    alloc: Global,
+    state: Stable,
+    files: Vec<LoadedFile>,
+    input: &mut S,
+    output: &mut K,
+) -> Status
+    requires fit { AreFilesOf state.routers (map file_view files.items) }
+    ensures leaves { Leaves state (told (S.rest input.old) (K.written output.old))
+        (told (S.rest input.new) (K.written output.new)) result }
+    ensures fails { FailsAs (failures (S.faults input.old) (K.faults output.old))
+        (failures (S.faults input.new) (K.faults output.new)) result }
+    ensures takes { TakesAtMost (SESSION_LIMIT + 1) (S.rest input.old) (S.rest input.new) }
+    ensures in_time { StaysInTime (S.end input.old) (S.end input.new) }
+{
+    sessions_go_on();
+    let _state = state.network();
+    let Ok(mut engine) = Engine::begin(alloc, state, files) else {
+        return Status::Memory;
+    };
+    serve_pieces(alloc, &mut engine, input, output)
+}
