@@ -241,7 +241,6 @@ ROUNDS = of(
     ("accepted_at", "(if has_own_hop m then None else (", "(if is_looped m then None else (", "the own next hop is accepted"),
     ("accepted_at", "(if is_unresolved router m then None", "(if is_looped m then None", "an unresolved next hop is accepted"),
     ("accepted_at", "m.link.receiver.statement.map_in m.route", "m.link.receiver.statement.map_out m.route", "the map for what goes out is used on the way in"),
-    ("entry_at", "internal = a.message.link.session.internal", "internal = false", "what is learnt inside counts as external"),
     ("entry_at", "router_id a.message.link.sender.config", "router_id a.message.link.receiver.config", "the receiver's router id is kept"),
     ("entry_at", "sender = a.message.link.receiver.statement.addr", "sender = a.message.link.sender.statement.addr", "the receiver's address is kept"),
     ("entry_at", "route = a.into.route", "route = a.message.route", "what the map sets isn't kept"),
@@ -257,6 +256,7 @@ ROUNDS = of(
     ("round", "in_order prefix_cmp (distinct (flat_map prefixes_in routers))", "in_order prefix_cmp (flat_map prefixes_in routers)", "a prefix has several rows"),
     ("round", "row_of prefix [] = None", "row_of prefix [] = Some (record { prefix = prefix; chosen = [] })", "a prefix without a candidate has a row"),
     ("round", "made_from make (suc place) xs) (make place x)", "made_from make place xs) (make place x)", "places behind one that makes something aren't counted on"),
+    ("static_state", "no_routes routers = map (λ c. []) routers", "no_routes routers = []", "no router has a table of BGP"),
     ("after", "after zero = no_routes routers", "after zero = round routers tables sessions (no_routes routers)", "one round more is made"),
 )
 
@@ -284,8 +284,7 @@ SETTLING = of(
 STATE = of(
     "State",
     ("state_at", "main = main_tables routers (base_tables routers) bgp", "main = main_tables routers (base_tables routers) (no_routes routers)", "main tables are without BGP"),
-    ("state_at", "sessions = sessions routers (base_tables routers)", "sessions = sessions routers []", "sessions are those without base tables"),
-    ("static_state", "static_state routers = state_at routers (no_routes routers)", "static_state routers = state_at routers []", "no router has a table of BGP"),
+    ("state_at", "      bgp = bgp;", "      bgp = no_routes routers;", "the table of BGP is empty"),
 )
 
 MAIN = of(
@@ -298,7 +297,7 @@ MAIN = of(
     ("main_table", "nearer [] bgp = bgp", "nearer [] bgp = []", "without base rows there is none"),
     ("main_table", "if same_prefix a.prefix prefix && is_active table router a then", "if same_prefix a.prefix prefix then", "an aggregate that isn't active discards"),
     ("main_table", "distance = LOCAL_DISTANCE", "distance = EXTERNAL_DISTANCE", "an aggregate discards at distance 20"),
-    ("main_table", "(first_of (discards router prefix)) (learnt_rows", "None (learnt_rows", "no aggregate discards"),
+    ("main_table", "(first_of (discards router prefix)) (learnt_rows", "(first_of (learnt_rows prefix [])) (learnt_rows", "no aggregate discards"),
     ("main_table", "option_map_or (λ p. map (λ a. a.prefix) p.aggregates) (process_of routers router) []", "[]", "an aggregate without a row of BGP doesn't discard"),
     ("main_table", "from = Base place }) else None", "from = Base 0 }) else None", "each row is of the first base row"),
 )
@@ -318,7 +317,6 @@ FORWARDING = of(
     ("alternatives", "(hits tables router hop)) (bgp_hop", "(hits tables router addr)) (bgp_hop", "a BGP row's hits are those of the address"),
     ("exit_iface", "exit_by_main router addr row (Discard place) hit = None", "exit_by_main router addr row (Discard place) hit = exit_of routers tables router addr place", "an aggregate's way has an interface"),
     ("exit_iface", "(exit_of routers tables router hop) hit)", "(exit_of routers tables router hop) (Some 0))", "a BGP way leaves by the first base row"),
-    ("traces", "arrives_by from Lost = false", "arrives_by from Lost = true", "what is lost arrives"),
     ("traces", "arrives_by from Deliver = true", "arrives_by from Deliver = false", "what is delivered doesn't arrive"),
     ("traces", "nowhere router = false", "nowhere router = true", "without a hop it goes on"),
     ("traces", "some_way passes ways = list_any passes ways", "some_way passes ways = list_all passes ways", "each way has to lead there"),
@@ -330,7 +328,6 @@ FORWARDING = of(
     ("step_at", "goes_on from addr (suc hops) router = from hops router addr", "goes_on from addr (suc hops) router = false", "a step never goes on"),
     ("step_at", "nat_le hops HOP_LIMIT &&", "nat_lt hops HOP_LIMIT &&", "thirty hops are too many"),
     ("step_at", "nat_le hops HOP_LIMIT &&", "nat_le hops 31 &&", "thirty-one hops are not too many"),
-    ("all_step_at", "all_step_at = step_by all_trace", "all_step_at = step_by traces", "one way is enough behind the first step"),
 )
 
 LEVELS = of(
@@ -362,7 +359,7 @@ RELATIONS = of(
     ("IsState", "pub tables : s ≡ state_at s.routers s.bgp", "pub tables : s ≡ s", "any tables will do"),
     ("IsState", "pub few : length s.routers ≤ ROUTER_LIMIT", "pub few : length s.routers ≤ length s.routers", "there may be any number of routers"),
     ("IsState", "s.sessions rounds s.bgp", "s.sessions (length s.routers) s.bgp", "the rounds are as many as the routers"),
-    ("IsState", "pub valid : IsValid s.routers", "pub valid : IsValid []", "the routers needn't be valid"),
+    ("IsState", "pub valid : IsValid s.routers", "pub valid : s ≡ s", "the routers needn't be valid"),
 )
 
 EDITS = NETWORK + JOINING + BASE + ORDER + LONGEST + REACH + SESSIONS + POLICY + CHOICE + ROUNDS + SETTLING + STATE + MAIN + FORWARDING + LEVELS + RELATIONS
