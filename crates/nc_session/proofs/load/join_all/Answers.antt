@@ -21,4 +21,3 @@ returns-in-Err-clause-joined c names =
     let routers = map config_view c.args.configs.items in
     subst (λ (fault : LoadFault). IsFault names fault (load_settled (load_judged names routers (judged routers)))) (sym c.join_fault.ensures)
     (told_fault names routers (List ConfigView) (judged routers) c.in-Err.fault c.in-Err.ensures.told)
-
