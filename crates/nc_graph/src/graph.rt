@@ -111,8 +111,8 @@ impl<F: Copy + Eq + Hash> Graph<F> {
     ///
     /// # Errors
     ///
-    /// `Full` where the facts of the graph with what the new ones are derived from are more than the
-    /// limit, and `Memory` where memory is refused. The graph is then as it was before.
+    /// `Full` where the facts of the graph with what the new ones are derived from are more than
+    /// the limit, and `Memory` where memory is refused. The graph is then as it was before.
     pub fn add<I: Inference<Fact = F>>(
         &mut self,
         rules: &mut I,
@@ -121,15 +121,17 @@ impl<F: Copy + Eq + Hash> Graph<F> {
         requires holds { All (λ f. (I.flow rules.old).holds f ≡ true) facts.now }
         requires mirrors { Mirrors (I.flow rules.old) self.old }
 
-        // The facts are the closure, each with its kind and its parents; old nodes keep their numbers.
+        // The facts are the closure, each with its kind and its parents; old nodes keep their
+        // numbers.
         ensures closure { OnOk result
             (IsClosure (I.flow rules.old) (self.old.facts ++ facts.now) self.new.facts) }
         ensures kept { OnOk result (Extends self.old self.new) }
         ensures mirrors { Mirrors (I.flow rules.old) self.new }
         ensures nodes { IfOk result (λ nodes. AreNodesOf self.new nodes.items facts.now) }
 
-        // Each new fact was inferred once. The rules stay of the same basis. Where it is full, as many facts were
-        // inferred as there was room for; where memory is refused, at most one more than the limit.
+        // Each new fact was inferred once. The rules stay of the same basis. Where it is full, as
+        // many facts were inferred as there was room for; where memory is refused, at most one more
+        // than the limit.
         ensures flow { I.flow rules.new ≡ I.flow rules.old }
         ensures basis { I.basis rules.new ≡ I.basis rules.old }
         ensures asked { OnOk result (I.asked rules.new

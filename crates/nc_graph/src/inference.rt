@@ -14,8 +14,8 @@ pub trait Inference {
     /// The flow graph that these rules give.
     ghost flow: { Self → Flow Self.Fact };
 
-    /// What the rules are made of, as the state of a network. It stays as it is, whatever is inferred: rules of
-    /// equal flow graphs may be made of different things.
+    /// What the rules are made of, as the state of a network. It stays as it is, whatever is
+    /// inferred: rules of equal flow graphs may be made of different things.
     ghost Basis: { Type 0 };
 
     /// What these rules are made of.

@@ -1,5 +1,5 @@
-//! The union and the intersection of the sets of nodes. Each takes time for all of these sets together,
-//! and adds at most its result to the table.
+//! The union and the intersection of the sets of nodes. Each takes time for all of these sets
+//! together, and adds at most its result to the table.
 ghost use Rattle.std.specs.Prelude.{◌≡◌, ◌||◌, ◌&&◌, ◌<◌, ℕ, All, length, true, false, slice_index_or, IfOk, OnOk};
 ghost use Rattle.nc_marks.specs.Sets.{has, has_at, Grows, IsAt, in_some, in_each};
 
@@ -107,7 +107,8 @@ pub(crate) fn union_of(
     requires placed { All (λ p. slice_index_or places.now p.0 0 < length sets.old.sets) nodes.now }
     ensures width { gathered.new.width ≡ gathered.old.width }
     ensures grows { Grows sets.old sets.new }
-    ensures union { IfOk result (λ place. IsAt sets.new place (in_some sets.old places.now nodes.now)) }
+    ensures union { IfOk result (λ place. IsAt sets.new place
+        (in_some sets.old places.now nodes.now)) }
 {
     let largest = largest(sets, places, nodes);
     gathered.clear();
@@ -134,7 +135,8 @@ pub(crate) fn intersection_of(
     requires placed { All (λ p. slice_index_or places.now p.0 0 < length sets.old.sets) nodes.now }
     ensures width { gathered.new.width ≡ gathered.old.width }
     ensures grows { Grows sets.old sets.new }
-    ensures intersection { IfOk result (λ place. IsAt sets.new place (in_each sets.old places.now nodes.now)) }
+    ensures intersection { IfOk result
+        (λ place. IsAt sets.new place (in_each sets.old places.now nodes.now)) }
 {
     let smallest = smallest(sets, places, nodes);
     gathered.clear();

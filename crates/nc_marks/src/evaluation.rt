@@ -30,12 +30,14 @@ pub(crate) fn place_of<F: Copy + Eq + Hash>(
     requires len { length places.now ≡ node.0 }
     requires width { gathered.old.width ≡ sets.old.width }
     requires empty { IsAt sets.old 0 (λ _. false) }
-    requires placed { All (λ p. slice_index_or places.now p 0 < length sets.old.sets) ((node_flow graph.now).parents node.0) }
+    requires placed { All (λ p. slice_index_or places.now p 0 < length sets.old.sets)
+        ((node_flow graph.now).parents node.0) }
     ensures width { gathered.new.width ≡ gathered.old.width }
     ensures grows { Grows sets.old sets.new }
     ensures placed { IfOk result (λ place. place < length sets.new.sets) }
     ensures strong { IfOk result (λ place.
-        All (λ p. IsAt sets.old (slice_index_or places.now p 0) (λ e. strong (node_flow graph.now) e p)) ((node_flow graph.now).parents node.0)
+        All (λ p. IsAt sets.old (slice_index_or places.now p 0) (λ e. strong (node_flow graph.now) e p))
+        ((node_flow graph.now).parents node.0)
         → IsAt sets.new place (λ e. strong (node_flow graph.now) e node.0)) }
 {
     let parents = graph.parents(node);

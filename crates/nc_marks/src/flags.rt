@@ -88,7 +88,8 @@ pub(crate) fn list_sets(
 ) -> Result<(), AllocError>
     requires within { All (λ p. p.0 < length places.now) nodes.now }
     requires placed { All (λ p. slice_index_or places.now p.0 0 < length sets.now.sets) nodes.now }
-    ensures { OnOk result (Lists flags.now (in_some sets.now places.now nodes.now) list.old.items list.new.items) }
+    ensures { OnOk result (Lists flags.now
+        (in_some sets.now places.now nodes.now) list.old.items list.new.items) }
 {
     'nodes: for node in nodes {
         list_set(flags, sets.get(places[node.0 as usize]), list)?;

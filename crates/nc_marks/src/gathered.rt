@@ -6,7 +6,8 @@ use crate::flags::{all_flagged, flag_set, keep_common};
 use std::alloc::{AllocError, Global};
 use std::marker::Model;
 
-// The elements that were gathered, each once, and a flag for each element that counts: whether it was.
+// The elements that were gathered, each once, and a flag for each element that counts: whether it
+// was.
 #[derive(Drop)]
 pub(crate) struct Gathered {
     elements: Vec<u32>,

@@ -1,5 +1,5 @@
-//! Marks that grow with a graph: what was worked out for its nodes is kept, so that a further test costs
-//! only what is new.
+//! Marks that grow with a graph: what was worked out for its nodes is kept, so that a further test
+//! costs only what is new.
 ghost use Rattle.std.specs.Prelude.{◌≡◌, ◌<◌, ◌≤◌, ◌++◌, ◌||◌, ℕ, All, List, [], false, length, map, take, slice_index_or, IfOk, OnOk, OnErr};
 ghost use Rattle.nc_graph.specs.Derivation.{strong};
 ghost use Rattle.nc_graph.specs.Flow.{Flow};
@@ -32,15 +32,16 @@ struct KeptNodes {
     reached: Vec<bool>,
 }
 
-// What further tested nodes change: the nodes that they reach anew, and the elements that get another mark.
+// What further tested nodes change: the nodes that they reach anew, and the elements that get
+// another mark.
 #[derive(Drop)]
 struct News {
     raised: Vec<NodeId>,
     touched: Vec<u32>,
 }
 
-/// The marks for the live nodes of a graph that grows, those of tests so far; with the strong elements of each of
-/// its nodes so far, and whether a live one reaches it.
+/// The marks for the live nodes of a graph that grows, those of tests so far; with the strong
+/// elements of each of its nodes so far, and whether a live one reaches it.
 #[derive(Drop)]
 pub struct KeptMarks {
     nodes: KeptNodes,
@@ -62,7 +63,8 @@ impl Model for KeptMarks {
       marks = k.marks;
     } };
 
-    ghost invariant = { λ k. IsTable k.nodes.sets k.nodes.gathered k.nodes.places.items (marked_elements k.marks)
+    ghost invariant = { λ k.
+        IsTable k.nodes.sets k.nodes.gathered k.nodes.places.items (marked_elements k.marks)
         × (length k.nodes.reached.items ≡ length k.nodes.places.items) };
 }
 
@@ -84,9 +86,11 @@ fn add_places<F: Copy + Eq + Hash>(
     ensures len { OnOk result (length places.new.items ≡ length graph.now.facts) }
     ensures within { ArePlaced sets.new places.new.items }
     ensures strong { OnOk result (((i : ℕ) → i < length places.old.items
-        → IsAt sets.old (slice_index_or places.old.items i 0) (λ e. strong (node_flow graph.now) e i))
+        → IsAt sets.old (slice_index_or places.old.items i 0)
+        (λ e. strong (node_flow graph.now) e i))
         → (i : ℕ) → i < length graph.now.facts
-        → IsAt sets.new (slice_index_or places.new.items i 0) (λ e. strong (node_flow graph.now) e i)) }
+        → IsAt sets.new (slice_index_or places.new.items i 0)
+        (λ e. strong (node_flow graph.now) e i)) }
 {
     let len = graph.len();
     'nodes: for number in places.len() as u32..len {
@@ -127,15 +131,24 @@ fn reach_more<F: Copy + Eq + Hash>(
     ensures unchanged { OnErr result (nodes.new.reached.items ≡ nodes.old.reached.items) }
     ensures len { length nodes.new.reached.items ≡ length nodes.old.reached.items }
     ensures raised { IfOk result (λ news. (i : ℕ)
-        → flag nodes.new.reached.items i ≡ (has_node news.raised.items i || flag nodes.old.reached.items i)) }
-    ensures valid { IfOk result (λ news. All (λ p. p.0 < length graph.now.facts) news.raised.items) }
-    ensures reached { OnOk result ((before : List ℕ) → AreReached (node_flow graph.now) before nodes.old.reached.items
-        → AreReached (node_flow graph.now) (before ++ map (λ p. p.0) tested.now) nodes.new.reached.items) }
-    ensures within { IfOk result (λ news. All (λ e. e < marked_elements marks.now) news.touched.items) }
-    ensures some { IfOk result (λ news. (e : ℕ) → e < marked_elements marks.now → has news.touched.items e ≡ false
-        → flag marks.now.some e ≡ false → leaf_in (node_flow graph.now) e news.raised.items ≡ false) }
-    ensures strong { IfOk result (λ news. (e : ℕ) → e < marked_elements marks.now → has news.touched.items e ≡ false
-        → flag marks.now.strong e ≡ false → in_some nodes.old.sets nodes.old.places.items tested.now e ≡ false) }
+        → flag nodes.new.reached.items i
+        ≡ (has_node news.raised.items i || flag nodes.old.reached.items i)) }
+    ensures valid { IfOk result (λ news. All
+        (λ p. p.0 < length graph.now.facts) news.raised.items) }
+    ensures reached { OnOk result ((before : List ℕ)
+        → AreReached (node_flow graph.now) before nodes.old.reached.items
+        → AreReached (node_flow graph.now)
+        (before ++ map (λ p. p.0) tested.now) nodes.new.reached.items) }
+    ensures within { IfOk result (λ news. All
+        (λ e. e < marked_elements marks.now) news.touched.items) }
+    ensures some { IfOk result (λ news. (e : ℕ) → e < marked_elements marks.now
+        → has news.touched.items e ≡ false
+        → flag marks.now.some e ≡ false
+        → leaf_in (node_flow graph.now) e news.raised.items ≡ false) }
+    ensures strong { IfOk result (λ news. (e : ℕ) → e < marked_elements marks.now
+        → has news.touched.items e ≡ false
+        → flag marks.now.strong e ≡ false
+        → in_some nodes.old.sets nodes.old.places.items tested.now e ≡ false) }
 {
     let raised = raise(alloc, graph, tested, &mut nodes.reached)?;
     match marks.touched(alloc, graph, &raised, &nodes.sets, &nodes.places, tested) {
@@ -147,8 +160,8 @@ fn reach_more<F: Copy + Eq + Hash>(
     }
 }
 
-// Adds what is kept of the nodes that aren't yet, raises the flags of what further nodes reach, and lists the
-// elements that get another mark.
+// Adds what is kept of the nodes that aren't yet, raises the flags of what further nodes reach, and
+// lists the elements that get another mark.
 fn extend<F: Copy + Eq + Hash>(
     alloc: Global,
     graph: &Graph<F>,
@@ -165,25 +178,38 @@ fn extend<F: Copy + Eq + Hash>(
     ensures graph { IsGraph graph.now }
     ensures width { nodes.new.gathered.width ≡ nodes.old.gathered.width }
     ensures grows { Grows nodes.old.sets nodes.new.sets }
-    ensures places { take (length nodes.old.places.items) nodes.new.places.items ≡ nodes.old.places.items }
-    ensures flags { OnErr result (take (length nodes.old.reached.items) nodes.new.reached.items ≡ nodes.old.reached.items) }
+    ensures places { take (length nodes.old.places.items) nodes.new.places.items
+        ≡ nodes.old.places.items }
+    ensures flags { OnErr result (take (length nodes.old.reached.items) nodes.new.reached.items
+        ≡ nodes.old.reached.items) }
     ensures placed { ArePlaced nodes.new.sets nodes.new.places.items }
     ensures len { OnOk result (length nodes.new.places.items ≡ length graph.now.facts) }
     ensures all { OnOk result (length nodes.new.reached.items ≡ length graph.now.facts) }
     ensures sets { OnOk result (((i : ℕ) → i < length nodes.old.places.items
-        → IsAt nodes.old.sets (slice_index_or nodes.old.places.items i 0) (λ e. strong (node_flow graph.now) e i))
+        → IsAt nodes.old.sets (slice_index_or nodes.old.places.items i 0)
+        (λ e. strong (node_flow graph.now) e i))
         → (i : ℕ) → i < length graph.now.facts
-        → IsAt nodes.new.sets (slice_index_or nodes.new.places.items i 0) (λ e. strong (node_flow graph.now) e i)) }
+        → IsAt nodes.new.sets (slice_index_or nodes.new.places.items i 0)
+        (λ e. strong (node_flow graph.now) e i)) }
     ensures raised { IfOk result (λ news. (i : ℕ)
-        → flag nodes.new.reached.items i ≡ (has_node news.raised.items i || flag nodes.old.reached.items i)) }
-    ensures valid { IfOk result (λ news. All (λ p. p.0 < length graph.now.facts) news.raised.items) }
-    ensures reached { OnOk result ((live : List ℕ) → AreReached (node_flow graph.now) live nodes.old.reached.items
-        → AreReached (node_flow graph.now) (live ++ map (λ p. p.0) tested.now) nodes.new.reached.items) }
-    ensures within { IfOk result (λ news. All (λ e. e < marked_elements marks.now) news.touched.items) }
-    ensures some { IfOk result (λ news. (e : ℕ) → e < marked_elements marks.now → has news.touched.items e ≡ false
-        → flag marks.now.some e ≡ false → leaf_in (node_flow graph.now) e news.raised.items ≡ false) }
-    ensures strong { IfOk result (λ news. (e : ℕ) → e < marked_elements marks.now → has news.touched.items e ≡ false
-        → flag marks.now.strong e ≡ false → in_some nodes.new.sets nodes.new.places.items tested.now e ≡ false) }
+        → flag nodes.new.reached.items i
+        ≡ (has_node news.raised.items i || flag nodes.old.reached.items i)) }
+    ensures valid { IfOk result (λ news. All
+        (λ p. p.0 < length graph.now.facts) news.raised.items) }
+    ensures reached { OnOk result ((live : List ℕ)
+        → AreReached (node_flow graph.now) live nodes.old.reached.items
+        → AreReached (node_flow graph.now)
+        (live ++ map (λ p. p.0) tested.now) nodes.new.reached.items) }
+    ensures within { IfOk result (λ news. All
+        (λ e. e < marked_elements marks.now) news.touched.items) }
+    ensures some { IfOk result (λ news. (e : ℕ) → e < marked_elements marks.now
+        → has news.touched.items e ≡ false
+        → flag marks.now.some e ≡ false
+        → leaf_in (node_flow graph.now) e news.raised.items ≡ false) }
+    ensures strong { IfOk result (λ news. (e : ℕ) → e < marked_elements marks.now
+        → has news.touched.items e ≡ false
+        → flag marks.now.strong e ≡ false
+        → in_some nodes.new.sets nodes.new.places.items tested.now e ≡ false) }
 {
     add_places(
         graph,
@@ -227,10 +253,10 @@ impl KeptMarks {
         &self.marks
     }
 
-    /// Adds tested nodes of a graph, whose first nodes are those that are kept, to the live ones, and answers the
-    /// elements that may have another mark now; one may be listed twice. It takes time for the parents of the nodes
-    /// that aren't kept yet and for the sets of these parents, for the parents of the nodes that no live one reached,
-    /// and for the sets of the tested nodes.
+    /// Adds tested nodes of a graph, whose first nodes are those that are kept, to the live ones,
+    /// and answers the elements that may have another mark now; one may be listed twice. It takes
+    /// time for the parents of the nodes that aren't kept yet and for the sets of these parents,
+    /// for the parents of the nodes that no live one reached, and for the sets of the tested nodes.
     ///
     /// # Errors
     ///
@@ -243,12 +269,14 @@ impl KeptMarks {
         requires valid { All (λ p. p.0 < length graph.now.facts) tested.now }
         requires grown { kept_nodes self.old ≤ length graph.now.facts }
 
-        // With what was kept of the first nodes for the live ones, it is what is kept of all nodes for these and the
-        // tested ones.
+        // With what was kept of the first nodes for the live ones, it is what is kept of all nodes
+        // for these and the tested ones.
         ensures kept { OnOk result ((count : ℕ) (live : List ℕ) (elements : ℕ)
             → AreKept (node_flow graph.now) count live elements self.old
-            → AreKept (node_flow graph.now) (length graph.now.facts) (live ++ map (λ p. p.0) tested.now) elements self.new) }
-        ensures touched { IfOk result (λ touched. TouchesOnly touched.items self.old.marks self.new.marks) }
+            → AreKept (node_flow graph.now) (length graph.now.facts)
+            (live ++ map (λ p. p.0) tested.now) elements self.new) }
+        ensures touched { IfOk result
+            (λ touched. TouchesOnly touched.items self.old.marks self.new.marks) }
         ensures count { OnOk result (kept_nodes self.new ≡ length graph.now.facts) }
         ensures elements { marked_elements self.new.marks ≡ marked_elements self.old.marks }
         ensures unchanged { OnErr result (self.new ≡ self.old) }

@@ -1,5 +1,5 @@
-//! The laws of marks, over every flow graph. Each is the contract of a function that does nothing: a
-//! caller that needs a law calls the function at its type of facts.
+//! The laws of marks, over every flow graph. Each is the contract of a function that does nothing:
+//! a caller that needs a law calls the function at its type of facts.
 ghost use Rattle.std.specs.Prelude.{ℕ, List, length, map};
 ghost use Rattle.nc_graph.specs.Flow.{Flow, IsFlow};
 ghost use Rattle.nc_graph.specs.Nodes.{Nodes, node_flow, IsGraph, Mirrors, Extends, AreNodesOf};
@@ -15,7 +15,8 @@ pub fn kept_of_an_extended_graph<F>()
         → AreKept (node_flow new) (length old.facts) live elements k }
 {}
 
-/// A graph whose nodes are as a flow graph has their facts: the marks for nodes are the marks for their facts.
+/// A graph whose nodes are as a flow graph has their facts: the marks for nodes are the marks for
+/// their facts.
 pub fn marks_of_nodes_are_of_facts<F>()
     ensures { (g : Flow F) → IsFlow g → (n : Nodes F) → IsGraph n → Mirrors g n
         → (ids : List NodeId) (facts : List F) → AreNodesOf n ids facts

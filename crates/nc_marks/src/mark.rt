@@ -71,11 +71,13 @@ impl Marks {
     // Marks the elements of the sets of nodes as strong.
     pub(crate) fn add_strong(&mut self, sets: &Sets, places: &[usize], nodes: &[NodeId])
         requires within { All (λ p. p.0 < length places.now) nodes.now }
-        requires placed { All (λ p. slice_index_or places.now p.0 0 < length sets.now.sets) nodes.now }
+        requires placed { All
+            (λ p. slice_index_or places.now p.0 0 < length sets.now.sets) nodes.now }
         ensures elements { marked_elements self.new ≡ marked_elements self.old }
         ensures some { self.new.some ≡ self.old.some }
         ensures strong { (e : ℕ) → e < marked_elements self.old
-            → flag self.new.strong e ≡ (in_some sets.now places.now nodes.now e || flag self.old.strong e) }
+            → flag self.new.strong e
+            ≡ (in_some sets.now places.now nodes.now e || flag self.old.strong e) }
     {
         flag_strong(sets, places, nodes, &mut self.strong);
     }
@@ -86,7 +88,8 @@ impl Marks {
         ensures elements { marked_elements self.new ≡ marked_elements self.old }
         ensures strong { self.new.strong ≡ self.old.strong }
         ensures some { (e : ℕ) → e < marked_elements self.old
-            → flag self.new.some e ≡ (leaf_in (node_flow graph.now) e nodes.now || flag self.old.some e) }
+            → flag self.new.some e ≡ (leaf_in
+            (node_flow graph.now) e nodes.now || flag self.old.some e) }
     {
         flag_leaves_of(graph, nodes, &mut self.some);
     }
@@ -103,11 +106,15 @@ impl Marks {
     ) -> Result<Vec<u32>, AllocError>
         requires valid { All (λ p. p.0 < length graph.now.facts) nodes.now }
         requires within { All (λ p. p.0 < length places.now) tested.now }
-        requires placed { All (λ p. slice_index_or places.now p.0 0 < length sets.now.sets) tested.now }
-        ensures within { IfOk result (λ touched. All (λ e. e < marked_elements self.now) touched.items) }
-        ensures some { IfOk result (λ touched. (e : ℕ) → e < marked_elements self.now → has touched.items e ≡ false
+        requires placed { All
+            (λ p. slice_index_or places.now p.0 0 < length sets.now.sets) tested.now }
+        ensures within { IfOk result (λ touched. All
+            (λ e. e < marked_elements self.now) touched.items) }
+        ensures some { IfOk result (λ touched. (e : ℕ) → e < marked_elements self.now
+            → has touched.items e ≡ false
             → flag self.now.some e ≡ false → leaf_in (node_flow graph.now) e nodes.now ≡ false) }
-        ensures strong { IfOk result (λ touched. (e : ℕ) → e < marked_elements self.now → has touched.items e ≡ false
+        ensures strong { IfOk result (λ touched. (e : ℕ) → e < marked_elements self.now
+            → has touched.items e ≡ false
             → flag self.now.strong e ≡ false → in_some sets.now places.now tested.now e ≡ false) }
     {
         let mut touched = Vec::new(alloc);

@@ -18,7 +18,8 @@ fn descend<F: Copy + Eq + Hash>(graph: &Graph<F>, reached: &mut [bool])
     ensures kept { (i : ℕ) → flag reached.old i ≡ true → flag reached.new i ≡ true }
     ensures closed { IsClosed (node_flow graph.now) 0 reached.new }
     ensures within { (e : ℕ) (tops : List ℕ)
-        → IsReached (node_flow graph.now) e tops reached.old → IsReached (node_flow graph.now) e tops reached.new }
+        → IsReached (node_flow graph.now) e tops reached.old
+        → IsReached (node_flow graph.now) e tops reached.new }
 {
     let mut number = graph.len();
     'nodes: while number > 0 {
@@ -37,7 +38,8 @@ fn flag_reached<F: Copy + Eq + Hash>(graph: &Graph<F>, tested: &[NodeId], reache
     ensures len { length reached.new ≡ length reached.old }
     ensures tested { All (λ p. flag reached.new p.0 ≡ true) tested.now }
     ensures closed { IsClosed (node_flow graph.now) 0 reached.new }
-    ensures within { (e : ℕ) → IsReached (node_flow graph.now) e (map (λ p. p.0) tested.now) reached.new }
+    ensures within { (e : ℕ) → IsReached (node_flow graph.now) e
+        (map (λ p. p.0) tested.now) reached.new }
 {
     flag_nodes(reached, tested);
     descend(graph, reached);
@@ -67,7 +69,8 @@ fn flag_leaf<F: Copy + Eq + Hash>(graph: &Graph<F>, node: NodeId, flags: &mut [b
     requires { node.0 < length graph.now.facts }
     ensures len { length flags.new ≡ length flags.old }
     ensures flags { (e : ℕ) → e < length flags.old
-        → flag flags.new e ≡ (is_leaf_of e ((node_flow graph.now).kind node.0) || flag flags.old e) }
+        → flag flags.new e ≡ (is_leaf_of e
+        ((node_flow graph.now).kind node.0) || flag flags.old e) }
 {
     if let NodeKind::Leaf(element) = graph.kind(node) {
         let element = element as usize;
@@ -101,7 +104,8 @@ fn list_leaf<F: Copy + Eq + Hash>(
     list: &mut Vec<u32>,
 ) -> Result<(), AllocError>
     requires { node.0 < length graph.now.facts }
-    ensures { OnOk result (Lists flags.now (λ e. is_leaf_of e ((node_flow graph.now).kind node.0)) list.old.items list.new.items) }
+    ensures { OnOk result (Lists flags.now
+        (λ e. is_leaf_of e ((node_flow graph.now).kind node.0)) list.old.items list.new.items) }
 {
     if let NodeKind::Leaf(element) = graph.kind(node) {
         list_lowered(flags, element, list)?;
@@ -117,7 +121,8 @@ pub(crate) fn list_leaves<F: Copy + Eq + Hash>(
     list: &mut Vec<u32>,
 ) -> Result<(), AllocError>
     requires { All (λ p. p.0 < length graph.now.facts) nodes.now }
-    ensures { OnOk result (Lists flags.now (λ e. leaf_in (node_flow graph.now) e nodes.now) list.old.items list.new.items) }
+    ensures { OnOk result (Lists flags.now
+        (λ e. leaf_in (node_flow graph.now) e nodes.now) list.old.items list.new.items) }
 {
     'nodes: for node in nodes {
         list_leaf(graph, *node, flags, list)?;
@@ -132,7 +137,8 @@ fn flag_leaves<F: Copy + Eq + Hash>(graph: &Graph<F>, reached: &[bool], flags: &
     ensures graph { IsGraph graph.now }
     ensures len { length flags.new ≡ length flags.old }
     ensures leaves { (e : ℕ) → e < length flags.old
-        → TellsLeaf (node_flow graph.now) reached.now (length graph.now.facts) e (flag flags.new e) }
+        → TellsLeaf (node_flow graph.now) reached.now (length graph.now.facts) e
+        (flag flags.new e) }
 {
     'nodes: for number in 0..graph.len() {
         if reached[number as usize] {
@@ -153,7 +159,8 @@ pub(crate) fn elements_reached<F: Copy + Eq + Hash>(
     requires len { length reached.now ≡ length graph.now.facts }
     requires tested { All (λ p. flag reached.now p.0 ≡ true) tested.now }
     requires closed { IsClosed (node_flow graph.now) 0 reached.now }
-    requires within { (e : ℕ) → IsReached (node_flow graph.now) e (map (λ p. p.0) tested.now) reached.now }
+    requires within { (e : ℕ) → IsReached (node_flow graph.now) e
+        (map (λ p. p.0) tested.now) reached.now }
     ensures len { IfOk result (λ flags. length flags.items ≡ elements) }
     ensures some { IfOk result (λ flags. (e : ℕ) → e < elements
         → flag flags.items e ≡ occurs_in (node_flow graph.now) e (map (λ p. p.0) tested.now)) }

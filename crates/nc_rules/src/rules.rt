@@ -10,16 +10,16 @@ use nc_rules_route::{route_parents, rules_are_lawful};
 use nc_tables::Stable;
 use std::alloc::AllocError;
 
-/// The flow graph of every state of a network meets the laws of flow graphs. It does nothing: a caller that needs
-/// the laws calls it.
+/// The flow graph of every state of a network meets the laws of flow graphs. It does nothing: a
+/// caller that needs the laws calls it.
 pub fn rules_make_a_flow()
     ensures { (s : StateView) → IsState s → IsFlow (flow_of s) }
 {
     rules_are_lawful();
 }
 
-/// The rules of a network: its state, which they own, and how many facts were asked for. Nothing gives the state
-/// back, so whatever is inferred of it is counted here.
+/// The rules of a network: its state, which they own, and how many facts were asked for. Nothing
+/// gives the state back, so whatever is inferred of it is counted here.
 #[derive(Drop)]
 pub struct Rules {
     state: Stable,

@@ -20,8 +20,8 @@ fn all_marks(marks: &Marks) -> (Mark, Mark, Mark)
     )
 }
 
-// Tests two facts one after the other, and sees that the marks for three elements are these, and are those
-// for both facts at once.
+// Tests two facts one after the other, and sees that the marks for three elements are these, and
+// are those for both facts at once.
 fn see(
     rt: &impl Abort,
     alloc: Global,
