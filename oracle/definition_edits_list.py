@@ -241,6 +241,7 @@ ROUNDS = of(
     ("accepted_at", "(if has_own_hop m then None else (", "(if is_looped m then None else (", "the own next hop is accepted"),
     ("accepted_at", "(if is_unresolved router m then None", "(if is_looped m then None", "an unresolved next hop is accepted"),
     ("accepted_at", "m.link.receiver.statement.map_in m.route", "m.link.receiver.statement.map_out m.route", "the map for what goes out is used on the way in"),
+    ("entry_at", "internal = a.message.link.session.internal", "internal = false", "what is learnt inside counts as external"),
     ("entry_at", "router_id a.message.link.sender.config", "router_id a.message.link.receiver.config", "the receiver's router id is kept"),
     ("entry_at", "sender = a.message.link.receiver.statement.addr", "sender = a.message.link.sender.statement.addr", "the receiver's address is kept"),
     ("entry_at", "route = a.into.route", "route = a.message.route", "what the map sets isn't kept"),
@@ -317,6 +318,7 @@ FORWARDING = of(
     ("alternatives", "(hits tables router hop)) (bgp_hop", "(hits tables router addr)) (bgp_hop", "a BGP row's hits are those of the address"),
     ("exit_iface", "exit_by_main router addr row (Discard place) hit = None", "exit_by_main router addr row (Discard place) hit = exit_of routers tables router addr place", "an aggregate's way has an interface"),
     ("exit_iface", "(exit_of routers tables router hop) hit)", "(exit_of routers tables router hop) (Some 0))", "a BGP way leaves by the first base row"),
+    ("traces", "arrives_by from Lost = false", "arrives_by from Lost = true", "what is lost arrives"),
     ("traces", "arrives_by from Deliver = true", "arrives_by from Deliver = false", "what is delivered doesn't arrive"),
     ("traces", "nowhere router = false", "nowhere router = true", "without a hop it goes on"),
     ("traces", "some_way passes ways = list_any passes ways", "some_way passes ways = list_all passes ways", "each way has to lead there"),
@@ -328,6 +330,7 @@ FORWARDING = of(
     ("step_at", "goes_on from addr (suc hops) router = from hops router addr", "goes_on from addr (suc hops) router = false", "a step never goes on"),
     ("step_at", "nat_le hops HOP_LIMIT &&", "nat_lt hops HOP_LIMIT &&", "thirty hops are too many"),
     ("step_at", "nat_le hops HOP_LIMIT &&", "nat_le hops 31 &&", "thirty-one hops are not too many"),
+    ("all_step_at", "all_step_at = step_by all_trace", "all_step_at = step_by traces", "one way is enough behind the first step"),
 )
 
 LEVELS = of(

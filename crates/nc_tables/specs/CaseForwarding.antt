@@ -1,6 +1,6 @@
 -- Main tables and forwarding: the nearer of two sides, rows that discard, the alternatives of each kind of row, and packets that arrive
 -- by some way and by every way.
-use Rattle.std.specs.Prelude.{◌≡◌, ℕ, Bool, true, false, List, [], ◌∷◌, Option, Some, None, refl}
+use Rattle.std.specs.Prelude.{◌≡◌, ℕ, Bool, true, false, List, [], ◌∷◌, ◌++◌, Option, Some, None, refl}
 use Rattle.nc_types.specs.Cidr.{Cidr}
 use Rattle.nc_types.specs.Config.{ConfigView}
 use Rattle.nc_types.specs.declared.config.StaticRoute.{StaticRoute}
@@ -185,6 +185,22 @@ pub by_owner : traces branching (base_tables branching) branching_bgp mains 0 1 
     ≡ true ∷ true ∷ []
 unfolding base_table longest main_table traces all_trace
 by_owner = refl
+
+-- what is lost doesn't arrive
+pub by_lost_way : traces branching (base_tables branching) branching_bgp mains 1 0 (address 10 7 0 1) ∷ all_trace branching (base_tables branching) branching_bgp mains 1 0 (address 10 7 0 1) ∷ []
+    ≡ false ∷ false ∷ []
+unfolding base_table longest main_table traces all_trace
+by_lost_way = refl
+
+-- a fourth router that has its one way to the first, from where some way leads on and not every one
+abbrev pub before_branching : List ConfigView
+before_branching = branching ++ (router (interface [] (address 10 1 0 8) (prefix 10 1 0 0 24) ∷ []) (route_to (prefix 10 2 0 0 24) (address 10 1 0 1) ∷ []) None [] [] ∷ [])
+
+pub before_ways : step_at before_branching (base_tables before_branching) branching_bgp (main_tables before_branching (base_tables before_branching) branching_bgp) 3 (address 10 2 0 9) 0 2
+    ∷ all_step_at before_branching (base_tables before_branching) branching_bgp (main_tables before_branching (base_tables before_branching) branching_bgp) 3 (address 10 2 0 9) 0 2 ∷ []
+    ≡ true ∷ false ∷ []
+unfolding base_table longest main_table traces all_trace
+before_ways = refl
 
 -- one step by its number: the first way over one hop to thirty, and neither without a hop nor over more than thirty; the second and a
 -- third, which there isn't, never

@@ -1,5 +1,5 @@
 -- Messages: what is sent of a candidate toward another system and inside the own one, what isn't sent, and what is accepted.
-use Rattle.std.specs.Prelude.{◌≡◌, ℕ, Bool, true, false, List, [], ◌∷◌, length, Option, Some, None, codes, refl}
+use Rattle.std.specs.Prelude.{◌≡◌, ℕ, Bool, true, false, List, [], ◌∷◌, length, map, Option, Some, None, codes, refl}
 use Rattle.std.specs.List.{range_with_len}
 use Rattle.std.specs.Option.{option_map}
 use Rattle.nc_types.specs.Config.{ConfigView, ProcessView, ClauseView}
@@ -232,3 +232,10 @@ denied_in = refl
 pub out_not_in : option_map (λ x. x.route.preference) (learnt (record to_sender { map_out = Some (refers (codes "DENIES")) }) (65001 ∷ []) (address 10 0 12 1)) ≡ Some 100
 unfolding base_table longest verdict
 out_not_in = refl
+
+-- over a session inside the system it is internal
+pub learnt_inside : map (λ k. option_map (λ a. (learnt_from 4 a).internal) (accepted_of (base_tables (receiver (system 65001) ∷ [])) 0 (record (message to_sender (65009 ∷ []) (address 10 0 12 1)) { link = k })))
+    (inside to_receiver ∷ outside to_receiver ∷ [])
+    ≡ Some true ∷ Some false ∷ []
+unfolding base_table longest verdict
+learnt_inside = refl
