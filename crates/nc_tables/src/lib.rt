@@ -10,7 +10,7 @@
 //! `Rounds` for BGP, `Main` and `Forwarding` for main tables and paths, and `State` for all together. `Levels` and
 //! `Settling` have forms of reach, forwarding and the stable state that compute over many hops and rounds;
 //! [`levels_are_lawful`] and [`settling_is_lawful`] promise that they are the same. The definitions are computed on
-//! small networks in `CaseStatics`, `CaseRoutes` and `CasePolicy`.
+//! small networks in the files `Case*`.
 #![tactic(auto)]
 
 mod base;
