@@ -20,8 +20,6 @@ mod runs;
 mod serving;
 mod shown;
 mod status;
-#[cfg(test)]
-mod tests;
 mod words;
 mod work;
 mod writing;
