@@ -1,0 +1,164 @@
+//! Two small networks with a session and its replies, which were worked out by hand.
+
+use crate::network::{Config, Network};
+use std::alloc::{AllocError, Global};
+
+/// A line of a session, without its end, and its reply.
+#[derive(Clone, Copy)]
+pub struct Exchange {
+    /// The line.
+    pub line: &'static [u8],
+    /// The reply; empty where there is none.
+    pub reply: &'static [u8],
+}
+
+/// A network with a session, and how many calls of each object a run makes.
+#[derive(Clone, Copy)]
+pub struct Example {
+    /// What it is called in the rows.
+    pub name: &'static str,
+    /// The files.
+    pub files: &'static [Config],
+    /// The session, line by line.
+    pub exchanges: &'static [Exchange],
+    /// How many calls enter and read the files: each is entered, read, and read again to its end.
+    pub file_calls: u64,
+    /// How many reads take the session, where each takes a line.
+    pub reads: usize,
+    /// How many writes take the replies.
+    pub writes: usize,
+}
+
+// Two routers with a route to one prefix, each by the other.
+const PAIR_FILES: [Config; 2] = [
+    Config {
+        name: "r1.cfg",
+        text: b"hostname r1\ninterface Ethernet0\n ip address 10.0.12.1 255.255.255.252\n\
+            ip route 10.9.0.0 255.255.0.0 10.0.12.2\n",
+    },
+    Config {
+        name: "r2.cfg",
+        text: b"hostname r2\ninterface Ethernet0\n ip address 10.0.12.2 255.255.255.252\n\
+            ip route 10.9.0.0 255.255.0.0 10.0.12.1\n",
+    },
+];
+
+// Two tests between which one is refused, and a line behind the end, which has no reply.
+const PAIR_EXCHANGES: [Exchange; 6] = [
+    Exchange {
+        line: b"rib r1 10.9.0.0/16",
+        reply: b"test 1 facts 6\nstrong 3 weak 0 uncovered 3 outside 2\nr1 .SSS\nr2 .UUU\n",
+    },
+    Exchange {
+        line: b"# a note",
+        reply: b"",
+    },
+    Exchange {
+        line: b"rib r1 10.8.0.0/16",
+        reply: b"refused absent rib r1 10.8.0.0/16\n",
+    },
+    Exchange {
+        line: b"rib r2 10.9.0.0/16 via 10.0.12.1",
+        reply: b"test 2 facts 12\nstrong 6 weak 0 uncovered 0 outside 2\nr1 .SSS\nr2 .SSS\n",
+    },
+    Exchange {
+        line: b"quit",
+        reply: b"",
+    },
+    Exchange {
+        line: b"rib r1 10.9.0.0/16",
+        reply: b"",
+    },
+];
+
+// One router with an interface that is up and one that is shut.
+const SINGLE_FILES: [Config; 1] = [Config {
+    name: "r1.cfg",
+    text: b"!\nhostname r1\ninterface Ethernet0\n description lan\n\
+        \x20ip address 10.0.0.1 255.255.255.0\n!\ninterface Ethernet1\n\
+        \x20ip address 10.0.1.1 255.255.255.0\n shutdown\n",
+}];
+
+// A test, and lines that are refused; the session has no line that ends it.
+const SINGLE_EXCHANGES: [Exchange; 4] = [
+    Exchange {
+        line: b"rib r1 10.0.0.0/24",
+        reply: b"test 1 facts 4\nstrong 2 weak 0 uncovered 3 outside 4\nr1 ..S.S.UUU\n",
+    },
+    Exchange {
+        line: b"rib r1 10.0.1.0/24",
+        reply: b"refused absent rib r1 10.0.1.0/24\n",
+    },
+    Exchange {
+        line: b"rib r2 10.0.0.0/24",
+        reply: b"refused router r2\n",
+    },
+    Exchange {
+        line: b"frob",
+        reply: b"refused syntax\n",
+    },
+];
+
+/// Two routers; the session ends with `quit`.
+pub const PAIR: Example = Example {
+    name: "pair",
+    files: &PAIR_FILES,
+    exchanges: &PAIR_EXCHANGES,
+    file_calls: 6,
+    reads: 5,
+    writes: 3,
+};
+
+/// One router; the session ends with its bytes.
+pub const SINGLE: Example = Example {
+    name: "single",
+    files: &SINGLE_FILES,
+    exchanges: &SINGLE_EXCHANGES,
+    file_calls: 3,
+    reads: 5,
+    writes: 4,
+};
+
+impl Example {
+    /// The session, each line with this end.
+    pub fn session(&self, alloc: Global, end: &[u8]) -> Result<Vec<u8>, AllocError> {
+        let mut session = Vec::new(alloc);
+        for exchange in self.exchanges {
+            session.extend_from_slice(exchange.line)?;
+            session.extend_from_slice(end)?;
+        }
+        Ok(session)
+    }
+
+    /// The replies to the first lines, so many of them as are given.
+    pub fn replies(&self, alloc: Global, lines: usize) -> Result<Vec<u8>, AllocError> {
+        let mut replies = Vec::new(alloc);
+        for exchange in self.exchanges.iter().take(lines) {
+            replies.extend_from_slice(exchange.reply)?;
+        }
+        Ok(replies)
+    }
+
+    /// The replies to all lines.
+    pub fn all_replies(&self, alloc: Global) -> Result<Vec<u8>, AllocError> {
+        self.replies(alloc, self.exchanges.len())
+    }
+
+    /// The first replies that have bytes, so many of them as are given.
+    pub fn written(&self, alloc: Global, writes: usize) -> Result<Vec<u8>, AllocError> {
+        let mut replies = Vec::new(alloc);
+        let mut left = writes;
+        for exchange in self.exchanges {
+            if left > 0 && !exchange.reply.is_empty() {
+                replies.extend_from_slice(exchange.reply)?;
+                left -= 1;
+            }
+        }
+        Ok(replies)
+    }
+
+    /// The words and the files, as a run takes them.
+    pub fn network(&self, alloc: Global) -> Result<Network, AllocError> {
+        Network::of(alloc, self.files)
+    }
+}

@@ -1,0 +1,156 @@
+//! Each call of each object failing in turn, a sink with little room, and files that are cut.
+
+use crate::example::Example;
+use crate::judging::{Expectation, Verdict};
+use crate::network::{Config, Network};
+use crate::row::Row;
+use crate::trial::{Failing, Pieces, Trial};
+use nc_session::Status;
+use std::alloc::{AllocError, Global};
+
+// Each call of the files fails in turn, and then one behind the last, which is never made.
+fn file_calls(alloc: Global, example: &Example) -> Result<Verdict, AllocError> {
+    let session = example.session(alloc, b"\n")?;
+    let replies = example.all_replies(alloc)?;
+    let network = example.network(alloc)?;
+    let trial = Trial::new(&network, &session);
+    let mut verdict = Verdict::new();
+    for number in 0..example.file_calls {
+        let wanted = Expectation::of(Status::FileFault, b"");
+        verdict = verdict.and(alloc, trial.where_fails(Failing::Files(number)), wanted)?;
+    }
+    let behind = trial.where_fails(Failing::Files(example.file_calls));
+    verdict.and(alloc, behind, Expectation::done(&replies))
+}
+
+// Each read of a line fails in turn, and then one behind the last, which is never made: the lines before are
+// answered.
+fn reads(alloc: Global, example: &Example) -> Result<Verdict, AllocError> {
+    let session = example.session(alloc, b"\n")?;
+    let replies = example.all_replies(alloc)?;
+    let network = example.network(alloc)?;
+    let trial = Trial::new(&network, &session).in_pieces(Pieces::Lines);
+    let mut verdict = Verdict::new();
+    for number in 0..example.reads {
+        let answered = example.replies(alloc, number)?;
+        let wanted = Expectation::of(Status::InputFault, &answered);
+        verdict = verdict.and(
+            alloc,
+            trial.where_fails(Failing::Read(number as u64)),
+            wanted,
+        )?;
+    }
+    let behind = trial.where_fails(Failing::Read(example.reads as u64));
+    verdict.and(alloc, behind, Expectation::done(&replies))
+}
+
+// Each write of a reply fails in turn, and then one behind the last: the replies before stand written.
+fn writes(alloc: Global, example: &Example) -> Result<Verdict, AllocError> {
+    let session = example.session(alloc, b"\n")?;
+    let replies = example.all_replies(alloc)?;
+    let network = example.network(alloc)?;
+    let trial = Trial::new(&network, &session);
+    let mut verdict = Verdict::new();
+    for number in 0..example.writes {
+        let written = example.written(alloc, number)?;
+        let wanted = Expectation::of(Status::OutputFault, &written);
+        verdict = verdict.and(
+            alloc,
+            trial.where_fails(Failing::Write(number as u64)),
+            wanted,
+        )?;
+    }
+    let behind = trial.where_fails(Failing::Write(example.writes as u64));
+    verdict.and(alloc, behind, Expectation::done(&replies))
+}
+
+// The sink has room for no byte, for one, and so on up to all: what fits stands written.
+fn rooms(alloc: Global, example: &Example) -> Result<Verdict, AllocError> {
+    let session = example.session(alloc, b"\n")?;
+    let replies = example.all_replies(alloc)?;
+    let network = example.network(alloc)?;
+    let trial = Trial::new(&network, &session);
+    let mut verdict = Verdict::new();
+    for room in 0..replies.len() {
+        let wanted = Expectation::of(Status::OutputFault, replies.split_at(room).0);
+        verdict = verdict.and(alloc, trial.where_fails(Failing::Room(room)), wanted)?;
+    }
+    let whole = trial.where_fails(Failing::Room(replies.len()));
+    verdict.and(alloc, whole, Expectation::done(&replies))
+}
+
+// With a run more, which reads its files or refuses one of them.
+fn is_read_or_refused(
+    alloc: Global,
+    trial: Trial<'_>,
+    runs: Verdict,
+) -> Result<Verdict, AllocError> {
+    let ran = trial.run(alloc)?;
+    let is_refused = ran.written.starts_with(b"refused config ");
+    let is_met = ran.status == Status::Done.number() && !is_refused
+        || ran.status == Status::Config.number() && is_refused;
+    Ok(runs.with(&ran, is_met))
+}
+
+// The network of these files, of which one ends behind so many bytes.
+fn with_cut(
+    alloc: Global,
+    files: &[Config],
+    cut: &Config,
+    size: usize,
+) -> Result<Network, AllocError> {
+    let mut network = Network::new(alloc);
+    for file in files {
+        let text = if file.name == cut.name {
+            file.text.get(..size).unwrap_or(file.text)
+        } else {
+            file.text
+        };
+        network.add_file(alloc, file.name, text)?;
+    }
+    Ok(network)
+}
+
+// One file is cut behind each of its bytes in turn: it is read, or it is refused.
+fn cuts_of(
+    alloc: Global,
+    example: &Example,
+    cut: &Config,
+    runs: Verdict,
+) -> Result<Verdict, AllocError> {
+    let mut verdict = runs;
+    for size in 0..cut.text.len() {
+        let network = with_cut(alloc, example.files, cut, size)?;
+        verdict = is_read_or_refused(alloc, Trial::new(&network, b""), verdict)?;
+    }
+    Ok(verdict)
+}
+
+// Each file is cut behind each of its bytes in turn.
+fn cut_files(alloc: Global, example: &Example) -> Result<Verdict, AllocError> {
+    let mut verdict = Verdict::new();
+    for file in example.files {
+        verdict = cuts_of(alloc, example, file, verdict)?;
+    }
+    Ok(verdict)
+}
+
+/// The rows of runs of which a call fails, or a file is cut.
+///
+/// # Errors
+///
+/// No memory for the rows or the objects of a run.
+pub fn add_faults(alloc: Global, example: &Example, rows: &mut Vec<Row>) -> Result<(), AllocError> {
+    let over = example.name;
+    let verdict = file_calls(alloc, example)?;
+    rows.push(Row::new(over, "each call of the files fails", verdict))?;
+    let verdict = reads(alloc, example)?;
+    rows.push(Row::new(over, "each read fails", verdict))?;
+    let verdict = writes(alloc, example)?;
+    rows.push(Row::new(over, "each write fails", verdict))?;
+    let verdict = rooms(alloc, example)?;
+    rows.push(Row::new(over, "room for fewer bytes", verdict))?;
+    let verdict = cut_files(alloc, example)?;
+    rows.push(Row::new(over, "a file cut at each place", verdict))?;
+    Ok(())
+}

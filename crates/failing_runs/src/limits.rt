@@ -1,0 +1,207 @@
+//! Each limit, and one past it.
+
+use crate::example::SINGLE;
+use crate::judging::{Expectation, Verdict};
+use crate::lines::filled;
+use crate::network::Network;
+use crate::row::Row;
+use crate::trial::{Failing, Trial};
+use nc_session::{FILE_LIMIT, SESSION_LIMIT, Status, TEST_LIMIT};
+use std::alloc::{AllocError, Global};
+
+// How many files a network may have.
+const ROUTERS: usize = 256;
+
+// How many lines a file may have.
+const LINES: usize = 65_535;
+
+// How many prefixes a network may have.
+const PREFIXES: usize = 1_024;
+
+// How many bytes a note has in a long session, line feed included.
+const NOTE: usize = 4_096;
+
+// How many of them a session has at its limit.
+const NOTES: usize = 4_096;
+
+// The bytes of a first line, and then one line many times.
+fn repeated(alloc: Global, first: &[u8], line: &[u8], times: usize) -> Result<Vec<u8>, AllocError> {
+    let mut bytes = first.to_vec(alloc)?;
+    for _ in 0..times {
+        bytes.extend_from_slice(line)?;
+    }
+    Ok(bytes)
+}
+
+// One run over a single file, with no session.
+fn over_file(alloc: Global, text: &[u8], wanted: Expectation<'_>) -> Result<Verdict, AllocError> {
+    let mut network = Network::new(alloc);
+    network.add_file(alloc, "r1.cfg", text)?;
+    Verdict::of(alloc, Trial::new(&network, b""), wanted)
+}
+
+// One run over a single router with this session.
+fn over_session(
+    alloc: Global,
+    session: &[u8],
+    wanted: Expectation<'_>,
+) -> Result<Verdict, AllocError> {
+    let network = SINGLE.network(alloc)?;
+    Verdict::of(alloc, Trial::new(&network, session), wanted)
+}
+
+// The refusal of a quantity that passes its limit.
+fn over_limit(text: &[u8]) -> Expectation<'_> {
+    Expectation::of(Status::Limit, text)
+}
+
+// A run over so many routers, each with a file of its own.
+fn over_routers(
+    alloc: Global,
+    count: usize,
+    wanted: Expectation<'_>,
+) -> Result<Verdict, AllocError> {
+    let mut network = Network::new(alloc);
+    for number in 0..count {
+        let name = format!(in alloc; "r{number}")?;
+        let text = format!(in alloc; "hostname r{number}\n")?;
+        network.add_file(alloc, name.as_str(), text.as_str().as_bytes())?;
+    }
+    Verdict::of(alloc, Trial::new(&network, b""), wanted)
+}
+
+// A run over so many words for a file that isn't there, where the first call of the files would fail besides.
+fn over_words(alloc: Global, count: usize, wanted: Expectation<'_>) -> Result<Verdict, AllocError> {
+    let mut network = Network::new(alloc);
+    for _ in 0..count {
+        network.add_word(alloc, "r1.cfg")?;
+    }
+    let trial = Trial::new(&network, b"").where_fails(Failing::Files(0));
+    Verdict::of(alloc, trial, wanted)
+}
+
+// A router with so many static routes of prefixes that differ.
+fn with_routes(alloc: Global, count: usize) -> Result<Vec<u8>, AllocError> {
+    let mut text = b"hostname r1\n".to_vec(alloc)?;
+    for number in 0..count {
+        let (high, low) = (number / 256, number % 256);
+        let line = format!(in alloc; "ip route 10.{high}.{low}.0 255.255.255.0 Null0\n")?;
+        text.extend_from_slice(line.as_str().as_bytes())?;
+    }
+    Ok(text)
+}
+
+// The replies to so many tests of one route.
+fn test_replies(alloc: Global, count: usize) -> Result<Vec<u8>, AllocError> {
+    let mut replies = Vec::new(alloc);
+    for number in 1..count.saturating_add(1) {
+        let head = format!(in alloc; "test {number} facts 4\n")?;
+        replies.extend_from_slice(head.as_str().as_bytes())?;
+        replies.extend_from_slice(b"strong 2 weak 0 uncovered 3 outside 4\nr1 ..S.S.UUU\n")?;
+    }
+    Ok(replies)
+}
+
+// The rows on how many files there are.
+fn add_routers(alloc: Global, rows: &mut Vec<Row>) -> Result<(), AllocError> {
+    let past = over_limit(b"refused limit routers\n");
+    let absent = Expectation::of(Status::FileFault, b"");
+    let verdict = over_routers(alloc, ROUTERS, Expectation::done(b""))?;
+    rows.push(Row::new("limits", "256 files", verdict))?;
+    let verdict = over_routers(alloc, ROUTERS + 1, past)?;
+    rows.push(Row::new("limits", "257 files", verdict))?;
+    let verdict = over_words(alloc, ROUTERS, absent)?;
+    rows.push(Row::new("limits", "256 words, the first file not there", verdict))?;
+    let verdict = over_words(alloc, ROUTERS + 1, past)?;
+    rows.push(Row::new("limits", "257 words, none of them entered", verdict))?;
+    Ok(())
+}
+
+// The rows on how large a file is.
+fn add_files(alloc: Global, rows: &mut Vec<Row>) -> Result<(), AllocError> {
+    let done = Expectation::done(b"");
+    let mut text = filled(alloc, b"hostname r1\n!", b'x', FILE_LIMIT)?;
+    let verdict = over_file(alloc, &text, done)?;
+    rows.push(Row::new("limits", "a file of 4,194,304 bytes", verdict))?;
+    text.push(b'x')?;
+    let verdict = over_file(alloc, &text, over_limit(b"refused limit bytes\n"))?;
+    rows.push(Row::new("limits", "a file of one byte more", verdict))?;
+    let mut text = repeated(alloc, b"hostname r1\n", b"!\n", LINES - 1)?;
+    let verdict = over_file(alloc, &text, done)?;
+    rows.push(Row::new("limits", "a file of 65,535 lines", verdict))?;
+    text.push(b'!')?;
+    let verdict = over_file(alloc, &text, over_limit(b"refused limit lines\n"))?;
+    rows.push(Row::new("limits", "a file of one line more", verdict))?;
+    Ok(())
+}
+
+// The rows on how many prefixes there are.
+fn add_prefixes(alloc: Global, rows: &mut Vec<Row>) -> Result<(), AllocError> {
+    let text = with_routes(alloc, PREFIXES)?;
+    let verdict = over_file(alloc, &text, Expectation::done(b""))?;
+    rows.push(Row::new("limits", "1,024 prefixes", verdict))?;
+    let text = with_routes(alloc, PREFIXES + 1)?;
+    let verdict = over_file(alloc, &text, over_limit(b"refused limit prefixes\n"))?;
+    rows.push(Row::new("limits", "1,025 prefixes", verdict))?;
+    Ok(())
+}
+
+// A session of so many notes of 4,096 bytes each, line feed included, and then these bytes.
+fn notes(alloc: Global, count: usize, last: &[u8]) -> Result<Vec<u8>, AllocError> {
+    let mut note = filled(alloc, b"#", b'x', NOTE - 1)?;
+    note.push(b'\n')?;
+    let mut session = repeated(alloc, b"", &note, count)?;
+    session.extend_from_slice(last)?;
+    Ok(session)
+}
+
+// A session with a `quit` whose line feed is at this place, counted from 1, and a line behind it.
+fn quit_at(alloc: Global, place: usize) -> Result<Vec<u8>, AllocError> {
+    let mut session = notes(alloc, NOTES - 1, b"#")?;
+    let behind = place.saturating_sub(session.len().saturating_add(6));
+    session.extend_from_slice(&filled(alloc, b"", b'x', behind)?)?;
+    session.extend_from_slice(b"\nquit\nfrob\n")?;
+    Ok(session)
+}
+
+// The rows on how long a session is.
+fn add_sessions(alloc: Global, rows: &mut Vec<Row>) -> Result<(), AllocError> {
+    let done = Expectation::done(b"");
+    let past = over_limit(b"refused limit session\n");
+    let verdict = over_session(alloc, &notes(alloc, NOTES, b"")?, done)?;
+    rows.push(Row::new("limits", "a session of 16,777,216 bytes", verdict))?;
+    let verdict = over_session(alloc, &notes(alloc, NOTES, b"#")?, past)?;
+    rows.push(Row::new("limits", "a session of one byte more", verdict))?;
+    let verdict = over_session(alloc, &quit_at(alloc, SESSION_LIMIT)?, done)?;
+    rows.push(Row::new("limits", "quit at the limit of a longer session", verdict))?;
+    let verdict = over_session(alloc, &quit_at(alloc, SESSION_LIMIT + 1)?, past)?;
+    rows.push(Row::new("limits", "quit one byte past the limit", verdict))?;
+    Ok(())
+}
+
+// The rows on how many tests are accepted.
+fn add_tests(alloc: Global, rows: &mut Vec<Row>) -> Result<(), AllocError> {
+    let line = b"rib r1 10.0.0.0/24\n";
+    let mut session = repeated(alloc, b"", line, TEST_LIMIT)?;
+    let mut replies = test_replies(alloc, TEST_LIMIT)?;
+    let verdict = over_session(alloc, &session, Expectation::done(&replies))?;
+    rows.push(Row::new("limits", "4,096 tests", verdict))?;
+    session.extend_from_slice(line)?;
+    replies.extend_from_slice(b"refused limit tests\n")?;
+    let verdict = over_session(alloc, &session, Expectation::done(&replies))?;
+    rows.push(Row::new("limits", "4,097 tests", verdict))?;
+    Ok(())
+}
+
+/// The rows on limits.
+///
+/// # Errors
+///
+/// No memory for the rows or the objects of a run.
+pub fn add_limits(alloc: Global, rows: &mut Vec<Row>) -> Result<(), AllocError> {
+    add_routers(alloc, rows)?;
+    add_files(alloc, rows)?;
+    add_prefixes(alloc, rows)?;
+    add_sessions(alloc, rows)?;
+    add_tests(alloc, rows)
+}

@@ -1,0 +1,124 @@
+//! Session lines about as long as a line may be, cut at many places.
+
+use crate::cutting::at_each_place;
+use crate::example::SINGLE;
+use crate::judging::{Expectation, Verdict};
+use crate::row::Row;
+use crate::trial::{Pieces, Trial};
+use std::alloc::{AllocError, Global};
+
+// A long line, and its reply.
+#[derive(Clone, Copy)]
+struct LongLine {
+    name: &'static str,
+    // The bytes that it begins with.
+    head: &'static [u8],
+    // The byte behind them, up to its size.
+    fill: u8,
+    // How many bytes it has, without its end.
+    size: usize,
+    end: &'static [u8],
+    reply: &'static [u8],
+}
+
+// From which place on the lines are cut in two.
+const FIRST_CUT: usize = 4_085;
+
+const LONG_LINES: [LongLine; 7] = [
+    LongLine {
+        name: "a line of 4,096 bytes",
+        head: b"",
+        fill: b'a',
+        size: 4_096,
+        end: b"\n",
+        reply: b"refused syntax\n",
+    },
+    LongLine {
+        name: "a line of 4,097 bytes",
+        head: b"",
+        fill: b'a',
+        size: 4_097,
+        end: b"\n",
+        reply: b"refused long\n",
+    },
+    LongLine {
+        name: "a line of 4,096 bytes with a carriage return",
+        head: b"",
+        fill: b'a',
+        size: 4_096,
+        end: b"\r\n",
+        reply: b"refused syntax\n",
+    },
+    LongLine {
+        name: "a line of 4,097 bytes with a carriage return",
+        head: b"",
+        fill: b'a',
+        size: 4_097,
+        end: b"\r\n",
+        reply: b"refused long\n",
+    },
+    LongLine {
+        name: "a test of 4,096 bytes",
+        head: b"rib r1 10.0.0.0/24",
+        fill: b' ',
+        size: 4_096,
+        end: b"\n",
+        reply: b"test 1 facts 4\nstrong 2 weak 0 uncovered 3 outside 4\nr1 ..S.S.UUU\n",
+    },
+    LongLine {
+        name: "a test of 4,097 bytes",
+        head: b"rib r1 10.0.0.0/24",
+        fill: b' ',
+        size: 4_097,
+        end: b"\n",
+        reply: b"refused long\n",
+    },
+    LongLine {
+        name: "a note of 4,200 bytes",
+        head: b"# ",
+        fill: b'x',
+        size: 4_200,
+        end: b"\n",
+        reply: b"refused long\n",
+    },
+];
+
+/// Bytes that begin so, and go on with one byte up to that size.
+///
+/// # Errors
+///
+/// No memory for them.
+pub fn filled(alloc: Global, head: &[u8], fill: u8, size: usize) -> Result<Vec<u8>, AllocError> {
+    let mut bytes = head.to_vec(alloc)?;
+    for _ in head.len()..size {
+        bytes.push(fill)?;
+    }
+    Ok(bytes)
+}
+
+// What comes of a session of a long line and one more: at once, byte by byte, and cut at places near its end.
+fn judge(alloc: Global, line: &LongLine) -> Result<Verdict, AllocError> {
+    let mut session = filled(alloc, line.head, line.fill, line.size)?;
+    session.extend_from_slice(line.end)?;
+    session.extend_from_slice(b"frob\n")?;
+    let mut replies = line.reply.to_vec(alloc)?;
+    replies.extend_from_slice(b"refused syntax\n")?;
+    let wanted = Expectation::done(&replies);
+    let network = SINGLE.network(alloc)?;
+    let trial = Trial::new(&network, &session);
+    let cuts = at_each_place(alloc, trial, FIRST_CUT, wanted)?;
+    let whole = cuts.and(alloc, trial, wanted)?;
+    whole.and(alloc, trial.in_pieces(Pieces::Bytes), wanted)
+}
+
+/// The rows on long lines.
+///
+/// # Errors
+///
+/// No memory for the rows or the objects of a run.
+pub fn add_long_lines(alloc: Global, rows: &mut Vec<Row>) -> Result<(), AllocError> {
+    for line in &LONG_LINES {
+        rows.push(Row::new(SINGLE.name, line.name, judge(alloc, line)?))?;
+    }
+    Ok(())
+}

@@ -1,0 +1,71 @@
+//! Runs over objects in memory that are cut, that fail or that meet a limit, each compared with what is expected.
+//!
+//! A session comes in pieces or with carriage returns; each call of the files, of the session's source and of the
+//! sink fails in turn; the sink has little room; a file is cut behind each of its bytes; and each limit is met
+//! and passed. The program prints a line for each kind of such runs and, last, how many kinds passed; it ends
+//! with 1 where one failed. What it prints is compared with a stored text, so a kind is added without a proof.
+//!
+//! One promise is proved besides safety: [`steady::run_in_memory`], over objects of which none can fail, ends as
+//! the words, the files and the session have it, or for want of memory. The crate stands on `nc_session` for the
+//! run, on `nc_outside` for the objects in memory, on `nc_types` for names and on `nc_tables` for what a state is.
+#![tactic(auto)]
+
+mod cutting;
+mod ending;
+mod example;
+mod faults;
+mod judging;
+mod limits;
+mod lines;
+mod network;
+mod row;
+mod steady;
+mod trial;
+
+use example::{Example, PAIR, SINGLE};
+use judging::Verdict;
+use nc_session::Status;
+use network::Network;
+use row::Row;
+use std::alloc::{AllocError, Global};
+use std::io;
+use std::process::ExitCode;
+use steady::run_in_memory;
+
+// The row of a run over objects that can't fail.
+fn steady_row(alloc: Global, example: &Example) -> Result<Row, AllocError> {
+    let Network { words, files } = example.network(alloc)?;
+    let session = example.session(alloc, b"\n")?;
+    let status = run_in_memory(alloc, &words, files, session);
+    let verdict = Verdict::of_status(status, Status::Done);
+    Ok(Row::new(example.name, "nothing can fail", verdict))
+}
+
+// All rows, in order.
+fn all_rows(alloc: Global) -> Result<Vec<Row>, AllocError> {
+    let mut rows = Vec::new(alloc);
+    rows.push(steady_row(alloc, &PAIR)?)?;
+    rows.push(steady_row(alloc, &SINGLE)?)?;
+    cutting::add_cutting(alloc, &PAIR, &mut rows)?;
+    cutting::add_cutting(alloc, &SINGLE, &mut rows)?;
+    faults::add_faults(alloc, &PAIR, &mut rows)?;
+    faults::add_faults(alloc, &SINGLE, &mut rows)?;
+    ending::add_endings(alloc, &mut rows)?;
+    lines::add_long_lines(alloc, &mut rows)?;
+    limits::add_limits(alloc, &mut rows)?;
+    Ok(rows)
+}
+
+fn main(rt: HostRuntime) -> io::Result<ExitCode> {
+    let rows = all_rows(rt.alloc())?;
+    let mut passed = 0usize;
+    for row in &rows {
+        println!(rt; "{row}")?;
+        if row.verdict.is_fine() {
+            passed = passed.saturating_add(1);
+        }
+    }
+    let failed = rows.len().saturating_sub(passed);
+    println!(rt; "{passed} passed, {failed} failed")?;
+    Ok(ExitCode::from(u8::from(failed > 0)))
+}

@@ -1,0 +1,184 @@
+//! One run over objects in memory: what it is given, what of it fails, and what came of it.
+
+ghost use Rattle.std.specs.Prelude.{◌<◌, All, IfOk};
+
+use crate::network::Network;
+use nc_outside::{MemFiles, MemSink, MemSource};
+use nc_session::run;
+use std::alloc::{AllocError, Global};
+
+// Room for all replies of a run, in bytes.
+const ROOM: usize = 524_288;
+
+/// In which pieces a session is read.
+#[derive(Clone, Copy)]
+pub enum Pieces {
+    /// As many bytes as fit at once.
+    Whole,
+    /// One byte at a time.
+    Bytes,
+    /// So many bytes first, then as many as fit.
+    Cut(usize),
+    /// A line at a time, through its line feed.
+    Lines,
+}
+
+/// What fails of the three objects.
+#[derive(Clone, Copy)]
+pub enum Failing {
+    /// Nothing.
+    Nothing,
+    /// The call of the files with this number, from 0, entering and reading counted together.
+    Files(u64),
+    /// The read of the session with this number, from 0.
+    Read(u64),
+    /// The write with this number, from 0.
+    Write(u64),
+    /// Each write behind so many bytes.
+    Room(usize),
+}
+
+/// What a run is given, and what of it fails.
+#[derive(Clone, Copy)]
+pub struct Trial<'a> {
+    /// The words and the files.
+    pub network: &'a Network,
+    /// The bytes of the session.
+    pub session: &'a [u8],
+    /// In which pieces they are read.
+    pub pieces: Pieces,
+    /// What fails.
+    pub failing: Failing,
+}
+
+/// What came of a run.
+#[derive(Drop)]
+pub struct Ran {
+    /// The number of its status, 0 to 8.
+    pub status: u8,
+    /// The bytes that were written.
+    pub written: Vec<u8>,
+}
+
+impl Failing {
+    // The numbers of the calls of the files that fail.
+    fn file_calls(self, alloc: Global) -> Result<Vec<u64>, AllocError> {
+        match self {
+            Failing::Files(number) => Ok(vec![in alloc; number]?),
+            _ => Ok(Vec::new(alloc)),
+        }
+    }
+
+    // The numbers of the reads that fail.
+    fn reads(self, alloc: Global) -> Result<Vec<u64>, AllocError> {
+        match self {
+            Failing::Read(number) => Ok(vec![in alloc; number]?),
+            _ => Ok(Vec::new(alloc)),
+        }
+    }
+
+    // A sink that fails so, with room for all replies unless that is what it lacks.
+    fn sink(self, alloc: Global) -> Result<MemSink, AllocError> {
+        match self {
+            Failing::Write(number) => MemSink::new(alloc, ROOM, vec![in alloc; number]?),
+            Failing::Room(room) => MemSink::new(alloc, room, Vec::new(alloc)),
+            _ => MemSink::new(alloc, ROOM, Vec::new(alloc)),
+        }
+    }
+}
+
+// How many bytes each line of a text has, with its line feed.
+fn line_sizes(alloc: Global, text: &[u8]) -> Result<Vec<usize>, AllocError> {
+    let mut sizes = Vec::new(alloc);
+    for line in text.split(|b| *b == b'\n') {
+        sizes.push(line.len().saturating_add(1))?;
+    }
+    Ok(sizes)
+}
+
+impl Pieces {
+    // The most that each of the first reads gives; 0 for a read that gives what fits.
+    fn sizes(self, alloc: Global, session: &[u8]) -> Result<Vec<usize>, AllocError> {
+        match self {
+            Pieces::Whole => Ok(Vec::new(alloc)),
+            Pieces::Bytes => Ok(vec![in alloc; 1; session.len()]?),
+            Pieces::Cut(size) => Ok(vec![in alloc; size]?),
+            Pieces::Lines => line_sizes(alloc, session),
+        }
+    }
+}
+
+// The sizes of which a source can be made: those that aren't 0.
+fn positive(alloc: Global, sizes: &[usize]) -> Result<Vec<usize>, AllocError>
+    ensures { IfOk result (λ kept. All (λ size. 0 < size) kept.items) }
+{
+    let mut kept = Vec::new(alloc);
+    for size in sizes {
+        if *size > 0 {
+            kept.push(*size)?;
+        }
+    }
+    Ok(kept)
+}
+
+// A source of a session.
+fn source_of(alloc: Global, trial: &Trial<'_>) -> Result<MemSource, AllocError> {
+    let sizes = trial.pieces.sizes(alloc, trial.session)?;
+    let pieces = positive(alloc, &sizes)?;
+    let session = trial.session.to_vec(alloc)?;
+    Ok(MemSource::new(session, pieces, trial.failing.reads(alloc)?))
+}
+
+// The number of the status with which a run over these objects ends.
+fn status_over(
+    alloc: Global,
+    words: &[String],
+    files: &mut MemFiles,
+    input: &mut MemSource,
+    output: &mut MemSink,
+) -> u8 {
+    run(alloc, words, files, input, output).number()
+}
+
+impl<'a> Trial<'a> {
+    /// A run over this network in which nothing fails and the session comes at once.
+    pub fn new(network: &'a Network, session: &'a [u8]) -> Trial<'a> {
+        Trial {
+            network,
+            session,
+            pieces: Pieces::Whole,
+            failing: Failing::Nothing,
+        }
+    }
+
+    /// The same, with the session in such pieces.
+    pub fn in_pieces(self, pieces: Pieces) -> Trial<'a> {
+        Trial { pieces, ..self }
+    }
+
+    /// The same, where this fails.
+    pub fn where_fails(self, failing: Failing) -> Trial<'a> {
+        Trial { failing, ..self }
+    }
+
+    /// Makes the run.
+    ///
+    /// # Errors
+    ///
+    /// No memory for the objects. Want of memory in the run itself is its status 7.
+    pub fn run(self, alloc: Global) -> Result<Ran, AllocError> {
+        let fails = self.failing.file_calls(alloc)?;
+        let mut files = MemFiles::new(self.network.copied_files(alloc)?, fails);
+        let mut input = source_of(alloc, &self)?;
+        let mut output = self.failing.sink(alloc)?;
+        let status = status_over(
+            alloc,
+            &self.network.words,
+            &mut files,
+            &mut input,
+            &mut output,
+        );
+        let written = output.written().to_vec(alloc)?;
+        Ok(Ran { status, written })
+    }
+}
