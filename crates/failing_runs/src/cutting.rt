@@ -6,8 +6,8 @@ use crate::row::Row;
 use crate::trial::{Pieces, Trial};
 use std::alloc::{AllocError, Global};
 
-/// The session cut into two pieces, once behind so many of its bytes, once behind one more, and so on up to the
-/// last but one.
+/// The session cut into two pieces, once behind so many of its bytes, once behind one more, and so
+/// on up to the last but one.
 ///
 /// # Errors
 ///

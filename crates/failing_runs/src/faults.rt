@@ -23,8 +23,8 @@ fn file_calls(alloc: Global, example: &Example) -> Result<Verdict, AllocError> {
     verdict.and(alloc, behind, Expectation::done(&replies))
 }
 
-// Each read of a line fails in turn, and then one behind the last, which is never made: the lines before are
-// answered.
+// Each read of a line fails in turn, and then one behind the last, which is never made: the lines
+// before are answered.
 fn reads(alloc: Global, example: &Example) -> Result<Verdict, AllocError> {
     let session = example.session(alloc, b"\n")?;
     let replies = example.all_replies(alloc)?;
@@ -44,7 +44,8 @@ fn reads(alloc: Global, example: &Example) -> Result<Verdict, AllocError> {
     verdict.and(alloc, behind, Expectation::done(&replies))
 }
 
-// Each write of a reply fails in turn, and then one behind the last: the replies before stand written.
+// Each write of a reply fails in turn, and then one behind the last: the replies before stand
+// written.
 fn writes(alloc: Global, example: &Example) -> Result<Verdict, AllocError> {
     let session = example.session(alloc, b"\n")?;
     let replies = example.all_replies(alloc)?;

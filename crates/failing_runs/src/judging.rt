@@ -65,7 +65,8 @@ impl Verdict {
         Ok(self.with(&ran, is_met))
     }
 
-    /// With one more run, of which is said whether it came to what it must. The first wrong run stays.
+    /// With one more run, of which is said whether it came to what it must. The first wrong run
+    /// stays.
     pub fn with(self, ran: &Ran, is_met: bool) -> Verdict {
         match self {
             Verdict::Fine(runs) if is_met => Verdict::Fine(runs.saturating_add(1)),

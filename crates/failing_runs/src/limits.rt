@@ -6,11 +6,16 @@ use crate::lines::filled;
 use crate::network::Network;
 use crate::row::Row;
 use crate::trial::{Failing, Trial};
-use nc_session::{FILE_LIMIT, SESSION_LIMIT, Status, TEST_LIMIT};
+use nc_session::Status;
 use std::alloc::{AllocError, Global};
+
+// The limits stand here as the documents have them, so a change of one in the code is seen.
 
 // How many files a network may have.
 const ROUTERS: usize = 256;
+
+// How many bytes a file may have.
+const BYTES: usize = 4_194_304;
 
 // How many lines a file may have.
 const LINES: usize = 65_535;
@@ -18,10 +23,16 @@ const LINES: usize = 65_535;
 // How many prefixes a network may have.
 const PREFIXES: usize = 1_024;
 
+// How many bytes a session may have.
+const SESSION: usize = 16_777_216;
+
+// How many tests are accepted.
+const TESTS: usize = 4_096;
+
 // How many bytes a note has in a long session, line feed included.
 const NOTE: usize = 4_096;
 
-// How many of them a session has at its limit.
+// How many such notes a session has at its limit.
 const NOTES: usize = 4_096;
 
 // The bytes of a first line, and then one line many times.
@@ -70,7 +81,8 @@ fn over_routers(
     Verdict::of(alloc, Trial::new(&network, b""), wanted)
 }
 
-// A run over so many words for a file that isn't there, where the first call of the files would fail besides.
+// A run over so many words for a file that isn't there, where the first call of the files would
+// fail besides.
 fn over_words(alloc: Global, count: usize, wanted: Expectation<'_>) -> Result<Verdict, AllocError> {
     let mut network = Network::new(alloc);
     for _ in 0..count {
@@ -120,7 +132,7 @@ fn add_routers(alloc: Global, rows: &mut Vec<Row>) -> Result<(), AllocError> {
 // The rows on how large a file is.
 fn add_files(alloc: Global, rows: &mut Vec<Row>) -> Result<(), AllocError> {
     let done = Expectation::done(b"");
-    let mut text = filled(alloc, b"hostname r1\n!", b'x', FILE_LIMIT)?;
+    let mut text = filled(alloc, b"hostname r1\n!", b'x', BYTES)?;
     let verdict = over_file(alloc, &text, done)?;
     rows.push(Row::new("limits", "a file of 4,194,304 bytes", verdict))?;
     text.push(b'x')?;
@@ -172,9 +184,9 @@ fn add_sessions(alloc: Global, rows: &mut Vec<Row>) -> Result<(), AllocError> {
     rows.push(Row::new("limits", "a session of 16,777,216 bytes", verdict))?;
     let verdict = over_session(alloc, &notes(alloc, NOTES, b"#")?, past)?;
     rows.push(Row::new("limits", "a session of one byte more", verdict))?;
-    let verdict = over_session(alloc, &quit_at(alloc, SESSION_LIMIT)?, done)?;
+    let verdict = over_session(alloc, &quit_at(alloc, SESSION)?, done)?;
     rows.push(Row::new("limits", "quit at the limit of a longer session", verdict))?;
-    let verdict = over_session(alloc, &quit_at(alloc, SESSION_LIMIT + 1)?, past)?;
+    let verdict = over_session(alloc, &quit_at(alloc, SESSION + 1)?, past)?;
     rows.push(Row::new("limits", "quit one byte past the limit", verdict))?;
     Ok(())
 }
@@ -182,8 +194,8 @@ fn add_sessions(alloc: Global, rows: &mut Vec<Row>) -> Result<(), AllocError> {
 // The rows on how many tests are accepted.
 fn add_tests(alloc: Global, rows: &mut Vec<Row>) -> Result<(), AllocError> {
     let line = b"rib r1 10.0.0.0/24\n";
-    let mut session = repeated(alloc, b"", line, TEST_LIMIT)?;
-    let mut replies = test_replies(alloc, TEST_LIMIT)?;
+    let mut session = repeated(alloc, b"", line, TESTS)?;
+    let mut replies = test_replies(alloc, TESTS)?;
     let verdict = over_session(alloc, &session, Expectation::done(&replies))?;
     rows.push(Row::new("limits", "4,096 tests", verdict))?;
     session.extend_from_slice(line)?;

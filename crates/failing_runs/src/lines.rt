@@ -96,7 +96,8 @@ pub fn filled(alloc: Global, head: &[u8], fill: u8, size: usize) -> Result<Vec<u
     Ok(bytes)
 }
 
-// What comes of a session of a long line and one more: at once, byte by byte, and cut at places near its end.
+// What comes of a session of a long line and one more: at once, byte by byte, and cut at places
+// near its end.
 fn judge(alloc: Global, line: &LongLine) -> Result<Verdict, AllocError> {
     let mut session = filled(alloc, line.head, line.fill, line.size)?;
     session.extend_from_slice(line.end)?;

@@ -1,13 +1,16 @@
-//! Runs over objects in memory that are cut, that fail or that meet a limit, each compared with what is expected.
+//! Runs over objects in memory that are cut, that fail or that meet a limit.
 //!
-//! A session comes in pieces or with carriage returns; each call of the files, of the session's source and of the
-//! sink fails in turn; the sink has little room; a file is cut behind each of its bytes; and each limit is met
-//! and passed. The program prints a line for each kind of such runs and, last, how many kinds passed; it ends
-//! with 1 where one failed. What it prints is compared with a stored text, so a kind is added without a proof.
+//! A session comes in pieces or with carriage returns; each call of the files, of the session's
+//! source and of the sink fails in turn; the sink has little room; a file is cut behind each of its
+//! bytes; words and files are refused; and each limit is met and passed. Each run is compared with
+//! what is expected. The program prints a line for each kind of such runs and, last, how many kinds
+//! passed; it ends with 1 where one failed. What it prints is compared with a stored text, so a
+//! kind is added without a proof.
 //!
-//! One promise is proved besides safety: [`steady::run_in_memory`], over objects of which none can fail, ends as
-//! the words, the files and the session have it, or for want of memory. The crate stands on `nc_session` for the
-//! run, on `nc_outside` for the objects in memory, on `nc_types` for names and on `nc_tables` for what a state is.
+//! One promise is proved besides safety: [`steady::run_in_memory`], over objects of which none can
+//! fail, ends as the words, the files and the session have it, or for want of memory. The crate
+//! stands on `nc_session` for the run, on `nc_outside` for the objects in memory, on `nc_types` for
+//! names and on `nc_tables` for what a state is.
 #![tactic(auto)]
 
 mod cutting;
@@ -18,6 +21,7 @@ mod judging;
 mod limits;
 mod lines;
 mod network;
+mod refusals;
 mod row;
 mod steady;
 mod trial;
@@ -51,6 +55,7 @@ fn all_rows(alloc: Global) -> Result<Vec<Row>, AllocError> {
     faults::add_faults(alloc, &PAIR, &mut rows)?;
     faults::add_faults(alloc, &SINGLE, &mut rows)?;
     ending::add_endings(alloc, &mut rows)?;
+    refusals::add_refusals(alloc, &mut rows)?;
     lines::add_long_lines(alloc, &mut rows)?;
     limits::add_limits(alloc, &mut rows)?;
     Ok(rows)

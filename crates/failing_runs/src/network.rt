@@ -48,6 +48,15 @@ impl Network {
     /// No memory for it.
     pub fn add_file(&mut self, alloc: Global, name: &str, text: &[u8]) -> Result<(), AllocError> {
         self.add_word(alloc, name)?;
+        self.keep_file(alloc, name, text)
+    }
+
+    /// Adds a file for which there may be a word or not.
+    ///
+    /// # Errors
+    ///
+    /// No memory for it.
+    pub fn keep_file(&mut self, alloc: Global, name: &str, text: &[u8]) -> Result<(), AllocError> {
         let name = Text::new(alloc, name.as_bytes())?;
         let bytes = text.to_vec(alloc)?;
         self.files.push(MemFile { name, bytes })?;

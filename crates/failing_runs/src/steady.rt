@@ -14,8 +14,8 @@ use std::alloc::Global;
 
 /// Runs over files and a session in memory, of which nothing fails, and keeps none of the replies.
 ///
-/// The run ends as the words, the files and the session have it: as Done where the files give a state and the
-/// session is within its limit. Want of memory alone is free.
+/// The run ends as the words, the files and the session have it: as Done where the files give a
+/// state and the session is within its limit. Want of memory alone is free.
 pub fn run_in_memory(
     alloc: Global,
     words: &[String],

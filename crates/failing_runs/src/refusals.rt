@@ -1,0 +1,134 @@
+//! Words and files that are refused before the session is read, also where that can't be written.
+
+use crate::judging::{Expectation, Verdict};
+use crate::network::{Config, Network};
+use crate::row::Row;
+use crate::trial::{Failing, Trial};
+use nc_session::Status;
+use std::alloc::{AllocError, Global};
+
+// What a run is given that reads no session, what of it fails, and what it must come to.
+#[derive(Clone, Copy)]
+struct Refused {
+    name: &'static str,
+    words: &'static [&'static str],
+    failing: Failing,
+    status: Status,
+    written: &'static [u8],
+}
+
+// A file in order, and one with a mask that isn't ones followed by zeros.
+const FILES: [Config; 2] = [
+    Config {
+        name: "good.cfg",
+        text: b"hostname r1\n",
+    },
+    Config {
+        name: "bad.cfg",
+        text: b"hostname r2\nip route 10.0.0.0 255.0.255.0 10.0.0.2\n",
+    },
+];
+
+// A session that none of the runs may answer.
+const SESSION: &[u8] = b"frob\n";
+
+const REFUSALS: [Refused; 10] = [
+    Refused {
+        name: "no word",
+        words: &[],
+        failing: Failing::Nothing,
+        status: Status::Usage,
+        written: b"refused usage\n",
+    },
+    Refused {
+        name: "no word, and a write that fails",
+        words: &[],
+        failing: Failing::Write(0),
+        status: Status::OutputFault,
+        written: b"",
+    },
+    Refused {
+        name: "no word, and room for ten bytes",
+        words: &[],
+        failing: Failing::Room(10),
+        status: Status::OutputFault,
+        written: b"refused us",
+    },
+    Refused {
+        name: "a word with a dash, and a call of the files that would fail",
+        words: &["good.cfg", "-v"],
+        failing: Failing::Files(0),
+        status: Status::Usage,
+        written: b"refused usage\n",
+    },
+    Refused {
+        name: "a file that isn't there",
+        words: &["good.cfg", "other.cfg"],
+        failing: Failing::Nothing,
+        status: Status::FileFault,
+        written: b"",
+    },
+    Refused {
+        name: "a faulty file, and a read of the session that would fail",
+        words: &["bad.cfg"],
+        failing: Failing::Read(0),
+        status: Status::Config,
+        written: b"refused config bad.cfg 2 syntax\n",
+    },
+    Refused {
+        name: "a faulty file, and a write that fails",
+        words: &["bad.cfg"],
+        failing: Failing::Write(0),
+        status: Status::OutputFault,
+        written: b"",
+    },
+    Refused {
+        name: "a faulty file, and room for twenty bytes",
+        words: &["bad.cfg"],
+        failing: Failing::Room(20),
+        status: Status::OutputFault,
+        written: b"refused config bad.c",
+    },
+    Refused {
+        name: "a faulty file before one that would not be entered",
+        words: &["bad.cfg", "good.cfg"],
+        failing: Failing::Files(3),
+        status: Status::Config,
+        written: b"refused config bad.cfg 2 syntax\n",
+    },
+    Refused {
+        name: "a file that is not entered before a faulty one",
+        words: &["good.cfg", "bad.cfg"],
+        failing: Failing::Files(0),
+        status: Status::FileFault,
+        written: b"",
+    },
+];
+
+// The files, under these words.
+fn named(alloc: Global, words: &[&str]) -> Result<Network, AllocError> {
+    let [good, bad] = FILES;
+    let mut network = Network::new(alloc);
+    network.keep_file(alloc, good.name, good.text)?;
+    network.keep_file(alloc, bad.name, bad.text)?;
+    for word in words {
+        network.add_word(alloc, word)?;
+    }
+    Ok(network)
+}
+
+/// The rows on what is refused before the session is read.
+///
+/// # Errors
+///
+/// No memory for the rows or the objects of a run.
+pub fn add_refusals(alloc: Global, rows: &mut Vec<Row>) -> Result<(), AllocError> {
+    for refused in &REFUSALS {
+        let network = named(alloc, refused.words)?;
+        let trial = Trial::new(&network, SESSION).where_fails(refused.failing);
+        let wanted = Expectation::of(refused.status, refused.written);
+        let verdict = Verdict::of(alloc, trial, wanted)?;
+        rows.push(Row::new("refusals", refused.name, verdict))?;
+    }
+    Ok(())
+}
