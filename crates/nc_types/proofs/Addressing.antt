@@ -12,19 +12,12 @@ use Rattle.nc_types.specs.declared.network.addresses.IfacePlace.{IfacePlace}
 use Rattle.nc_types.specs.Config.{config_view}
 use Rattle.nc_types.specs.Network.{PlaceIn, has_address, owner_from}
 use Rattle.nc_types.specs.Tables.{place_in, iface_from}
+use Rattle.nc_types.proofs.Options.{or_assoc, or_none}
 
 -- the owner among these routers, the first of them having this number
 abbrev pub ifaces_from : ℕ → List RouterConfig → ℕ → Option IfacePlace
 ifaces_from router [] addr = None
 ifaces_from router (c ∷ cs) addr = option_or (iface_from router 0 c.interfaces.items addr) (ifaces_from (router + 1) cs addr)
-
-pub or_assoc : {T : Type 0} (o p q : Option T) → option_or (option_or o p) q ≡ option_or o (option_or p q)
-or_assoc None p q = refl
-or_assoc (Some x) p q = refl
-
-pub or_none : {T : Type 0} (o : Option T) → option_or o None ≡ o
-or_none None = refl
-or_none (Some x) = refl
 
 -- the first interface is asked first
 pub iface_first : (router place : ℕ) (i : Interface) (is : List Interface) (addr : ℕ)
@@ -59,7 +52,3 @@ claimed_address {T} f key addr owner none = ap (λ (b : Bool). cond b (Some owne
     by_test : (b : Bool) → nat_eq key addr ≡ b → cond b (Some owner) (f addr) ≡ option_or (f addr) (cond b (Some owner) None)
     by_test true e = let here : f addr ≡ None = subst (λ (k : ℕ). f k ≡ None) (eqb-true key addr e) none in ap (λ (o : Option T). option_or o (Some owner)) (sym here)
     by_test false e = sym (or_none (f addr))
-
-pub is_none : {T : Type 0} (o : Option T) → is_some o ≡ false → o ≡ None
-is_none None e = refl
-is_none (Some x) e = absurd (cc)

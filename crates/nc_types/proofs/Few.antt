@@ -1,16 +1,17 @@
 -- A configuration has no more parts than elements, and no more elements than lines: distinct places below a bound are few.
-use Rattle.std.proofs.Common.{◌≡◌, ℕ, zero, suc, ◌+◌, ◌<◌, ◌≤◌, List, [], ◌∷◌, ◌++◌, length, map, get_or, refl, ap, nat_eq, arith, Option, Some}
-use Rattle.std.specs.List.{IsDistinct, slice_get}
+use Rattle.std.proofs.Common.{◌≡◌, ℕ, zero, suc, ◌+◌, ◌<◌, ◌≤◌, List, [], ◌∷◌, ◌++◌, length, map, get_or, refl, ap, nat_eq, arith, Option, Some, All}
+use Rattle.std.specs.List.{IsDistinct, flat_map, slice_get}
 use Rattle.std.specs.Option.{option_map_or}
 use Rattle.std.proofs.lemmas.List.{length-append, length-map}
+use Rattle.std.proofs.lemmas.List.Elements.{All-head, All-tail}
 use Rattle.std.proofs.lemmas.List.Sums.{sum_by-cons}
 use Rattle.std.proofs.lemmas.Bool.Decides.{Decides-eqb}
 use Rattle.std.proofs.lemmas.Map.Made.{IsDistinct-from_AllPairs}
 use Rattle.std.proofs.lemmas.Map.Steps.{length-le_from_distinct_below}
 use Rattle.nc_types.specs.declared.config.Interface.{Interface}
 use Rattle.nc_types.specs.declared.config.StaticRoute.{StaticRoute}
-use Rattle.nc_types.specs.Config.{ElementView, ProcessView, ClauseView, PrefixListView, ConfigView}
-use Rattle.nc_types.specs.WellFormed.{process_places, places_of, IsWellFormed, first_line}
+use Rattle.nc_types.specs.Config.{ElementView, ProcessView, ClauseView, PrefixListView, CommunityListView, ConfigView}
+use Rattle.nc_types.specs.WellFormed.{process_places, entry_places, places_of, IsWellFormed, first_line}
 use Rattle.nc_types.specs.Network.{element_count}
 use Rattle.nc_types.proofs.Members.{all_in, among_is}
 
@@ -47,26 +48,25 @@ few_places c formed =
     let distinct : IsDistinct nat_eq (places_of c) = IsDistinct-from_AllPairs Decides-eqb (places_of c) formed.single in
     length-le_from_distinct_below (places_of c) (length c.elements) distinct (λ q e. all_in (λ (k : ℕ). k < length c.elements) (places_of c) formed.places q (among_is q (places_of c) e))
 
--- all parts: interfaces, static routes, those of the process, clauses and lists
-pub few_parts : (c : ConfigView) → IsWellFormed c → length c.interfaces + (length c.statics + (length (option_map_or process_places c.process []) + (length c.clauses + length c.lists))) ≤ length c.elements
+-- all parts: interfaces, static routes, those of the process, clauses and the entries of lists
+pub few_parts : (c : ConfigView) → IsWellFormed c → length c.interfaces + (length c.statics + (length (option_map_or process_places c.process []) + (length c.clauses + length (entry_places c)))) ≤ length c.elements
 few_parts c formed =
     let is = map (λ (i : Interface). i.element) c.interfaces in
     let ss = map (λ (s : StaticRoute). s.element) c.statics in
     let ps = option_map_or process_places c.process [] in
     let ks = map (λ (k : ClauseView). k.element) c.clauses in
-    let ls = map (λ (l : PrefixListView). l.element) c.lists in
+    let es = entry_places c in
     let few : length (places_of c) ≤ length c.elements = few_places c formed in
     omega (
       arith,
       few,
-      length-append is (ss ++ (ps ++ (ks ++ ls))),
-      length-append ss (ps ++ (ks ++ ls)),
-      length-append ps (ks ++ ls),
-      length-append ks ls,
+      length-append is (ss ++ (ps ++ (ks ++ es))),
+      length-append ss (ps ++ (ks ++ es)),
+      length-append ps (ks ++ es),
+      length-append ks es,
       length-map c.interfaces (λ (i : Interface). i.element),
       length-map c.statics (λ (s : StaticRoute). s.element),
       length-map c.clauses (λ (k : ClauseView). k.element),
-      length-map c.lists (λ (l : PrefixListView). l.element),
     )
 
 pub few_interfaces : (c : ConfigView) → IsWellFormed c → length c.interfaces ≤ length c.elements
@@ -78,8 +78,58 @@ few_statics c formed = let all = few_parts c formed in omega arith
 pub few_clauses : (c : ConfigView) → IsWellFormed c → length c.clauses ≤ length c.elements
 few_clauses c formed = let all = few_parts c formed in omega arith
 
-pub few_lists : (c : ConfigView) → IsWellFormed c → length c.lists ≤ length c.elements
-few_lists c formed = let all = few_parts c formed in omega arith
+-- lists that each have an item are no more than all their items, and one of them has no more
+few_filled : {L : Type 0} (items : L → List ℕ) (ls : List L) → All (λ l. 0 < length (items l)) ls → length ls ≤ length (flat_map items ls)
+few_filled items [] filled = omega arith
+few_filled {L} items (l ∷ ls) filled =
+    let here : 0 < length (items l) = All-head (λ (x : L). 0 < length (items x)) l ls filled in
+    let later : length ls ≤ length (flat_map items ls) = few_filled items ls (All-tail (λ (x : L). 0 < length (items x)) l ls filled) in
+    omega (arith, here, later, length-append (items l) (flat_map items ls))
+
+few_of_one : {L : Type 0} (items : L → List ℕ) (ls : List L) (k : ℕ) (l : L) → slice_get ls k ≡ Some l → length (items l) ≤ length (flat_map items ls)
+few_of_one items [] k l at = absurd (cc)
+few_of_one {L} items (x ∷ xs) zero l at =
+    let same : length (items x) ≡ length (items l) = ap (λ (y : L). length (items y)) (let e : x ≡ l = cc in e) in
+    omega (arith, same, length-append (items x) (flat_map items xs))
+few_of_one items (x ∷ xs) (suc k) l at =
+    let later : length (items l) ≤ length (flat_map items xs) = few_of_one items xs k l at in
+    omega (arith, later, length-append (items x) (flat_map items xs))
+
+-- where the elements of a list's entries are
+abbrev entries_of : PrefixListView → List ℕ
+entries_of l = map (λ e. e.element) l.entries
+
+abbrev community_entries_of : CommunityListView → List ℕ
+community_entries_of l = map (λ e. e.element) l.entries
+
+module _ (c : ConfigView) (formed : IsWellFormed c) where
+  few_entries : length (flat_map entries_of c.lists) + length (flat_map community_entries_of c.community_lists) ≤ length c.elements
+  few_entries =
+      let all = few_parts c formed in
+      omega (arith, all, length-append (flat_map entries_of c.lists) (flat_map community_entries_of c.community_lists))
+
+  pub few_lists : length c.lists ≤ length c.elements
+  few_lists =
+      let filled : All (λ l. 0 < length (entries_of l)) c.lists = λ k d lt. omega (arith, formed.filled k d lt, length-map (get_or c.lists k d).entries (λ e. e.element)) in
+      let fewer : length c.lists ≤ length (flat_map entries_of c.lists) = few_filled entries_of c.lists filled in
+      omega (arith, few_entries, fewer)
+
+  pub few_community_lists : length c.community_lists ≤ length c.elements
+  few_community_lists =
+      let filled : All (λ l. 0 < length (community_entries_of l)) c.community_lists =
+      λ k d lt. omega (arith, formed.community_filled k d lt, length-map (get_or c.community_lists k d).entries (λ e. e.element)) in
+      let fewer : length c.community_lists ≤ length (flat_map community_entries_of c.community_lists) = few_filled community_entries_of c.community_lists filled in
+      omega (arith, few_entries, fewer)
+
+  pub few_of_list : (k : ℕ) (l : PrefixListView) → slice_get c.lists k ≡ Some l → length l.entries ≤ length c.elements
+  few_of_list k l at =
+      let own : length (entries_of l) ≤ length (flat_map entries_of c.lists) = few_of_one entries_of c.lists k l at in
+      omega (arith, few_entries, own, length-map l.entries (λ e. e.element))
+
+  pub few_of_community_list : (k : ℕ) (l : CommunityListView) → slice_get c.community_lists k ≡ Some l → length l.entries ≤ length c.elements
+  few_of_community_list k l at =
+      let own : length (community_entries_of l) ≤ length (flat_map community_entries_of c.community_lists) = few_of_one community_entries_of c.community_lists k l at in
+      omega (arith, few_entries, own, length-map l.entries (λ e. e.element))
 
 -- the parts of the process: itself, its neighbors, networks and aggregates
 pub few_of_process : (c : ConfigView) (p : ProcessView) → IsWellFormed c → c.process ≡ Some p → length p.neighbors + (length p.networks + length p.aggregates) < length c.elements

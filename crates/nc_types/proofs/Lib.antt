@@ -1,3 +1,6 @@
+pub mod Truth
+pub mod Options
+pub mod Sameness
 pub mod Lengths
 pub mod Ranges
 pub mod Members

@@ -17,7 +17,7 @@ use Rattle.nc_types.specs.declared.config.RouterConfig.{RouterConfig}
 use Rattle.nc_types.specs.Config.{ConfigView, config_view}
 use Rattle.nc_types.specs.Network.{router_named}
 use Rattle.nc_types.specs.Tables.{named_by}
-use Rattle.nc_types.proofs.Addressing.{or_none}
+use Rattle.nc_types.proofs.Options.{or_none}
 
 -- the router of a name among these, the first of them having this number
 abbrev pub named_from : ℕ → List RouterConfig → List ℕ → Option RouterId

@@ -32,7 +32,7 @@ range_at from zero n lt = absurd (omega arith)
 range_at from (suc count) zero lt = ap Some (omega arith)
 range_at from (suc count) (suc n) lt = range_at (from + 1) count n (omega arith) ∙ ap Some (omega arith)
 
-range_push : (from count : ℕ) → range_with_len from (count + 1) ≡ range_with_len from count ++ (from + count) ∷ []
+pub range_push : (from count : ℕ) → range_with_len from (count + 1) ≡ range_with_len from count ++ (from + count) ∷ []
 range_push from count = let e : count + 1 ≡ suc count = omega arith in rw e (by_count from count)
   where
     by_count : (from count : ℕ) → range_with_len from (suc count) ≡ range_with_len from count ++ (from + count) ∷ []

@@ -1,11 +1,15 @@
 -- A prefix as its network address and its length, and what it covers.
-use Rattle.std.specs.Prelude.{◌≡◌, ℕ, ◌+◌, ◌/◌, ◌≤◌, ◌<◌}
+use Rattle.std.specs.Prelude.{◌≡◌, ℕ, ◌+◌, ◌/◌, ◌≤◌, ◌<◌, Bool, ◌&&◌, ◌==◌}
 use Rattle.nc_types.specs.Masks.{size_of, network_of}
 
 -- a network address and how many of its bits are fixed
 pub record Cidr : Type 0 where
   pub base : ℕ
   pub len : ℕ
+
+-- two prefixes are one
+abbrev pub same_prefix : Cidr → Cidr → Bool
+same_prefix p q = (p.base == q.base) && (p.len == q.len)
 
 -- an address, and a length that leaves no host bit of it
 pub record IsCidr (base len : ℕ) : Type 0 where

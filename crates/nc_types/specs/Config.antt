@@ -16,6 +16,9 @@ use Rattle.nc_types.specs.declared.config.Clause.{Clause}
 use Rattle.nc_types.specs.declared.config.ListEntry.{ListEntry}
 use Rattle.nc_types.specs.declared.config.PrefixList.{PrefixList}
 use Rattle.nc_types.specs.declared.config.RouterConfig.{RouterConfig}
+use Rattle.nc_types.specs.declared.communities.CommunityEntry.{CommunityEntry}
+use Rattle.nc_types.specs.declared.communities.CommunityList.{CommunityList}
+use Rattle.nc_types.specs.declared.communities.SetCommunity.{SetCommunity}
 
 -- an element: what it configures, and its lines
 pub record ElementView : Type 0 where
@@ -55,10 +58,12 @@ pub record ClauseView : Type 0 where
   pub number : ℕ
   pub permit : Bool
   pub lists : List Reference
+  pub community_lists : List Reference
   pub preference : Option ℕ
   pub metric : Option ℕ
   pub prepend : List ℕ
   pub origin : Option OriginCode
+  pub communities : Option SetCommunity
   pub element : ℕ
 
 abbrev pub clause_view : Clause → ClauseView
@@ -68,10 +73,12 @@ clause_view c =
       number = c.number;
       permit = c.permit;
       lists = c.lists.items;
+      community_lists = c.community_lists.items;
       preference = c.preference;
       metric = c.metric;
       prepend = c.prepend.items;
       origin = c.origin;
+      communities = c.communities;
       element = c.element;
     }
 
@@ -79,10 +86,17 @@ clause_view c =
 pub record PrefixListView : Type 0 where
   pub name : List ℕ
   pub entries : List ListEntry
-  pub element : ℕ
 
 abbrev pub list_view : PrefixList → PrefixListView
-list_view l = record { name = l.name; entries = l.entries.items; element = l.element }
+list_view l = record { name = l.name; entries = l.entries.items }
+
+-- a community list
+pub record CommunityListView : Type 0 where
+  pub name : List ℕ
+  pub entries : List CommunityEntry
+
+abbrev pub community_list_view : CommunityList → CommunityListView
+community_list_view l = record { name = l.name; entries = l.entries.items }
 
 -- a router's configuration
 pub record ConfigView : Type 0 where
@@ -95,6 +109,7 @@ pub record ConfigView : Type 0 where
   pub process : Option ProcessView
   pub clauses : List ClauseView
   pub lists : List PrefixListView
+  pub community_lists : List CommunityListView
 
 abbrev pub config_view : RouterConfig → ConfigView
 config_view c =
@@ -108,4 +123,5 @@ config_view c =
       process = option_map process_view c.process;
       clauses = map clause_view c.clauses.items;
       lists = map list_view c.lists.items;
+      community_lists = map community_list_view c.community_lists.items;
     }

@@ -119,19 +119,23 @@ abbrev pub interface_references : ConfigView → List Reference
 interface_references c =
     filter_map (λ s. interface_by s.via) c.statics ++ option_map_or (λ p. filter_map (λ n. n.source) p.neighbors) c.process []
 
--- the references to route maps, and those to prefix lists
+-- the references to route maps, those to prefix lists, and those to community lists
 abbrev pub map_references : ConfigView → List Reference
 map_references c = option_map_or (λ p. filter_map (λ n. n.map_in) p.neighbors ++ filter_map (λ n. n.map_out) p.neighbors) c.process []
 
 abbrev pub list_references : ConfigView → List Reference
 list_references c = flat_map (λ k. k.lists) c.clauses
 
+abbrev pub community_list_references : ConfigView → List Reference
+community_list_references c = flat_map (λ k. k.community_lists) c.clauses
+
 -- statements of a router that refer to what it doesn't define
 abbrev pub undefined_in : Numbered → List Clash
 undefined_in n =
     flat_map (undefined_by n.router (map (λ i. i.name) n.config.interfaces)) (interface_references n.config)
     ++ (flat_map (undefined_by n.router (map (λ k. k.map_name) n.config.clauses)) (map_references n.config)
-    ++ flat_map (undefined_by n.router (map (λ l. l.name) n.config.lists)) (list_references n.config))
+    ++ (flat_map (undefined_by n.router (map (λ l. l.name) n.config.lists)) (list_references n.config)
+    ++ flat_map (undefined_by n.router (map (λ l. l.name) n.config.community_lists)) (community_list_references n.config)))
 
 abbrev pub undefined : List ConfigView → List Clash
 undefined routers = flat_map undefined_in (numbered_from 0 routers)

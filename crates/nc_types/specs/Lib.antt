@@ -1,6 +1,8 @@
 pub mod Masks
 pub mod Cidr
 pub mod Config
+pub mod Communities
+pub mod Setting
 pub mod WellFormed
 pub mod Faults
 pub mod Network

@@ -1,6 +1,6 @@
 -- What holds of each configuration that is read from a file.
 use Rattle.std.specs.Prelude.{◌≡◌, ◌≢◌, ◌⊎◌, ℕ, ◌<◌, ◌≤◌, Bool, true, ◌&&◌, nat_le, List, [], ◌∷◌, ◌++◌, length, map, All, Contains, IfSome, slice_index_or}
-use Rattle.std.specs.List.{list_all, AllPairs}
+use Rattle.std.specs.List.{flat_map, list_all, AllPairs}
 use Rattle.std.specs.List.Sorted.{IsStrictlyIncreasing}
 use Rattle.std.specs.Option.{option_map_or}
 use Rattle.nc_types.specs.declared.TheConstants.{NAME_LIMIT, MULTIPATH_LIMIT}
@@ -16,11 +16,16 @@ abbrev pub process_places : ProcessView → List ℕ
 process_places p =
     p.element ∷ (map (λ n. n.element) p.neighbors ++ (map (λ n. n.element) p.networks ++ map (λ a. a.element) p.aggregates))
 
+-- the places of the elements that the entries of lists are
+abbrev pub entry_places : ConfigView → List ℕ
+entry_places c =
+    flat_map (λ l. map (λ e. e.element) l.entries) c.lists ++ flat_map (λ l. map (λ e. e.element) l.entries) c.community_lists
+
 -- the places of the elements that the parts of a configuration are
 abbrev pub places_of : ConfigView → List ℕ
 places_of c =
     map (λ i. i.element) c.interfaces ++ (map (λ s. s.element) c.statics ++ (option_map_or process_places c.process []
-    ++ (map (λ k. k.element) c.clauses ++ map (λ l. l.element) c.lists)))
+    ++ (map (λ k. k.element) c.clauses ++ entry_places c)))
 
 -- an element has a line, and its lines ascend within the file
 pub record IsElement (line_count : ℕ) (e : ElementView) : Type 0 where
@@ -48,11 +53,15 @@ pub record IsWellFormed (c : ConfigView) : Type 0 where
   pub elements : All (IsElement c.line_count) c.elements
   pub ordered : AllPairs (λ e f. first_line e < first_line f) c.elements
   pub apart : AllPairs (λ e f. (line : ℕ) → Contains e.lines line → Contains f.lines line → ⊥) c.elements
-  -- names, clauses and lists are single
+  -- names, clauses and lists are single, each kind of list by itself
   pub interfaces : AllPairs (λ i j. i.name ≢ j.name) c.interfaces
   pub clauses : AllPairs (λ a b. (a.map_name ≢ b.map_name) ⊎ (a.number ≢ b.number)) c.clauses
   pub lists : AllPairs (λ a b. a.name ≢ b.name) c.lists
+  pub community_lists : AllPairs (λ a b. a.name ≢ b.name) c.community_lists
   -- an address lies in the prefix of its interface
   pub covered : All (λ i. IfSome i.address (λ a. Covers a.prefix a.addr.0)) c.interfaces
   pub process : IfSome c.process IsProcess
+  -- a list has an entry, and those of a prefix list stand in order of their numbers
+  pub filled : All (λ l. 0 < length l.entries) c.lists
   pub entries : All (λ l. IsStrictlyIncreasing (map (λ e. e.seq) l.entries)) c.lists
+  pub community_filled : All (λ l. 0 < length l.entries) c.community_lists

@@ -4,6 +4,7 @@ ghost use Rattle.nc_types.specs.Network.{up_of, hop_of};
 ghost use Rattle.nc_types.specs.Joining.{interface_by};
 
 use crate::addr::Addr;
+use crate::communities::{CommunityList, SetCommunity};
 use crate::prefix::Prefix;
 use crate::text::Text;
 
@@ -37,8 +38,10 @@ pub enum Kind {
     Aggregate,
     /// A clause of a route map, by the map's name and the clause's number.
     Clause,
-    /// A prefix list, by its name.
-    List,
+    /// An entry of a prefix list, by the list's name and the entry's number.
+    ListEntry,
+    /// A statement of a community list.
+    CommunityEntry,
 }
 
 /// A thing that a configuration configures, with the lines of its statements.
@@ -143,6 +146,8 @@ pub struct Neighbor {
     pub multihop: bool,
     /// Whether what is sent to it names this router as the next hop.
     pub self_hop: bool,
+    /// Whether what is sent to it carries communities.
+    pub send_community: bool,
     /// The route map for what it sends.
     pub map_in: Option<Reference>,
     /// The route map for what is sent to it.
@@ -206,8 +211,10 @@ pub struct Clause {
     /// The clauses of a map are looked at in order of this number.
     pub number: u16,
     pub permit: bool,
-    /// The prefix lists of which one has to permit; none where the clause matches each route.
+    /// The prefix lists of which one has to permit the prefix; none where each prefix matches.
     pub lists: Vec<Reference>,
+    /// The community lists of which one has to permit the communities; none where all match.
+    pub community_lists: Vec<Reference>,
     /// The local preference that it sets.
     pub preference: Option<u32>,
     /// The metric that it sets.
@@ -216,6 +223,8 @@ pub struct Clause {
     pub prepend: Vec<u32>,
     /// The origin that it sets.
     pub origin: Option<OriginCode>,
+    /// The communities that it sets or adds; at most [`crate::COMMUNITY_LIMIT`].
+    pub communities: Option<SetCommunity>,
     /// The place of its element in the router's elements.
     pub element: u32,
 }
@@ -231,8 +240,10 @@ pub struct ListEntry {
     pub low: u8,
     /// The greatest length of a prefix that it is of, at most 32.
     pub high: u8,
-    /// The line of its statement, from 1.
+    /// The line of the statement in force, from 1.
     pub line: u32,
+    /// The place of its element in the router's elements.
+    pub element: u32,
 }
 
 /// A prefix list.
@@ -241,8 +252,6 @@ pub struct PrefixList {
     pub name: Text,
     /// The entries, in order of their numbers.
     pub entries: Vec<ListEntry>,
-    /// The place of its element in the router's elements.
-    pub element: u32,
 }
 
 /// The configuration of one router, as its file has it.
@@ -265,4 +274,6 @@ pub struct RouterConfig {
     pub clauses: Vec<Clause>,
     /// The prefix lists, in order of first mention.
     pub lists: Vec<PrefixList>,
+    /// The community lists, in order of first mention.
+    pub community_lists: Vec<CommunityList>,
 }

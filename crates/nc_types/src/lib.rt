@@ -4,13 +4,14 @@
 //! These are plain types that every crate above shares; beside std the crate stands on `thiserror`, for the
 //! texts of errors. Its contract promises that a [`Prefix`] has no host bits and at most 32 of network, that a
 //! [`Text`] has exactly the bytes that it was made of, what each question about a prefix or a mask
-//! answers, and what each look-up in a [`Network`] finds. What a well-formed configuration is stands in
+//! answers, that [`Communities`] ascend and are few, and what each look-up in a [`Network`] finds. What a well-formed configuration is stands in
 //! `specs/WellFormed`, what valid configurations of several routers are in `specs/Joining`, and what is looked
 //! up in a network in `specs/Network`.
 #![tactic(auto)]
 
 mod addr;
 mod command;
+mod communities;
 mod config;
 mod fault;
 pub mod laws;
@@ -20,6 +21,7 @@ mod text;
 
 pub use addr::{Addr, mask_len};
 pub use command::TestCommand;
+pub use communities::{Communities, CommunityEntry, CommunityList, SetCommunity};
 pub use config::{
     AggregateStatement, Clause, Element, ElementId, IfaceAddr, IfaceId, Interface, Kind, ListEntry,
     Neighbor, NetworkStatement, OriginCode, PrefixList, Process, Reference, RouterConfig, RouterId,
@@ -45,6 +47,9 @@ pub const MULTIPATH_LIMIT: u8 = 16;
 
 /// How many numbers the path of a route has at most; a longer one is dropped (profile).
 pub const PATH_LIMIT: usize = 250;
+
+/// How many communities a route carries at most, and a statement names; a route with more is dropped (profile).
+pub const COMMUNITY_LIMIT: usize = 64;
 
 /// How many hops a packet is followed at most (profile).
 pub const HOP_LIMIT: u8 = 30;

@@ -3,7 +3,8 @@ use Rattle.std.specs.Option.{option_map, option_or}
 use Rattle.std.proofs.lemmas.List.{at_drop_all}
 use Rattle.nc_types.specs.declared.config.RouterConfig.{RouterConfig}
 use Rattle.nc_types.specs.Tables.{place_in, owner_by}
-use Rattle.nc_types.proofs.Addressing.{ifaces_from, owners_are, or_none}
+use Rattle.nc_types.proofs.Addressing.{ifaces_from, owners_are}
+use Rattle.nc_types.proofs.Options.{or_none}
 use Rattle.nc_types.proofs.network.addresses.address_owners.Goals as goal
 
 pub returns : goal.returns

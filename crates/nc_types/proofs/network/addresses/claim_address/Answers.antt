@@ -4,7 +4,8 @@ use Rattle.nc_types.specs.declared.addr.Addr.{Addr}
 use Rattle.nc_types.specs.declared.config.IfaceAddr.{IfaceAddr}
 use Rattle.nc_types.specs.Network.{up_of}
 use Rattle.nc_types.specs.Tables.{owner_by}
-use Rattle.nc_types.proofs.Addressing.{claimed_address, is_none}
+use Rattle.nc_types.proofs.Addressing.{claimed_address}
+use Rattle.nc_types.proofs.Options.{is_none}
 use Rattle.nc_types.proofs.network.addresses.claim_address.Goals as goal
 
 pub returns : goal.returns

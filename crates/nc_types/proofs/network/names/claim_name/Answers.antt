@@ -5,7 +5,7 @@ use Rattle.std.specs.Cmp.Lexicographic.{slice_cmp}
 use Rattle.std.specs.Ordering.{nat_cmp}
 use Rattle.nc_types.specs.declared.config.RouterId.{RouterId}
 use Rattle.nc_types.specs.Tables.{named_by}
-use Rattle.nc_types.proofs.Addressing.{is_none}
+use Rattle.nc_types.proofs.Options.{is_none}
 use Rattle.nc_types.proofs.Naming.{claimed_name}
 use Rattle.nc_types.proofs.network.names.claim_name.Goals as goal
 

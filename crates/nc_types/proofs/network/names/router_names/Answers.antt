@@ -4,7 +4,7 @@ use Rattle.std.proofs.lemmas.List.{at_drop_all}
 use Rattle.nc_types.specs.declared.config.RouterConfig.{RouterConfig}
 use Rattle.nc_types.specs.declared.config.RouterId.{RouterId}
 use Rattle.nc_types.specs.Tables.{named_by}
-use Rattle.nc_types.proofs.Addressing.{or_none}
+use Rattle.nc_types.proofs.Options.{or_none}
 use Rattle.nc_types.proofs.Naming.{named_from, names_are}
 use Rattle.nc_types.proofs.network.names.router_names.Goals as goal
 

@@ -1,0 +1,78 @@
+ghost use Rattle.std.specs.Prelude.{◌≡◌, []};
+ghost use Rattle.nc_types.specs.Communities.{IsSmallSet};
+
+use crate::text::Text;
+use std::alloc::Global;
+use std::marker::Model;
+
+/// A set of communities, each a number of 32 bits, whose upper half is written before a colon and whose lower
+/// half behind it (RFC 1997): ascending, and at most [`crate::COMMUNITY_LIMIT`].
+#[derive(Debug, Drop)]
+pub struct Communities {
+    numbers: Vec<u32>,
+}
+
+impl Model for Communities {
+    ghost use Rattle.std.specs.Prelude.{List, ℕ};
+    ghost use Rattle.nc_types.specs.Communities.{IsSmallSet};
+
+    ghost Value = { List ℕ };
+
+    ghost view = { λ c. c.numbers.items };
+
+    ghost invariant = { λ c. IsSmallSet c.numbers.items };
+}
+
+impl Communities {
+    /// No communities. Takes no memory.
+    pub fn new(alloc: Global) -> Communities
+        ensures { result ≡ [] }
+    {
+        Communities {
+            numbers: Vec::new(alloc),
+        }
+    }
+
+    /// The communities of these numbers, which ascend and are at most [`crate::COMMUNITY_LIMIT`]. Takes no
+    /// memory.
+    pub fn of(numbers: Vec<u32>) -> Communities
+        requires { IsSmallSet numbers.items }
+        ensures { result ≡ numbers.items }
+    {
+        Communities { numbers }
+    }
+
+    /// The numbers, ascending.
+    pub fn numbers(&self) -> &[u32]
+        ensures numbers { result.now ≡ self.now }
+        ensures small { IsSmallSet self.now }
+    {
+        &self.numbers
+    }
+}
+
+/// An entry of a community list.
+#[derive(Debug, Drop)]
+pub struct CommunityEntry {
+    pub permit: bool,
+    /// The communities that a route has to have, all of them, for the entry to decide on it.
+    pub members: Communities,
+    /// The place of its element in the router's elements.
+    pub element: u32,
+}
+
+/// A community list.
+#[derive(Debug, Drop)]
+pub struct CommunityList {
+    pub name: Text,
+    /// The entries, in order of their lines.
+    pub entries: Vec<CommunityEntry>,
+}
+
+/// What `set community` makes of the communities of a route.
+#[derive(Debug, Drop)]
+pub struct SetCommunity {
+    pub values: Communities,
+    /// Whether the values join those that the route has, or stand in their place.
+    pub additive: bool,
+}
