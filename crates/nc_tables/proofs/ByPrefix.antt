@@ -6,22 +6,17 @@ use Rattle.std.specs.Option.{option_map_or}
 use Rattle.std.specs.Ordering.{is_gt, is_eq, ordering_reverse}
 use Rattle.std.specs.declared.cmp.Ordering.{Ordering}
 use Rattle.std.specs.declared.cmp.Ordering.TheVariants.{Less, Equal, Greater}
-use Rattle.std.proofs.lemmas.Bool.{eqb-true, and_parts}
 use Rattle.std.proofs.lemmas.Cmp.{tied_itself, alike_right}
 use Rattle.std.proofs.lemmas.List.{length-map, get_or-map}
 use Rattle.std.proofs.lemmas.List.Elements.{All-cons, All-tail}
 use Rattle.nc_types.specs.Cidr.{Cidr}
+use Rattle.nc_types.proofs.Sameness.{same_prefix_is}
 use Rattle.nc_tables.specs.Base.{same_prefix, prefix_cmp}
 use Rattle.nc_tables.specs.Order.{insert, in_order}
 use Rattle.nc_tables.specs.Rounds.{distinct, made_from}
 use Rattle.nc_tables.proofs.SideBySide.{prefix_total, same_by_cmp, rises}
 
 -- ---- two prefixes
-
-pub same_is : (p q : Cidr) → same_prefix p q ≡ true → p ≡ q
-same_is p q e =
-    let parts = and_parts _ _ e in
-    ap (λ (b : ℕ). record { base = b; len = p.len }) (eqb-true p.base q.base parts.0) ∙ ap (λ (l : ℕ). record { base = q.base; len = l }) (eqb-true p.len q.len parts.1)
 
 pub same_itself : (p : Cidr) → same_prefix p p ≡ true
 same_itself p = same_by_cmp p p ∙ ap is_eq (tied_itself prefix_total p)
@@ -119,7 +114,7 @@ next_is : (p q : Cidr) (qs : List Cidr) → Rise (p ∷ q ∷ qs) → list_any (
 next_is p q qs up some = on (same_prefix p q) refl
   where
     on : (b : Bool) → same_prefix p q ≡ b → p ≡ q
-    on true same = same_is p q same
+    on true same = same_prefix_is p q same
     on false other =
         let less : prefix_cmp p q ≡ Less = less_by p q (up 0 1 p (omega arith) (omega arith)) other in
         let behind : All (λ r. is_gt (prefix_cmp q r) ≡ false) qs = pairs_head IsUpto q qs (pairs_tail IsUpto p (q ∷ qs) up) in

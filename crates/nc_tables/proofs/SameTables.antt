@@ -15,7 +15,8 @@ use Rattle.nc_tables.specs.Base.{same_prefix}
 use Rattle.nc_tables.specs.Choice.{class_of, origin_rank, internal_rank}
 use Rattle.nc_tables.specs.Rounds.{BgpRowView}
 use Rattle.nc_tables.specs.Settling.{same_list, same_route, place_of, same_from, same_candidate, same_row, same_table}
-use Rattle.nc_tables.proofs.ByPrefix.{same_is, same_itself}
+use Rattle.nc_types.proofs.Sameness.{same_prefix_is, same_bytes_is}
+use Rattle.nc_tables.proofs.ByPrefix.{same_itself}
 
 -- ---- lists
 
@@ -37,11 +38,8 @@ module _ {A : Type 0} (same : A → A → Bool) where
 nat_itself : (n : ℕ) → (n == n) ≡ true
 nat_itself n = eq-eqb n n refl
 
-path_is : (p q : List ℕ) → bytes_eq p q ≡ true → p ≡ q
-path_is p q e = (bytes_eq-Decides p q).0 e
-
-path_itself : (p : List ℕ) → bytes_eq p p ≡ true
-path_itself p = (bytes_eq-Decides p p).1 refl
+numbers_itself : (p : List ℕ) → bytes_eq p p ≡ true
+numbers_itself p = (bytes_eq-Decides p p).1 refl
 
 origin_is : (a b : OriginCode) → (origin_rank a == origin_rank b) ≡ true → a ≡ b
 origin_is Igp Igp e = refl
@@ -77,23 +75,26 @@ route_is a b e =
     let e2 = (and_parts (bytes_eq a.path b.path) _ e1).1 in
     let e3 = (and_parts (a.next_hop.0 == b.next_hop.0) _ e2).1 in
     let e4 = (and_parts (a.preference == b.preference) _ e3).1 in
-    let p0 = same_is a.prefix b.prefix (and_parts (same_prefix a.prefix b.prefix) _ e).0 in
-    let p1 = path_is a.path b.path (and_parts (bytes_eq a.path b.path) _ e1).0 in
+    let p0 = same_prefix_is a.prefix b.prefix (and_parts (same_prefix a.prefix b.prefix) _ e).0 in
+    let p1 = same_bytes_is a.path b.path (and_parts (bytes_eq a.path b.path) _ e1).0 in
     let p2 = addr_is a.next_hop b.next_hop (and_parts (a.next_hop.0 == b.next_hop.0) _ e2).0 in
     let p3 = eqb-true a.preference b.preference (and_parts (a.preference == b.preference) _ e3).0 in
     let p4 = eqb-true a.metric b.metric (and_parts (a.metric == b.metric) _ e4).0 in
-    let p5 = origin_is a.origin b.origin (and_parts (a.metric == b.metric) _ e4).1 in
+    let e5 = (and_parts (a.metric == b.metric) _ e4).1 in
+    let p5 = origin_is a.origin b.origin (and_parts (origin_rank a.origin == origin_rank b.origin) _ e5).0 in
+    let p6 = same_bytes_is a.communities b.communities (and_parts (origin_rank a.origin == origin_rank b.origin) _ e5).1 in
     ap (λ (v : Cidr). record a { prefix = v }) p0
     ∙ ap (λ (v : List ℕ). record a { prefix = b.prefix; path = v }) p1
     ∙ ap (λ (v : Addr). record a { prefix = b.prefix; path = b.path; next_hop = v }) p2
-    ∙ ap (λ (v : ℕ). record b { preference = v; metric = a.metric; origin = a.origin }) p3
-    ∙ ap (λ (v : ℕ). record b { metric = v; origin = a.origin }) p4
-    ∙ ap (λ (v : OriginCode). record b { origin = v }) p5
+    ∙ ap (λ (v : ℕ). record b { preference = v; metric = a.metric; origin = a.origin; communities = a.communities }) p3
+    ∙ ap (λ (v : ℕ). record b { metric = v; origin = a.origin; communities = a.communities }) p4
+    ∙ ap (λ (v : OriginCode). record b { origin = v; communities = a.communities }) p5
+    ∙ ap (λ (v : List ℕ). record b { communities = v }) p6
 
 route_itself : (a : Route) → same_route a a ≡ true
 route_itself a =
-    and_from _ _ (same_itself a.prefix) (and_from _ _ (path_itself a.path) (and_from _ _ (nat_itself a.next_hop.0) (and_from _ _ (nat_itself a.preference)
-    (and_from _ _ (nat_itself a.metric) (nat_itself (origin_rank a.origin))))))
+    and_from _ _ (same_itself a.prefix) (and_from _ _ (numbers_itself a.path) (and_from _ _ (nat_itself a.next_hop.0) (and_from _ _ (nat_itself a.preference)
+    (and_from _ _ (nat_itself a.metric) (and_from _ _ (nat_itself (origin_rank a.origin)) (numbers_itself a.communities))))))
 
 candidate_is : (a b : Chosen) → same_candidate a b ≡ true → a ≡ b
 candidate_is a b e =
@@ -120,7 +121,7 @@ candidate_itself a =
 
 row_is : (a b : BgpRowView) → same_row a b ≡ true → a ≡ b
 row_is a b e =
-    ap (λ (v : Cidr). record a { prefix = v }) (same_is a.prefix b.prefix (and_parts (same_prefix a.prefix b.prefix) _ e).0)
+    ap (λ (v : Cidr). record a { prefix = v }) (same_prefix_is a.prefix b.prefix (and_parts (same_prefix a.prefix b.prefix) _ e).0)
     ∙ ap (λ (v : List Chosen). record b { chosen = v }) (same_list_is same_candidate candidate_is a.chosen b.chosen (and_parts (same_prefix a.prefix b.prefix) _ e).1)
 
 row_itself : (a : BgpRowView) → same_row a a ≡ true

@@ -7,6 +7,7 @@ use Rattle.std.specs.Str.{bytes_eq}
 use Rattle.std.specs.declared.cmp.Ordering.{Ordering}
 use Rattle.std.specs.List.Sorted.{IsSorted}
 use Rattle.nc_types.specs.declared.TheConstants.{UNUSED_DISTANCE}
+pub use Rattle.nc_types.specs.Cidr.{same_prefix}
 use Rattle.nc_types.specs.Cidr.{Cidr, IsCidr}
 use Rattle.nc_types.specs.Masks.{size_of}
 use Rattle.nc_types.specs.Config.{ConfigView}
@@ -82,9 +83,6 @@ statics_from is place (s ∷ ss) =
 -- all that may become a row
 abbrev pub candidates : ConfigView → List BaseRow
 candidates c = connected_from 0 c.interfaces ++ statics_from c.interfaces 0 c.statics
-
-abbrev pub same_prefix : Cidr → Cidr → Bool
-same_prefix p q = (p.base == q.base) && (p.len == q.len)
 
 -- a row of which there is no other with the same prefix and a lower distance
 abbrev pub is_nearest : List BaseRow → BaseRow → Bool

@@ -12,7 +12,7 @@ use Rattle.nc_tables.specs.declared.bgp.BgpFrom.TheVariants.{Origin, Aggregate, 
 use Rattle.nc_tables.specs.Base.{base_table, base_tables}
 use Rattle.nc_tables.specs.Longest.{longest}
 use Rattle.nc_tables.specs.Policy.{verdict}
-use Rattle.nc_tables.specs.Rounds.{Link, Message, message_of, accepted_of, learnt_from}
+use Rattle.nc_tables.specs.Rounds.{Link, Message, message_of, accepted_of, learnt_from, unnamed}
 use Rattle.nc_tables.specs.Cases.{address, prefix, interface, neighbor, process, router, refers, candidate}
 
 -- ---- a session: the sender starts from 10.0.12.1, the receiver from 10.0.12.2
@@ -20,7 +20,7 @@ use Rattle.nc_tables.specs.Cases.{address, prefix, interface, neighbor, process,
 -- a map that sets a preference, a metric, an origin and numbers before the path, and one that denies
 abbrev pub sets : ClauseView
 sets =
-    record { map_name = codes "SETS"; number = 10; permit = true; lists = []; preference = Some 300; metric = Some 50; prepend = 64 ∷ 65 ∷ []; origin = Some Incomplete; element = 0 }
+    record { map_name = codes "SETS"; number = 10; permit = true; lists = []; community_lists = []; preference = Some 300; metric = Some 50; prepend = 64 ∷ 65 ∷ []; origin = Some Incomplete; communities = None; element = 0 }
 
 abbrev pub denies : ClauseView
 denies = record sets { map_name = codes "DENIES"; permit = false }
@@ -69,7 +69,7 @@ from_inside = candidate (Entry 3) 200 (65009 ∷ []) Igp 77 true 9 (address 10 9
 -- the route of a message
 abbrev pub route : List ℕ → ℕ → ℕ → ℕ → Route
 route path hop preference metric =
-    record { prefix = prefix 10 1 0 0 24; path = path; next_hop = record { 0 = hop }; preference = preference; metric = metric; origin = Igp }
+    record { prefix = prefix 10 1 0 0 24; path = path; next_hop = record { 0 = hop }; preference = preference; metric = metric; origin = Igp; communities = [] }
 
 abbrev pub sent : Link → Chosen → Option Route
 sent k b = option_map (λ m. m.route) (message_of k b)
@@ -91,6 +91,24 @@ pub mapped_outside : sent (outside (record to_receiver { map_out = Some (refers 
     ≡ Some (record (route (65001 ∷ 64 ∷ 65 ∷ 65009 ∷ []) (address 10 0 12 1) 100 50) { origin = Incomplete })
 unfolding verdict
 mapped_outside = refl
+
+-- communities go where the sender's statement says so: what the candidate has, or what the map sets
+abbrev pub tagged : Chosen
+tagged = record from_outside { route = record from_outside.route { communities = 7 ∷ [] } }
+
+abbrev pub communities_sent : Link → Option (List ℕ)
+communities_sent k = option_map (λ r. r.communities) (sent k tagged)
+
+pub with_communities : communities_sent (outside (record to_receiver { send_community = true })) ∷ communities_sent (inside (record to_receiver { send_community = true })) ∷ []
+    ≡ Some (7 ∷ []) ∷ Some (7 ∷ []) ∷ []
+unfolding verdict
+with_communities = refl
+
+-- the receiver's statement has no part in it
+pub without_communities : communities_sent (outside to_receiver) ∷ communities_sent (inside to_receiver)
+    ∷ communities_sent (link (system 65001) to_receiver (system 65002) (record to_sender { send_community = true }) false) ∷ [] ≡ Some [] ∷ Some [] ∷ Some [] ∷ []
+unfolding verdict
+without_communities = refl
 
 pub denied_outside : sent (outside (record to_receiver { map_out = Some (refers (codes "DENIES")) })) from_outside ≡ None
 unfolding verdict
@@ -177,7 +195,7 @@ message from path hop =
     record {
       link = link (system 65001) to_receiver (system 65002) from false;
       best = from_outside;
-      out = record { route = route path hop 100 0; clause = None; list = None };
+      out = record { route = route path hop 100 0; clause = None; names = unnamed };
       route = route path hop 100 0;
     }
 

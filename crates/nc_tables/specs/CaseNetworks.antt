@@ -97,7 +97,7 @@ addresses = refl
 pub references : undefined (router (up ∷ []) (record { prefix = prefix 10 1 0 0 24; via = Through (record { name = codes "Null1"; line = 4 }) (record { 0 = 0 }); distance = 1; element = 0 }
     ∷ record { prefix = prefix 10 1 0 0 24; via = Through (record { name = codes "Ethernet0"; line = 5 }) (record { 0 = 0 }); distance = 1; element = 0 } ∷ [])
     (Some (process 65001 1 (record (neighbor 0 1 (Some (record { name = codes "X"; line = 6 })) (Some (record { name = codes "Ethernet0"; line = 7 }))) { map_out = Some (record { name = codes "Y"; line = 8 }) } ∷ []) [] []))
-    (record { map_name = codes "M"; number = 10; permit = true; lists = record { name = codes "M"; line = 9 } ∷ []; preference = None; metric = None; prepend = []; origin = None; element = 0 } ∷ []) [] ∷ [])
+    (record { map_name = codes "M"; number = 10; permit = true; lists = record { name = codes "M"; line = 9 } ∷ []; community_lists = []; preference = None; metric = None; prepend = []; origin = None; communities = None; element = 0 } ∷ []) [] ∷ [])
     ≡ clash 0 4 0 0 ∷ clash 0 6 0 0 ∷ clash 0 7 0 0 ∷ clash 0 8 0 0 ∷ clash 0 9 0 0 ∷ []
 references = refl
 

@@ -1,5 +1,5 @@
 -- Policy and choice: worked cases route-map-list-entries and of two candidates that are equally good.
-use Rattle.std.specs.Prelude.{◌≡◌, ℕ, Bool, true, false, List, [], ◌∷◌, map, Option, Some, None, codes, refl}
+use Rattle.std.specs.Prelude.{◌≡◌, ℕ, Bool, true, false, List, [], ◌∷◌, map, Option, Some, None, is_some, codes, refl}
 use Rattle.std.specs.List.{range_with_len}
 use Rattle.nc_types.specs.Cidr.{Cidr}
 use Rattle.nc_types.specs.Config.{ConfigView, ClauseView, PrefixListView}
@@ -8,7 +8,9 @@ use Rattle.nc_types.specs.declared.config.OriginCode.TheVariants.{Igp, Incomplet
 use Rattle.nc_tables.specs.declared.bgp.Route.{Route}
 use Rattle.nc_tables.specs.declared.bgp.Chosen.{Chosen}
 use Rattle.nc_tables.specs.declared.bgp.BgpFrom.TheVariants.{Entry}
-use Rattle.nc_tables.specs.Policy.{Verdict, Deny, Permit, verdict, permits, deciding_entry}
+use Rattle.nc_tables.specs.declared.policy.Names.{Names}
+use Rattle.nc_tables.specs.Policy.{Verdict, Deny, Permit, verdict, is_of, deciding_entry, permitting_prefix}
+use Rattle.nc_tables.specs.Rounds.{unnamed}
 use Rattle.nc_tables.specs.Choice.{choose, preference_cmp}
 use Rattle.nc_tables.specs.Cases.{address, prefix, router, refers}
 
@@ -16,28 +18,31 @@ use Rattle.nc_tables.specs.Cases.{address, prefix, router, refers}
 
 abbrev pub clause : ℕ → List Reference → Option ℕ → ClauseView
 clause number lists metric =
-    record { map_name = codes "OUT"; number = number; permit = true; lists = lists; preference = None; metric = metric; prepend = []; origin = None; element = 0 }
+    record { map_name = codes "OUT"; number = number; permit = true; lists = lists; community_lists = []; preference = None; metric = metric; prepend = []; origin = None; communities = None; element = 0 }
 
 abbrev pub mapped : ConfigView
 mapped =
     router [] [] None
     (clause 10 (refers (codes "A") ∷ []) None ∷ clause 20 (refers (codes "A") ∷ refers (codes "B") ∷ []) (Some 50) ∷ [])
-    (record { name = codes "A"; entries = record { seq = 5; permit = true; prefix = prefix 10 9 0 0 16; low = 16; high = 16; line = 0 } ∷ []; element = 0 }
+    (record { name = codes "A"; entries = record { seq = 5; permit = true; prefix = prefix 10 9 0 0 16; low = 16; high = 16; line = 0; element = 0 } ∷ [] }
     ∷ record {
       name = codes "B";
-      entries = record { seq = 5; permit = false; prefix = prefix 10 1 1 0 24; low = 24; high = 24; line = 0 } ∷ record { seq = 10; permit = true; prefix = prefix 10 1 0 0 16; low = 16; high = 24; line = 0 } ∷ [];
-      element = 0;
+      entries = record { seq = 5; permit = false; prefix = prefix 10 1 1 0 24; low = 24; high = 24; line = 0; element = 0 } ∷ record { seq = 10; permit = true; prefix = prefix 10 1 0 0 16; low = 16; high = 24; line = 0; element = 0 } ∷ [];
     } ∷ [])
+
+-- the entry of a prefix list by which a clause matched, by both places
+abbrev pub by_entry : ℕ → ℕ → Names
+by_entry list entry = record { entry = Some (record { list = list; entry = entry }); community = None }
 
 -- whether a verdict denies
 abbrev pub is_denied : Verdict → Bool
 is_denied Deny = true
-is_denied (Permit r place list) = false
+is_denied (Permit r place names) = false
 
 abbrev pub route : Cidr → ℕ → Route
-route p metric = record { prefix = p; path = []; next_hop = record { 0 = 0 }; preference = 100; metric = metric; origin = Igp }
+route p metric = record { prefix = p; path = []; next_hop = record { 0 = 0 }; preference = 100; metric = metric; origin = Igp; communities = [] }
 
-pub second_clause : verdict mapped (codes "OUT") (route (prefix 10 1 0 0 24) 0) ≡ Permit (route (prefix 10 1 0 0 24) 50) 1 (Some 1)
+pub second_clause : verdict mapped (codes "OUT") (route (prefix 10 1 0 0 24) 0) ≡ Permit (route (prefix 10 1 0 0 24) 50) 1 (by_entry 1 1)
 unfolding verdict
 second_clause = refl
 
@@ -45,7 +50,7 @@ pub denied : verdict mapped (codes "OUT") (route (prefix 10 1 1 0 24) 0) ≡ Den
 unfolding verdict
 denied = refl
 
-pub first_clause : verdict mapped (codes "OUT") (route (prefix 10 9 0 0 16) 0) ≡ Permit (route (prefix 10 9 0 0 16) 0) 0 (Some 0)
+pub first_clause : verdict mapped (codes "OUT") (route (prefix 10 9 0 0 16) 0) ≡ Permit (route (prefix 10 9 0 0 16) 0) 0 (by_entry 0 0)
 unfolding verdict
 first_clause = refl
 
@@ -56,12 +61,11 @@ abbrev pub ranged : PrefixListView
 ranged =
     record {
       name = codes "R";
-      entries = record { seq = 5; permit = true; prefix = prefix 10 1 0 0 16; low = 20; high = 24; line = 0 } ∷ record { seq = 10; permit = false; prefix = prefix 10 0 0 0 8; low = 8; high = 32; line = 0 } ∷ [];
-      element = 0;
+      entries = record { seq = 5; permit = true; prefix = prefix 10 1 0 0 16; low = 20; high = 24; line = 0; element = 0 } ∷ record { seq = 10; permit = false; prefix = prefix 10 0 0 0 8; low = 8; high = 32; line = 0; element = 0 } ∷ [];
     }
 
 abbrev pub permitted : List Cidr → List Bool
-permitted ps = map (permits ranged) ps
+permitted ps = map (λ p. is_some (permitting_prefix p ranged.entries)) ps
 
 -- both bounds are permitted, and one bit less or more isn't
 pub bounds : permitted (prefix 10 1 0 0 19 ∷ prefix 10 1 16 0 20 ∷ prefix 10 1 1 0 24 ∷ prefix 10 1 1 0 25 ∷ []) ≡ false ∷ true ∷ true ∷ false ∷ []
@@ -72,7 +76,7 @@ pub elsewhere : permitted (prefix 10 2 0 0 24 ∷ prefix 11 1 0 0 24 ∷ []) ≡
 elsewhere = refl
 
 -- the first entry that is of a prefix decides, by its place: here the one that permits, then none
-pub deciding_entries : deciding_entry ranged.entries (prefix 10 1 1 0 24) ∷ deciding_entry ranged.entries (prefix 10 2 0 0 24) ∷ deciding_entry ranged.entries (prefix 11 0 0 0 8) ∷ []
+pub deciding_entries : deciding_entry (is_of (prefix 10 1 1 0 24)) ranged.entries ∷ deciding_entry (is_of (prefix 10 2 0 0 24)) ranged.entries ∷ deciding_entry (is_of (prefix 11 0 0 0 8)) ranged.entries ∷ []
     ≡ Some 0 ∷ Some 1 ∷ None ∷ []
 deciding_entries = refl
 
@@ -91,19 +95,19 @@ unordered =
 
 -- the least number of the map's clauses that match, with all that it sets and the first of its lists that permits, in order of mention
 pub least_number : verdict unordered (codes "OUT") (route (prefix 10 9 0 0 16) 0)
-    ≡ Permit (record { prefix = prefix 10 9 0 0 16; path = []; next_hop = record { 0 = 0 }; preference = 7; metric = 20; origin = Incomplete }) 3 (Some 0)
+    ≡ Permit (record { prefix = prefix 10 9 0 0 16; path = []; next_hop = record { 0 = 0 }; preference = 7; metric = 20; origin = Incomplete; communities = [] }) 3 (by_entry 0 0)
 unfolding verdict
 least_number = refl
 
 -- the prefix is permitted by both clauses that stand in front, of which the lower number decides
 pub lower_permits : verdict unordered (codes "OUT") (route (prefix 10 1 0 0 24) 0)
-    ≡ Permit (record { prefix = prefix 10 1 0 0 24; path = []; next_hop = record { 0 = 0 }; preference = 7; metric = 20; origin = Incomplete }) 3 (Some 1)
+    ≡ Permit (record { prefix = prefix 10 1 0 0 24; path = []; next_hop = record { 0 = 0 }; preference = 7; metric = 20; origin = Incomplete; communities = [] }) 3 (by_entry 1 1)
 unfolding verdict
 lower_permits = refl
 
 -- a clause without lists matches, and names none; its numbers go before the path in their order
 pub without_lists : verdict unordered (codes "OUT") (record (route (prefix 11 0 0 0 8) 0) { path = 9 ∷ [] })
-    ≡ Permit (record { prefix = prefix 11 0 0 0 8; path = 64 ∷ 65 ∷ 9 ∷ []; next_hop = record { 0 = 0 }; preference = 7; metric = 40; origin = Incomplete }) 0 None
+    ≡ Permit (record { prefix = prefix 11 0 0 0 8; path = 64 ∷ 65 ∷ 9 ∷ []; next_hop = record { 0 = 0 }; preference = 7; metric = 40; origin = Incomplete; communities = [] }) 0 unnamed
 unfolding verdict
 without_lists = refl
 
@@ -134,7 +138,7 @@ path_past_limit = refl
 abbrev pub learnt : ℕ → ℕ → ℕ → Chosen
 learnt place asn sender =
     record {
-      route = record { prefix = prefix 10 1 0 0 24; path = asn ∷ []; next_hop = record { 0 = sender }; preference = 100; metric = 0; origin = Igp };
+      route = record { prefix = prefix 10 1 0 0 24; path = asn ∷ []; next_hop = record { 0 = sender }; preference = 100; metric = 0; origin = Igp; communities = [] };
       from = Entry place;
       internal = false;
       sender_id = record { 0 = address 10 1 0 1 };

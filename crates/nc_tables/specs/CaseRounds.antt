@@ -49,7 +49,7 @@ own p from =
     record {
       prefix = p;
       chosen = record {
-        route = record { prefix = p; path = []; next_hop = record { 0 = 0 }; preference = 100; metric = 0; origin = Igp };
+        route = record { prefix = p; path = []; next_hop = record { 0 = 0 }; preference = 100; metric = 0; origin = Igp; communities = [] };
         from = from;
         internal = false;
         sender_id = record { 0 = 0 };
@@ -62,7 +62,7 @@ outer_learnt =
     record {
       prefix = prefix 10 0 0 0 8;
       chosen = record {
-        route = record { prefix = prefix 10 0 0 0 8; path = 65001 ∷ []; next_hop = record { 0 = address 10 0 12 1 }; preference = 100; metric = 0; origin = Igp };
+        route = record { prefix = prefix 10 0 0 0 8; path = 65001 ∷ []; next_hop = record { 0 = address 10 0 12 1 }; preference = 100; metric = 0; origin = Igp; communities = [] };
         from = Entry 1;
         internal = false;
         sender_id = record { 0 = address 10 1 0 1 };
@@ -183,8 +183,8 @@ the_same = refl
 pub each_differs : map taken (record learnt { from = Entry 2 } ∷ record learnt { from = Origin 1 } ∷ record learnt { internal = true } ∷ record learnt { sender_id = record { 0 = 8 } }
     ∷ record learnt { sender = record { 0 = 8 } } ∷ of_route (record learnt.route { prefix = prefix 10 1 0 0 25 }) ∷ of_route (record learnt.route { prefix = prefix 10 2 0 0 24 })
     ∷ of_route (record learnt.route { path = 65002 ∷ [] }) ∷ of_route (record learnt.route { next_hop = record { 0 = 8 } }) ∷ of_route (record learnt.route { preference = 99 })
-    ∷ of_route (record learnt.route { metric = 6 }) ∷ of_route (record learnt.route { origin = Incomplete }) ∷ [])
-    ≡ false ∷ false ∷ false ∷ false ∷ false ∷ false ∷ false ∷ false ∷ false ∷ false ∷ false ∷ false ∷ []
+    ∷ of_route (record learnt.route { metric = 6 }) ∷ of_route (record learnt.route { origin = Incomplete }) ∷ of_route (record learnt.route { communities = 7 ∷ [] }) ∷ [])
+    ≡ false ∷ false ∷ false ∷ false ∷ false ∷ false ∷ false ∷ false ∷ false ∷ false ∷ false ∷ false ∷ false ∷ []
 each_differs = refl
 
 pub rows_differ : same_row (row (prefix 10 1 0 0 24) (learnt ∷ [])) (row (prefix 10 1 0 0 25) (learnt ∷ []))

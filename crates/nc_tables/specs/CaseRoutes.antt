@@ -89,7 +89,7 @@ summary_mains = refl
 -- a map that prefers what it lets pass
 abbrev pub up : ClauseView
 up =
-    record { map_name = codes "UP"; number = 10; permit = true; lists = []; preference = Some 200; metric = None; prepend = []; origin = None; element = 0 }
+    record { map_name = codes "UP"; number = 10; permit = true; lists = []; community_lists = []; preference = Some 200; metric = None; prepend = []; origin = None; communities = None; element = 0 }
 
 abbrev pub in_up : Option Reference
 in_up = Some (record { name = codes "UP"; line = 0 })

@@ -38,7 +38,7 @@ route_to p hop = record { prefix = p; via = Hop (record { 0 = hop }); distance =
 
 abbrev pub neighbor : ℕ → ℕ → Option Reference → Option Reference → Neighbor
 neighbor addr asn source map_in =
-    record { addr = record { 0 = addr }; remote_as = asn; source = source; multihop = false; self_hop = false; map_in = map_in; map_out = None; shut = false; element = 0 }
+    record { addr = record { 0 = addr }; remote_as = asn; source = source; multihop = false; self_hop = false; send_community = false; map_in = map_in; map_out = None; shut = false; element = 0 }
 
 abbrev pub process : ℕ → ℕ → List Neighbor → List Cidr → List Cidr → ProcessView
 process asn paths neighbors networks aggregates =
@@ -55,7 +55,7 @@ process asn paths neighbors networks aggregates =
 
 abbrev pub router : List Interface → List StaticRoute → Option ProcessView → List ClauseView → List PrefixListView → ConfigView
 router interfaces statics own clauses lists =
-    record { name = []; name_line = 1; line_count = 1; elements = []; interfaces = interfaces; statics = statics; process = own; clauses = clauses; lists = lists }
+    record { name = []; name_line = 1; line_count = 1; elements = []; interfaces = interfaces; statics = statics; process = own; clauses = clauses; lists = lists; community_lists = [] }
 
 -- ---- routes and candidates
 
@@ -63,7 +63,7 @@ router interfaces statics own clauses lists =
 abbrev pub candidate : BgpFrom → ℕ → List ℕ → OriginCode → ℕ → Bool → ℕ → ℕ → Chosen
 candidate from preference path origin metric internal id sender =
     record {
-      route = record { prefix = prefix 10 1 0 0 24; path = path; next_hop = record { 0 = sender }; preference = preference; metric = metric; origin = origin };
+      route = record { prefix = prefix 10 1 0 0 24; path = path; next_hop = record { 0 = sender }; preference = preference; metric = metric; origin = origin; communities = [] };
       from = from;
       internal = internal;
       sender_id = record { 0 = id };

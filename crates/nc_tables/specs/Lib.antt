@@ -15,6 +15,7 @@ pub mod Cases
 pub mod CaseStatics
 pub mod CaseRoutes
 pub mod CasePolicy
+pub mod CaseCommunities
 pub mod CaseChoice
 pub mod CaseTables
 pub mod CaseSessions

@@ -21,6 +21,7 @@ use Rattle.nc_tables.specs.declared.bgp.BgpFrom.TheVariants.{Origin, Aggregate, 
 use Rattle.nc_tables.specs.Base.{covers, same_prefix, prefix_cmp, is_own}
 use Rattle.nc_tables.specs.Reach.{hits, rows_of}
 use Rattle.nc_tables.specs.Sessions.{End, first_of, router_id, process_of, end_at, session_in}
+use Rattle.nc_tables.specs.declared.policy.Names.{Names}
 use Rattle.nc_tables.specs.Policy.{Verdict, Deny, Permit, verdict, is_long}
 use Rattle.nc_tables.specs.Choice.{choose, is_learnt}
 use Rattle.nc_tables.specs.Order.{in_order}
@@ -76,19 +77,23 @@ module _ (table : List (List BgpRowView)) where
 
 -- ---- what a map makes of a route
 
--- a route that a policy let pass, with the places of the clause and of the list that decided, where one did
+-- a route that a policy let pass, with the place of the clause that decided and the entries by which it matched, where there are such
 pub record Passed : Type 0 where
   pub route : Route
   pub clause : Option ℕ
-  pub list : Option ℕ
+  pub names : Names
+
+-- no entry is named
+abbrev pub unnamed : Names
+unnamed = record { entry = None; community = None }
 
 abbrev pub passed_by : Verdict → Option Passed
 passed_by Deny = None
-passed_by (Permit route clause list) = Some (record { route = route; clause = Some clause; list = list })
+passed_by (Permit route clause names) = Some (record { route = route; clause = Some clause; names = names })
 
 -- what the map of a statement makes of a route: without a map it stays as it is
 abbrev pub passed : ConfigView → Option Reference → Route → Option Passed
-passed c None route = Some (record { route = route; clause = None; list = None })
+passed c None route = Some (record { route = route; clause = None; names = unnamed })
 passed c (Some reference) route = passed_by (verdict c reference.name route)
 
 -- ---- messages
@@ -137,11 +142,16 @@ sent_outside asn source r = record r { path = asn ∷ r.path; next_hop = record 
 abbrev pub sent_inside : ℕ → Bool → Route → Route
 sent_inside source self_hop r = if self_hop then record r { next_hop = record { 0 = source } } else r
 
+-- communities are carried where the sender's statement says so
+abbrev pub carried : Bool → Route → Route
+carried send r = if send then r else record r { communities = [] }
+
 -- a route as it is sent, behind the out map
 abbrev pub sent_over : Link → Chosen → Route → Route
 sent_over k b r =
-    if k.session.internal then sent_inside k.source (k.sender.statement.self_hop || not (is_learnt b.from)) r
-    else sent_outside k.sender.process.asn k.source r
+    let own = carried k.sender.statement.send_community r in
+    if k.session.internal then sent_inside k.source (k.sender.statement.self_hop || not (is_learnt b.from)) own
+    else sent_outside k.sender.process.asn k.source own
 
 abbrev pub message_with : Link → Chosen → Passed → Option Message
 message_with k b out =
@@ -201,7 +211,7 @@ module _ (routers : List ConfigView) (sessions : List (List SessionRow)) where
 abbrev pub begun : Cidr → BgpFrom → Chosen
 begun p from =
     record {
-      route = record { prefix = p; path = []; next_hop = record { 0 = 0 }; preference = DEFAULT_PREFERENCE; metric = 0; origin = Igp };
+      route = record { prefix = p; path = []; next_hop = record { 0 = 0 }; preference = DEFAULT_PREFERENCE; metric = 0; origin = Igp; communities = [] };
       from = from;
       internal = false;
       sender_id = record { 0 = 0 };

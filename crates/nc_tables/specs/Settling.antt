@@ -26,7 +26,7 @@ same_list same (x ∷ xs) (y ∷ ys) = same x y && same_list same xs ys
 abbrev pub same_route : Route → Route → Bool
 same_route a b =
     same_prefix a.prefix b.prefix && (bytes_eq a.path b.path && ((a.next_hop.0 == b.next_hop.0) && ((a.preference == b.preference)
-    && ((a.metric == b.metric) && (origin_rank a.origin == origin_rank b.origin)))))
+    && ((a.metric == b.metric) && ((origin_rank a.origin == origin_rank b.origin) && bytes_eq a.communities b.communities)))))
 
 abbrev pub place_of : BgpFrom → ℕ
 place_of (Origin place) = place

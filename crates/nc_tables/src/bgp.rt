@@ -1,7 +1,7 @@
 ghost use Rattle.std.specs.Prelude.{◌≡◌, ◌≤◌, length};
 ghost use Rattle.nc_types.specs.declared.TheConstants.{PATH_LIMIT};
 
-use nc_types::{Addr, IfaceId, OriginCode, Prefix, RouterId};
+use nc_types::{Addr, Communities, IfaceId, OriginCode, Prefix, RouterId};
 use std::marker::Model;
 
 /// An established BGP session, as one of its two neighbor statements sees it.
@@ -68,6 +68,8 @@ pub struct Route {
     /// The multi-exit discriminator: the lower one is preferred.
     pub metric: u32,
     pub origin: OriginCode,
+    /// The communities that it carries.
+    pub communities: Communities,
 }
 
 /// Where a candidate comes from: the place of its statement in the process.

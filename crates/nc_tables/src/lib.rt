@@ -18,6 +18,7 @@ mod bgp;
 mod laws;
 mod longest;
 mod mains;
+mod policy;
 mod routes;
 mod sessions;
 mod stable;
@@ -27,6 +28,7 @@ pub use bgp::{BgpFrom, BgpRow, Chosen, MainFrom, MainRow, Path, Route, SessionRo
 pub use laws::{levels_are_lawful, settling_is_lawful};
 pub use longest::Rows;
 pub use mains::MainTables;
+pub use policy::{Names, Place};
 pub use routes::BgpTable;
 pub use sessions::Sessions;
 pub use stable::Stable;
