@@ -16,7 +16,7 @@ use Rattle.nc_tables.specs.declared.base.BaseRow.{BaseRow}
 use Rattle.nc_tables.specs.declared.base.BaseFrom.{BaseFrom}
 use Rattle.nc_tables.specs.declared.base.BaseFrom.TheVariants.{Connected, Static}
 use Rattle.nc_tables.specs.Base.{connected_from, statics_from, static_row, static_from, interface_toward, hop_is_own, candidates, rank_of, from_cmp}
-use Rattle.nc_types.proofs.Members.{In, in_at}
+use Rattle.nc_types.proofs.Members.{In, in_at, in_either}
 use Rattle.nc_base_rib.proofs.Members.{Rises}
 
 -- ---- lists that rise
@@ -28,18 +28,9 @@ module _ {X : Type 0} (before : X → X → Type 0) where
   pairs_by_rises (x ∷ xs) r zero (suc j) d lt within = r.0 (get_or xs j d) (in_at xs j d (omega arith))
   pairs_by_rises (x ∷ xs) r (suc i) (suc j) d lt within = pairs_by_rises xs r.1 i j d (omega arith) (omega arith)
 
-in_append : {X : Type 0} (xs ys : List X) (z : X) → In z (xs ++ ys) → In z xs ⊎ In z ys
-in_append [] ys z i = inr i
-in_append (x ∷ xs) ys z (inl e) = inl (inl e)
-in_append {X} (x ∷ xs) ys z (inr i) = by_cases (in_append xs ys z i)
-  where
-    by_cases : In z xs ⊎ In z ys → In z (x ∷ xs) ⊎ In z ys
-    by_cases (inl j) = inl (inr j)
-    by_cases (inr j) = inr j
-
 rises_append : {X : Type 0} (before : X → X → Type 0) (xs ys : List X) → Rises before xs → Rises before ys → ((x z : X) → In x xs → In z ys → before x z) → Rises before (xs ++ ys)
 rises_append before [] ys r s cross = s
-rises_append {X} before (x ∷ xs) ys r s cross = ((λ z i. by_cases z (in_append xs ys z i)), rises_append before xs ys r.1 s (λ y z i j. cross y z (inr i) j))
+rises_append {X} before (x ∷ xs) ys r s cross = ((λ z i. by_cases z (in_either xs ys z i)), rises_append before xs ys r.1 s (λ y z i j. cross y z (inr i) j))
   where
     by_cases : (z : X) → In z xs ⊎ In z ys → before x z
     by_cases z (inl i) = r.0 z i

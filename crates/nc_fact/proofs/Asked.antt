@@ -4,7 +4,7 @@ use Rattle.std.specs.List.{range_with_len}
 use Rattle.std.specs.Option.{option_map_or}
 use Rattle.std.proofs.lemmas.List.{map-append}
 use Rattle.std.proofs.lemmas.Option.{slice_get-get_or}
-use Rattle.std.proofs.lemmas.List.Elements.{filter-append, All-nil, All-cons}
+use Rattle.std.proofs.lemmas.List.Elements.{filter-append}
 use Rattle.nc_types.specs.Cidr.{Cidr}
 use Rattle.nc_types.specs.declared.addr.Addr.{Addr}
 use Rattle.nc_types.specs.declared.config.RouterId.{RouterId}
@@ -12,7 +12,7 @@ use Rattle.nc_tables.specs.declared.bgp.MainRow.{MainRow}
 use Rattle.nc_tables.specs.Base.{same_prefix}
 use Rattle.nc_tables.specs.Longest.{places_from}
 use Rattle.nc_tables.specs.State.{StateView}
-use Rattle.nc_underlay.proofs.Flagging.{range_more}
+use Rattle.nc_types.proofs.Placing.{range_more}
 use Rattle.nc_fact.specs.declared.fact.Fact.{Fact}
 use Rattle.nc_fact.specs.declared.fact.Fact.TheVariants.{Main}
 use Rattle.nc_fact.specs.Facts.{main_rows, holds}
@@ -38,15 +38,6 @@ both_placed p q at place (x ∷ xs) known =
         → cond (b && q x) (place ∷ places_from (λ y. p y && q y) (place + 1) xs) (places_from (λ y. p y && q y) (place + 1) xs) ≡ filter at (cond b (place ∷ places_from p (place + 1) xs) (places_from p (place + 1) xs))
     by_first true e later = by_kept (q x) e later
     by_first false e later = later
-
--- what a filter keeps passes
-pub all_pass : {A : Type 0} (p : A → Bool) (xs : List A) → All (λ x. p x ≡ true) (filter p xs)
-all_pass {A} p [] = All-nil (λ (x : A). p x ≡ true)
-all_pass {A} p (x ∷ xs) = by_test (p x) refl (all_pass p xs)
-  where
-    by_test : (b : Bool) → p x ≡ b → All (λ (y : A). p y ≡ true) (filter p xs) → All (λ (y : A). p y ≡ true) (cond b (x ∷ filter p xs) (filter p xs))
-    by_test true e rest = All-cons (λ (y : A). p y ≡ true) x (filter p xs) e rest
-    by_test false e rest = rest
 
 module _ (s : StateView) (router : RouterId) (via : Option Addr) where
   -- whether the row at a place has the next hop that is asked for

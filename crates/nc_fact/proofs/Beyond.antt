@@ -20,11 +20,6 @@ pub beyond_by : (there : Bool) (router count : ℕ) → (router < count → IsTr
 beyond_by true router count has e = absurd cc
 beyond_by false router count has e = elim (cases_lt router count) [ inl lt ↦ (let never : false ≡ true = has lt in absurd cc) | inr le ↦ le ]
 
--- the base tables of a state are those of its routers
-pub base_is : (s : StateView) → IsState s → s.base ≡ base_tables s.routers
-unfolding state_at
-base_is s is = ap (λ (t : StateView). t.base) is.tables
-
 module _ (s : StateView) (is : IsState s) (router : ℕ) (beyond : length s.routers ≤ router) where
   pub no_base : base_rows s router ≡ []
   no_base = get_or_past s.base router [] (omega (arith, beyond, base_count s is))

@@ -11,6 +11,7 @@ use Rattle.nc_graph.specs.declared.node.NodeId.{NodeId}
 use Rattle.nc_graph.specs.Flow.{Flow, by_kind}
 use Rattle.nc_graph.specs.Derivation.{occurs}
 use Rattle.nc_graph.specs.Nodes.{Nodes, node_flow, IsGraph}
+use Rattle.nc_types.proofs.Truth.{same_truth}
 use Rattle.nc_graph.proofs.Members.{In, any_in, in_any, of_all}
 use Rattle.nc_graph.proofs.DerivationLaws.{by_rank, parent_lower, occurs-step}
 use Rattle.nc_marks.specs.Sets.{has, has_node, flag}
@@ -35,11 +36,7 @@ pub has_node-map : (ps : List NodeId) (i : ℕ) → has_node ps i ≡ has (map (
 has_node-map [] i = refl
 has_node-map (p ∷ ps) i = ap (λ b. nat_eq i p.0 || b) (has_node-map ps i)
 
--- two truth values that imply each other
-pub same_truth : (a b : Bool) → (a ≡ true → b ≡ true) → (b ≡ true → a ≡ true) → a ≡ b
-same_truth true b f h = sym (f refl)
-same_truth false true f h = h refl
-same_truth false false f h = refl
+-- ---- truth values
 
 pub or_cases : (a b : Bool) → (a || b) ≡ true → (a ≡ true) ⊎ (b ≡ true)
 or_cases true b e = inl refl

@@ -5,6 +5,7 @@ use Rattle.nc_types.specs.declared.addr.Addr.{Addr}
 use Rattle.nc_types.specs.declared.config.RouterId.{RouterId}
 use Rattle.nc_types.specs.Cidr.{Cidr}
 use Rattle.nc_tables.specs.Base.{same_prefix}
+use Rattle.nc_types.proofs.Sameness.{same_prefix_is}
 use Rattle.nc_fact.specs.declared.fact.Fact.{Fact}
 use Rattle.nc_fact.specs.declared.fact.Fact.TheVariants.{Element, Connected, Static, Base, Resolve, NetSource, Reach, Hop, Main}
 use Rattle.nc_rules.specs.Rules.{same_fact}
@@ -19,11 +20,6 @@ same_router r s e = ap (λ (n : ℕ). let id : RouterId = record { 0 = n } in id
 same_address : (a b : Addr) → nat_eq a.0 b.0 ≡ true → a ≡ b
 same_address a b e = ap (λ (n : ℕ). let addr : Addr = record { 0 = n } in addr) (eqb-true a.0 b.0 e)
 
-one_prefix : (p q : Cidr) → same_prefix p q ≡ true → p ≡ q
-one_prefix p q e =
-    let parts = both (nat_eq p.base q.base) (nat_eq p.len q.len) e in
-    ap (λ (n : ℕ). let c : Cidr = record { base = n; len = p.len } in c) (eqb-true p.base q.base parts.0) ∙ ap (λ (n : ℕ). let c : Cidr = record { base = q.base; len = n } in c) (eqb-true p.len q.len parts.1)
-
 -- two facts of a router and a further number
 same_two : (make : RouterId → ℕ → Fact) (r s : RouterId) (k l : ℕ) → (nat_eq r.0 s.0 && nat_eq k l) ≡ true → make r k ≡ make s l
 same_two make r s k l e = let parts = both (nat_eq r.0 s.0) (nat_eq k l) e in ap (λ (id : RouterId). make id k) (same_router r s parts.0) ∙ ap (make s) (eqb-true k l parts.1)
@@ -34,7 +30,7 @@ same_is (Connected r i) (Connected s j) h = same_two (λ (id : RouterId) (n : �
 same_is (Static r k) (Static s l) h = same_two Static r s k l h
 same_is (Base r k) (Base s l) h = same_two Base r s k l h
 same_is (Resolve r a) (Resolve s b) h = same_two (λ (id : RouterId) (n : ℕ). Resolve id (record { 0 = n })) r s a.0 b.0 h
-same_is (NetSource r p) (NetSource s q) h = let parts = both (nat_eq r.0 s.0) (same_prefix p q) h in ap (λ (id : RouterId). NetSource id p) (same_router r s parts.0) ∙ ap (NetSource s) (one_prefix p q parts.1)
+same_is (NetSource r p) (NetSource s q) h = let parts = both (nat_eq r.0 s.0) (same_prefix p q) h in ap (λ (id : RouterId). NetSource id p) (same_router r s parts.0) ∙ ap (NetSource s) (same_prefix_is p q parts.1)
 same_is (Reach r a m) (Reach s b n) h =
     let parts = both (nat_eq r.0 s.0) (nat_eq a.0 b.0 && nat_eq m n) h in
     let more = both (nat_eq a.0 b.0) (nat_eq m n) parts.1 in

@@ -3,7 +3,7 @@ use Rattle.std.proofs.Common.{◌≡◌, ℕ, zero, suc, ◌+◌, ◌-◌, ◌�
 use Rattle.std.specs.List.{range_with_len}
 use Rattle.std.proofs.lemmas.List.{map-append, append_assoc, append-nil}
 use Rattle.std.proofs.lemmas.List.Elements.{filter-append}
-use Rattle.nc_underlay.proofs.Flagging.{range_more}
+use Rattle.nc_types.proofs.Placing.{range_more}
 
 -- what is made of the numbers from one up to another
 abbrev pub made_between : {X : Type 0} → (ℕ → X) → (ℕ → Bool) → ℕ → ℕ → List X

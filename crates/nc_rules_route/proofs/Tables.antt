@@ -10,22 +10,19 @@ use Rattle.nc_tables.specs.declared.bgp.MainRow.{MainRow}
 use Rattle.nc_tables.specs.Base.{base_table, base_tables}
 use Rattle.nc_tables.specs.Main.{main_table}
 use Rattle.nc_tables.specs.State.{StateView, state_at, IsState}
+use Rattle.nc_tables.specs.CaseRelations.{state_base}
 use Rattle.nc_fact.specs.Facts.{base_place, base_rows, main_rows}
 use Rattle.nc_types.proofs.Members.{In}
 use Rattle.nc_rules_route.proofs.Members.{get_by_range, get_past}
 use Rattle.nc_rules_route.proofs.MainRows.{main_of_row}
 
 module _ (s : StateView) (is : IsState s) where
-  base_is : s.base ≡ base_tables s.routers
-  unfolding state_at
-  base_is = ap (λ (t : StateView). t.base) is.tables
-
   pub base_rows_at : (router : ℕ) (c : ConfigView) → slice_get s.routers router ≡ Some c → base_rows s router ≡ base_table c
-  base_rows_at router c at = ap (λ (t : List (List BaseRow)). slice_index_or t router []) base_is ∙ get_or_from_slice_get (map base_table s.routers) router (base_table c) [] (slice_get-map base_table s.routers router ∙ ap (option_map base_table) at)
+  base_rows_at router c at = ap (λ (t : List (List BaseRow)). slice_index_or t router []) (state_base s is) ∙ get_or_from_slice_get (map base_table s.routers) router (base_table c) [] (slice_get-map base_table s.routers router ∙ ap (option_map base_table) at)
 
   base_rows_none : (router : ℕ) → slice_get s.routers router ≡ None → base_rows s router ≡ []
   base_rows_none router none =
-      ap (λ (t : List (List BaseRow)). slice_index_or t router []) base_is ∙ sym (unwrap_or-slice_get (map base_table s.routers) router [])
+      ap (λ (t : List (List BaseRow)). slice_index_or t router []) (state_base s is) ∙ sym (unwrap_or-slice_get (map base_table s.routers) router [])
       ∙ ap (λ (o : Option (List BaseRow)). unwrap_or o []) (slice_get-map base_table s.routers router ∙ ap (option_map base_table) none)
 
   -- a router that has a base row is one of the network
@@ -62,4 +59,4 @@ module _ (s : StateView) (is : IsState s) where
   pub base_of_main : (router : ℕ) (m : MainRow) → In m (main_rows s router) → (place : ℕ) → base_place m.from ≡ Some place → place < length (base_rows s router)
   base_of_main router m i place of =
       let lt = main_of_row s.routers (base_tables s.routers) s.bgp router m (in_main router m i) place of in
-      subst (λ (t : List (List BaseRow)). place < length (slice_index_or t router [])) (sym base_is) lt
+      subst (λ (t : List (List BaseRow)). place < length (slice_index_or t router [])) (sym (state_base s is)) lt

@@ -5,9 +5,10 @@ use Rattle.std.specs.List.{list_any, flat_map}
 use Rattle.std.proofs.Math.Seq.{take-append_seam, drop-append_seam}
 use Rattle.std.proofs.lemmas.Bool.{cases_lt, both_ways}
 use Rattle.std.proofs.lemmas.Grind.{flat_map-append}
-use Rattle.std.proofs.lemmas.List.Elements.{All-nil, All-cons, All-append, All-get_or, All-take, All-drop}
+use Rattle.std.proofs.lemmas.List.Elements.{All-nil, All-append, All-get_or, All-take, All-drop}
 use Rattle.std.proofs.lemmas.List.Folds.{Any-from_list_any, list_any-from_Any}
 use Rattle.nc_types.specs.Config.{ConfigView}
+use Rattle.nc_types.proofs.Members.{all_by_in, in_by_filter}
 use Rattle.nc_types.specs.Network.{owner_at, router_named}
 use Rattle.nc_types.specs.declared.command.TestCommand.{TestCommand}
 use Rattle.nc_graph.specs.Closure.{IsClosure, ReachesMoreThan}
@@ -66,14 +67,6 @@ placed-at f (d ∷ cs) (suc k) c s at is = placed-at (λ i. f (suc i)) cs k c s 
 -- what some item is of those of which H holds
 any_weaker : {A : Type 0} (H P Q : A → Type 0) (xs : List A) → All H xs → ((x : A) → H x → P x → Q x) → Any P xs → Any Q xs
 any_weaker H P Q xs hold weaker a = (a.0, a.1, a.2, a.3, weaker a.1 (subst H a.3 (All-get_or H xs a.0 a.1 a.2 hold)) a.4)
-
-passed : {A : Type 0} (p : A → Bool) (xs : List A) → All (λ x. p x ≡ true) (filter p xs)
-passed p [] = All-nil (λ x. p x ≡ true)
-passed p (x ∷ xs) = on (p x) refl (passed p xs)
-  where
-    on : (b : Bool) → p x ≡ b → All (λ y. p y ≡ true) (filter p xs) → All (λ y. p y ≡ true) (cond b (x ∷ filter p xs) (filter p xs))
-    on true is rest = All-cons (λ y. p y ≡ true) x (filter p xs) is rest
-    on false is rest = rest
 
 -- ---- marks
 
@@ -168,7 +161,9 @@ module _ (s : StateView) where
 
   tested_hold : (test : TestCommand) → Hold (flow_of s) (tested_facts s test)
   unfolding flow_of tested_facts
-  tested_hold test = passed (holds s) (named_facts s test)
+  tested_hold test =
+      let named = named_facts s test in
+      all_by_in (λ (f : Fact). holds s f ≡ true) (filter (holds s) named) (λ f i. (in_by_filter (holds s) named f i).1)
 
   one_more : (tests : List KeptTest) (facts : List Fact) → asked_in (tests ++ live_test facts ∷ []) ≡ asked_in tests ++ facts
   one_more tests facts =

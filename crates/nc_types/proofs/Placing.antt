@@ -32,12 +32,12 @@ range_at from zero n lt = absurd (omega arith)
 range_at from (suc count) zero lt = ap Some (omega arith)
 range_at from (suc count) (suc n) lt = range_at (from + 1) count n (omega arith) ∙ ap Some (omega arith)
 
-pub range_push : (from count : ℕ) → range_with_len from (count + 1) ≡ range_with_len from count ++ (from + count) ∷ []
-range_push from count = let e : count + 1 ≡ suc count = omega arith in rw e (by_count from count)
-  where
-    by_count : (from count : ℕ) → range_with_len from (suc count) ≡ range_with_len from count ++ (from + count) ∷ []
-    by_count from zero = ap (λ (k : ℕ). k ∷ []) (omega arith)
-    by_count from (suc count) = ap (λ (ks : List ℕ). from ∷ ks) (by_count (from + 1) count ∙ ap (λ (k : ℕ). range_with_len (from + 1) count ++ k ∷ []) (omega arith))
+pub range_more : (from count : ℕ) → range_with_len from (suc count) ≡ range_with_len from count ++ (from + count) ∷ []
+range_more from zero = ap (λ (k : ℕ). k ∷ []) (omega arith)
+range_more from (suc count) = ap (λ (ks : List ℕ). from ∷ ks) (range_more (from + 1) count ∙ ap (λ (k : ℕ). range_with_len (from + 1) count ++ k ∷ []) (omega arith))
+
+range_push : (from count : ℕ) → range_with_len from (count + 1) ≡ range_with_len from count ++ (from + count) ∷ []
+range_push from count = let e : count + 1 ≡ suc count = omega arith in rw e (range_more from count)
 
 length-range : (from count : ℕ) → length (range_with_len from count) ≡ count
 length-range from zero = refl

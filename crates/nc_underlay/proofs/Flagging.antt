@@ -4,23 +4,15 @@ use Rattle.std.proofs.lemmas.Bool.{and_parts, and_from}
 use Rattle.std.specs.List.{list_any, range_with_len, filter}
 use Rattle.std.proofs.lemmas.List.Folds.{list_any-append, list_any_at}
 use Rattle.std.proofs.lemmas.List.FromFn.{length-range_with_len, get_or-range_with_len}
+use Rattle.nc_types.proofs.Placing.{range_more}
+use Rattle.nc_types.proofs.Truth.{same_truth, or_false}
 use Rattle.nc_underlay.specs.Levels.{flag, any_flagged}
 
 -- ---- truth values
 
--- two tests of which each passes where the other does
-pub same_truth : (a b : Bool) → (a ≡ true → b ≡ true) → (b ≡ true → a ≡ true) → a ≡ b
-same_truth true b f g = sym (f refl)
-same_truth false true f g = g refl
-same_truth false false f g = refl
-
 pub not_left : (a b : Bool) → (a || b) ≡ true → a ≡ false → b ≡ true
 not_left true b e f = absurd cc
 not_left false b e f = e
-
-pub or_false : (a : Bool) → (a || false) ≡ a
-or_false true = refl
-or_false false = refl
 
 pub not_true : (a : Bool) → (a ≡ true → ⊥) → a ≡ false
 not_true true f = absurd (f refl)
@@ -43,12 +35,6 @@ any_out f from (suc n) e = by_first (f from) refl e (any_out f (from + 1) n)
         → (list_any f (range_with_len (from + 1) n) ≡ true → (k : ℕ) × (from + 1 ≤ k) × (k < from + 1 + n) × (f k ≡ true)) → (k : ℕ) × (from ≤ k) × (k < from + suc n) × (f k ≡ true)
     by_first true here e later = (from, omega arith, omega arith, here)
     by_first false here e later = let found = later e in (found.0, omega (arith, found.1), omega (arith, found.2), found.3)
-
-pub range_more : (from n : ℕ) → range_with_len from (suc n) ≡ range_with_len from n ++ (from + n) ∷ []
-range_more from zero = let e : from ≡ from + 0 = omega arith in ap (λ (k : ℕ). k ∷ []) e
-range_more from (suc n) =
-    let e : from + 1 + n ≡ from + suc n = omega arith in
-    ap (λ (ks : List ℕ). from ∷ ks) (range_more (from + 1) n ∙ ap (λ (k : ℕ). range_with_len (from + 1) n ++ k ∷ []) e)
 
 pub any_more : (f : ℕ → Bool) (from n m last : ℕ) → m ≡ suc n → last ≡ from + n → list_any f (range_with_len from m) ≡ (list_any f (range_with_len from n) || f last)
 any_more f from n m last more is =

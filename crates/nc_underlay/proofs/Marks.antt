@@ -3,11 +3,8 @@ use Rattle.std.proofs.Common.{◌≡◌, ◌≢◌, ℕ, ◌+◌, ◌-◌, ◌<�
 use Rattle.std.specs.List.{list_any, range_with_len}
 use Rattle.std.proofs.lemmas.Bool.{eqb-true, eq-eqb}
 use Rattle.nc_underlay.specs.Levels.{flag, any_flagged}
-use Rattle.nc_underlay.proofs.Flagging.{any_more, flagged_more, or_false}
-
-or_assoc : (a b c : Bool) → ((a || b) || c) ≡ (a || (b || c))
-or_assoc true b c = refl
-or_assoc false b c = refl
+use Rattle.nc_types.proofs.Truth.{or_assoc, or_false}
+use Rattle.nc_underlay.proofs.Flagging.{any_more, flagged_more}
 
 -- a flag after one more place
 pub one_more : (test : ℕ → Bool) (before now later : Bool) (from place : ℕ) → from ≤ place → now ≡ (before || list_any test (range_with_len from (place - from))) → later ≡ (now || test place)

@@ -14,7 +14,8 @@ use Rattle.nc_types.specs.Joining.{Clash, Numbered, Used, numbered_from, with_la
 use Rattle.nc_tables.specs.Reach.{own_place, owns}
 use Rattle.nc_tables.proofs.Owner.{owner_from_low}
 use Rattle.nc_underlay.specs.Levels.{flag, any_flagged}
-use Rattle.nc_underlay.proofs.Flagging.{not_true, not_left, same_truth, flagged_in, flagged_out}
+use Rattle.nc_types.proofs.Truth.{same_truth}
+use Rattle.nc_underlay.proofs.Flagging.{not_true, not_left, flagged_in, flagged_out}
 
 -- ---- one address, one router
 

@@ -2,7 +2,8 @@ use Rattle.std.proofs.Common.{Bool, ◌&&◌, nat_le, length, sym, ap, ◌∙◌
 use Rattle.nc_tables.specs.Base.{base_tables}
 use Rattle.nc_tables.specs.Reach.{reaches}
 use Rattle.nc_types.specs.declared.TheConstants.{HOP_LIMIT}
-use Rattle.nc_fact.proofs.Beyond.{beyond_by, base_is, not_reached}
+use Rattle.nc_fact.proofs.Beyond.{beyond_by, not_reached}
+use Rattle.nc_tables.specs.CaseRelations.{state_base}
 use Rattle.nc_fact.proofs.Places.{above, and_false}
 use Rattle.nc_fact.proofs.truth.reaches.Goals as goal
 use Rattle.nc_fact.proofs.truth.reaches.Goals.{then-hops-gt-HOP_LIMIT-via-then-hops-gt-HOP_LIMIT, then-hops-gt-HOP_LIMIT-via-else-hops-gt-HOP_LIMIT+then-not-has_router}
@@ -19,4 +20,4 @@ returns-then-hops-gt-HOP_LIMIT c =
     ]
 
 pub reaches-requires-clause-tables : goal.reaches-requires-clause-tables
-reaches-requires-clause-tables c = c.base.ensures.base ∙ base_is c.args.state.now c.base.ensures.state ∙ ap base_tables (sym c.network.ensures.network)
+reaches-requires-clause-tables c = c.base.ensures.base ∙ state_base c.args.state.now c.base.ensures.state ∙ ap base_tables (sym c.network.ensures.network)

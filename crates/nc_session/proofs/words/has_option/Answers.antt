@@ -3,7 +3,7 @@ use Rattle.std.specs.List.{list_any}
 use Rattle.std.specs.String.{string_bytes}
 use Rattle.nc_session.specs.Words.{is_option}
 use Rattle.nc_session.specs.Words.{texts}
-use Rattle.nc_session.proofs.Walks.{drop_view}
+use Rattle.nc_types.proofs.Walks.{drop_view}
 use Rattle.nc_session.proofs.words.has_option.Goals as goal
 
 pub returns-then-is_option : goal.returns-then-is_option

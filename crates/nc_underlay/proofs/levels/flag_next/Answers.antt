@@ -1,7 +1,7 @@
 use Rattle.std.proofs.Common.{◌≡◌, ◌-◌, ◌||◌, Some, None, ap, sym, ◌∙◌, arith}
 use Rattle.std.specs.List.{list_any, range_with_len}
 use Rattle.nc_underlay.specs.Levels.{flag, leads_there}
-use Rattle.nc_underlay.proofs.Flagging.{or_false}
+use Rattle.nc_types.proofs.Truth.{or_false}
 use Rattle.nc_underlay.proofs.Hits.{next_by_rows, leads_there_is}
 use Rattle.nc_underlay.proofs.Marks.{one_more, flagged_one}
 use Rattle.nc_underlay.proofs.levels.flag_next.Goals as goal
