@@ -1,12 +1,13 @@
 -- What the lines of a route map say, and the clause that they make.
 use Rattle.std.specs.Prelude.{ℕ, ◌-◌, ◌^◌, Bool, true, false, ◌&&◌, ◌||◌, ◌==◌, nat_le, List, [], ◌∷◌, length, map, Option, Some, None, Result, Ok, Err, is_some, unwrap_or, option_and_then, if◌then◌else◌, codes}
-use Rattle.std.specs.List.{filter_map, flat_map, last_or, list_all}
+use Rattle.std.specs.List.{filter_map, flat_map, last_or, list_all, list_any}
 use Rattle.std.specs.Option.{option_map, option_map_or}
 use Rattle.std.specs.Str.{bytes_eq}
 use Rattle.nc_types.specs.Config.{ClauseView}
 use Rattle.nc_types.specs.declared.fault.Fault.{Fault}
 use Rattle.nc_types.specs.declared.fault.Cause.TheVariants.{Syntax, Unsupported}
 use Rattle.nc_types.specs.declared.config.Reference.{Reference}
+use Rattle.nc_types.specs.declared.communities.SetCommunity.{SetCommunity}
 use Rattle.nc_types.specs.declared.config.OriginCode.{OriginCode}
 use Rattle.nc_types.specs.declared.config.OriginCode.TheVariants.{Igp, Incomplete}
 use Rattle.nc_lines.specs.Lines.{words_of, is_indented}
@@ -14,6 +15,7 @@ use Rattle.nc_lines.specs.Numbers.{number_of}
 use Rattle.nc_lines.specs.Statements.{Reading, Outside, Faulty, Says, after, begins, alone_says, said_of}
 use Rattle.nc_lines.specs.Parts.{Numbered, Stated, first_of, fault_in, statements_in}
 use Rattle.nc_read_policy.specs.declared.TheConstants.{PREPEND_LIMIT}
+use Rattle.nc_read_policy.specs.Communities.{members_in, behind_communities}
 
 -- ---- headers
 
@@ -48,10 +50,12 @@ header_says words = option_map_or (λ rest. or_syntax (header_of rest)) (after (
 pub data ClauseStatement : Type 0 where
   Opens : Header → ClauseStatement
   Matches : List (List ℕ) → ClauseStatement
+  MatchesCommunities : List (List ℕ) → ClauseStatement
   SetsPreference : ℕ → ClauseStatement
   SetsMetric : ℕ → ClauseStatement
   Prepends : List ℕ → ClauseStatement
   SetsOrigin : OriginCode → ClauseStatement
+  SetsCommunities : SetCommunity → ClauseStatement
 
 -- one number below 2^32
 abbrev pub value_of : List (List ℕ) → Option ℕ
@@ -71,6 +75,27 @@ abbrev pub lists_say : List (List ℕ) → Reading ClauseStatement
 lists_say [] = Faulty Syntax
 lists_say (name ∷ names) = Says (Matches (name ∷ names))
 
+-- what is behind `match community`: names; an exact match isn't supported
+abbrev pub names_say : List (List ℕ) → Reading ClauseStatement
+names_say [] = Faulty Syntax
+names_say (name ∷ names) = Says (MatchesCommunities (name ∷ names))
+
+abbrev pub community_lists_say : List (List ℕ) → Reading ClauseStatement
+community_lists_say words = if list_any (λ word. bytes_eq word (codes "exact-match")) words then Faulty Unsupported else names_say words
+
+-- what sets these communities, or with `additive` adds them
+abbrev pub sets_say : Bool → Option (List ℕ) → Reading ClauseStatement
+sets_say additive members = or_syntax (option_map (λ ns. SetsCommunities (record { values = ns; additive = additive })) members)
+
+-- what is behind `set community`: communities, given what is behind them
+abbrev pub set_with : Option (List ℕ) → List (List ℕ) → Reading ClauseStatement
+set_with members [] = sets_say false members
+set_with members (word ∷ []) = if bytes_eq word (codes "additive") then sets_say true members else Faulty Unsupported
+set_with members words = Faulty Unsupported
+
+abbrev pub communities_say : List (List ℕ) → Reading ClauseStatement
+communities_say words = set_with (members_in words) (behind_communities words)
+
 -- what is behind `set as-path prepend`
 abbrev pub prepend_says : List (List ℕ) → Reading ClauseStatement
 prepend_says words = if are_asns words then Says (Prepends (filter_map asn_of words)) else Faulty Syntax
@@ -79,7 +104,7 @@ prepend_says words = if are_asns words then Says (Prepends (filter_map asn_of wo
 abbrev pub is_unsupported : List (List ℕ) → Bool
 is_unsupported words = begins (codes "match" ∷ []) words || (begins (codes "set" ∷ []) words || begins (codes "continue" ∷ []) words)
 
--- what the words of an indented line say: the six statements that are read, and of the rest what isn't supported
+-- what the words of an indented line say: the eight statements that are read, and of the rest what isn't supported
 unfoldable pub statement_says : List (List ℕ) → Reading ClauseStatement
 statement_says words =
     option_map_or lists_say (after (codes "match" ∷ codes "ip" ∷ codes "address" ∷ codes "prefix-list" ∷ []) words)
@@ -88,7 +113,9 @@ statement_says words =
     (option_map_or prepend_says (after (codes "set" ∷ codes "as-path" ∷ codes "prepend" ∷ []) words)
     (option_map_or (alone_says (SetsOrigin Igp)) (after (codes "set" ∷ codes "origin" ∷ codes "igp" ∷ []) words)
     (option_map_or (alone_says (SetsOrigin Incomplete)) (after (codes "set" ∷ codes "origin" ∷ codes "incomplete" ∷ []) words)
-    (if is_unsupported words then Faulty Unsupported else Outside))))))
+    (option_map_or community_lists_say (after (codes "match" ∷ codes "community" ∷ []) words)
+    (option_map_or communities_say (after (codes "set" ∷ codes "community" ∷ []) words)
+    (if is_unsupported words then Faulty Unsupported else Outside))))))))
 
 -- something that is said, as something else
 abbrev pub said_as : {S T : Type 0} → (S → T) → Reading S → Reading T
@@ -121,6 +148,10 @@ abbrev pub lists_by : ℕ → ClauseStatement → List Reference
 lists_by line (Matches names) = map (λ name. record { name = name; line = line }) names
 lists_by line s = []
 
+abbrev pub community_lists_by : ℕ → ClauseStatement → List Reference
+community_lists_by line (MatchesCommunities names) = map (λ name. record { name = name; line = line }) names
+community_lists_by line s = []
+
 abbrev pub preference_by : ClauseStatement → Option ℕ
 preference_by (SetsPreference n) = Some n
 preference_by s = None
@@ -136,6 +167,10 @@ prepend_by s = None
 abbrev pub origin_by : ClauseStatement → Option OriginCode
 origin_by (SetsOrigin code) = Some code
 origin_by s = None
+
+abbrev pub communities_by : ClauseStatement → Option SetCommunity
+communities_by (SetsCommunities set) = Some set
+communities_by s = None
 
 -- the last that statements say of a field
 abbrev pub last_of : {A : Type 0} → (ClauseStatement → Option A) → List ClauseLine → Option A
@@ -153,10 +188,12 @@ clause_of name number ss =
       number = number;
       permit = unwrap_or (last_of action_by ss) false;
       lists = flat_map (λ s. lists_by s.line s.setting) ss;
+      community_lists = flat_map (λ s. community_lists_by s.line s.setting) ss;
       preference = last_of preference_by ss;
       metric = last_of metric_by ss;
       prepend = unwrap_or (last_of prepend_by ss) [];
       origin = last_of origin_by ss;
+      communities = last_of communities_by ss;
       element = 0;
     }
 

@@ -57,7 +57,7 @@ counted_seq highest = if nat_le (highest + 5) greatest_seq then Some (highest + 
 abbrev pub entry_of : ℕ → ℕ → List (List ℕ) → Option ListEntry
 entry_of line seq (action ∷ prefix ∷ words) =
     option_and_then (λ permit. option_and_then (λ p.
-    option_map (λ b. record { seq = seq; permit = permit; prefix = p; low = b.0; high = b.1; line = line }) (bounds_of p.len words)) (around_of prefix)) (action_of action)
+    option_map (λ b. record { seq = seq; permit = permit; prefix = p; low = b.0; high = b.1; line = line; element = 0 }) (bounds_of p.len words)) (around_of prefix)) (action_of action)
 entry_of line seq words = None
 
 -- what is behind `seq`
@@ -75,7 +75,7 @@ abbrev pub named_entry : ℕ → ℕ → List (List ℕ) → Option (List ℕ ×
 named_entry line highest [] = None
 named_entry line highest (name ∷ words) = option_map (λ entry. (name, entry)) (any_entry line highest words)
 
--- the name and the entry of a line; in any other form it is a fault of syntax
+-- the name and the entry of a line, whose element is yet to be filled in; in any other form it is a fault of syntax
 unfoldable pub entry_at : ℕ → ℕ → List ℕ → Result (List ℕ × ListEntry) Fault
 entry_at line highest text =
     option_map_or (λ named. Ok named) (option_and_then (named_entry line highest) (after (codes "ip" ∷ codes "prefix-list" ∷ []) (words_of text))) (Err (record { line = line; cause = Syntax }))

@@ -1,5 +1,9 @@
+pub mod Communities
 pub mod Clauses
 pub mod Entries
+pub mod Lists
+pub mod CommunityEntries
 pub mod Outcomes
 pub mod Readings
 pub mod Drafts
+pub mod Laws

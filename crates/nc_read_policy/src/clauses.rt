@@ -63,8 +63,8 @@ fn name_and_number<'a>(lines: &'a Lines, block: &Block) -> (&'a [u8], u16)
 /// is 0, which the reader of the whole file fills in.
 ///
 /// The first line of the block is a header, `route-map W permit N` or `route-map W deny N`, which gives the name
-/// and the number; the last header gives the action. Each `match ip address prefix-list` adds its lists, and of
-/// what is set the last statement decides. The lines exist.
+/// and the number; the last header gives the action. Each `match ip address prefix-list` and each
+/// `match community` adds its lists, and of what is set the last statement decides. The lines exist.
 ///
 /// # Errors
 ///
@@ -78,9 +78,9 @@ pub fn read_clause(
     ensures { IsClause result (clause_in (numbered lines.now block.now.lines.items)) }
 {
     let (name, number) = name_and_number(lines, block);
-    let mut draft = Draft::new(alloc);
+    let mut draft = Draft::new(alloc, Text::new(alloc, name)?, number);
     for line in &block.lines {
         draft.take(alloc, *line, lines.line(*line))?;
     }
-    Ok(draft.finish(Text::new(alloc, name)?, number))
+    Ok(draft.finish())
 }

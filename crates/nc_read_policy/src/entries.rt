@@ -54,6 +54,7 @@ fn entry(line: u32, seq: u32, text: &[u8]) -> Option<ListEntry>
         low,
         high,
         line,
+        element: 0,
     })
 }
 
@@ -96,7 +97,8 @@ fn line_entry(line: u32, highest: u32, text: &[u8]) -> Option<(&[u8], ListEntry)
 }
 
 /// The entry of a line, which begins with `ip prefix-list`, and the name of its list. An entry that writes no
-/// number has the highest number of its list so far, 0 where there is none, and 5. Lines count from 1.
+/// number has the highest number of its list so far, 0 where there is none, and 5. Lines count from 1. Its element
+/// is 0, which the reader of the whole file fills in.
 ///
 /// # Errors
 ///

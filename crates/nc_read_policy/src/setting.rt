@@ -1,25 +1,31 @@
 //! What one line of a clause's block says, read by its words.
 
 ghost use Rattle.std.specs.Prelude.{◌≡◌, ◌∷◌, [], None, Some, codes, MatchOption};
+ghost use Rattle.std.specs.List.{list_any};
 ghost use Rattle.std.specs.Option.{option_map};
+ghost use Rattle.std.specs.Str.{bytes_eq};
 ghost use Rattle.nc_lines.specs.Lines.{words_of, is_indented};
-ghost use Rattle.nc_lines.specs.Statements.{after};
-ghost use Rattle.nc_read_policy.specs.Clauses.{SetsPreference, SetsMetric, Opens, or_syntax, lists_say, value_of, prepend_says, header_says, is_unsupported, statement_says, said_as, text_says};
+ghost use Rattle.nc_lines.specs.Statements.{after, alone_says};
+ghost use Rattle.nc_read_policy.specs.Clauses.{SetsPreference, SetsMetric, SetsOrigin, Opens, community_lists_say, sets_say, communities_say, or_syntax, lists_say, value_of, prepend_says, header_says, is_unsupported, statement_says, said_as, text_says};
 ghost use Rattle.nc_read_policy.specs.Readings.{statement_reading};
 
+use crate::communities::members;
 use crate::header::{ClauseHeader, read_clause_header};
 use crate::values::{are_asns, value};
+use nc_community::CommunitySet;
 use nc_lines::cut::{cut_word, is_indented};
-use nc_lines::statement::{Reading, after_one, after_three, after_two, alone, begins_one};
+use nc_lines::statement::{Reading, after_one, after_three, after_two, begins_one, is_word};
 use nc_types::{Cause, OriginCode};
 
 /// What a line of a clause's block says.
-#[derive(Clone, Copy, Debug, PartialEq, Eq)]
+#[derive(Drop)]
 pub(crate) enum Setting<'a> {
     /// The header of the clause.
     Opens(ClauseHeader<'a>),
     /// `match ip address prefix-list W ..`: the names as they are written.
     Matches(&'a [u8]),
+    /// `match community W ..`: the names as they are written.
+    MatchesCommunities(&'a [u8]),
     /// `set local-preference N`
     Preference(u32),
     /// `set metric N`
@@ -28,6 +34,8 @@ pub(crate) enum Setting<'a> {
     Prepend(&'a [u8]),
     /// `set origin igp` or `set origin incomplete`
     Origin(OriginCode),
+    /// `set community C ..`, and whether `additive` stands behind it.
+    Communities(CommunitySet, bool),
 }
 
 // What follows `match ip address prefix-list`; `None` where a line begins otherwise.
@@ -79,6 +87,68 @@ fn prepend(line: &[u8]) -> Reading<Setting<'_>>
     }
 }
 
+// What follows `set origin igp` or `set origin incomplete`: nothing.
+fn origin(code: OriginCode, line: &[u8]) -> Reading<Setting<'_>>
+    ensures { statement_reading result ≡ alone_says (SetsOrigin code) (words_of line.now) }
+{
+    match cut_word(line) {
+        None => Reading::Says(Setting::Origin(code)),
+        Some(_) => Reading::Faulty(Cause::Syntax),
+    }
+}
+
+// Whether a word is `exact-match`.
+fn is_exact(line: &[u8]) -> bool
+    ensures { result ≡ list_any (λ word. bytes_eq word (codes "exact-match")) (words_of line.now) }
+{
+    let mut rest = line;
+    'words: while let Some((word, behind)) = cut_word(rest) {
+        if is_word(word, "exact-match") {
+            return true;
+        }
+        rest = behind;
+    }
+    false
+}
+
+// What follows `match community`: names.
+fn community_lists(line: &[u8]) -> Reading<Setting<'_>>
+    ensures { statement_reading result ≡ community_lists_say (words_of line.now) }
+{
+    if is_exact(line) {
+        return Reading::Faulty(Cause::Unsupported);
+    }
+    match cut_word(line) {
+        None => Reading::Faulty(Cause::Syntax),
+        Some(_) => Reading::Says(Setting::MatchesCommunities(line)),
+    }
+}
+
+// What sets these communities.
+fn sets<'a>(additive: bool, members: Option<CommunitySet>) -> Reading<Setting<'a>>
+    ensures { statement_reading result ≡ sets_say additive members }
+{
+    match members {
+        None => Reading::Faulty(Cause::Syntax),
+        Some(set) => Reading::Says(Setting::Communities(set, additive)),
+    }
+}
+
+// What follows `set community`: communities, and nothing or `additive` behind them.
+fn communities(line: &[u8]) -> Reading<Setting<'_>>
+    ensures { statement_reading result ≡ communities_say (words_of line.now) }
+{
+    let (members, rest) = members(line);
+    let Some((word, rest)) = cut_word(rest) else {
+        return sets(false, members);
+    };
+    if is_word(word, "additive") && cut_word(rest).is_none() {
+        sets(true, members)
+    } else {
+        Reading::Faulty(Cause::Unsupported)
+    }
+}
+
 // A statement that isn't supported.
 fn is_unsupported(line: &[u8]) -> bool
     ensures { result ≡ is_unsupported (words_of line.now) }
@@ -104,10 +174,16 @@ fn statement(line: &[u8]) -> Reading<Setting<'_>>
         return prepend(rest);
     }
     if let Some(rest) = after_three(line, "set", "origin", "igp") {
-        return alone(Setting::Origin(OriginCode::Igp), rest);
+        return origin(OriginCode::Igp, rest);
     }
     if let Some(rest) = after_three(line, "set", "origin", "incomplete") {
-        return alone(Setting::Origin(OriginCode::Incomplete), rest);
+        return origin(OriginCode::Incomplete, rest);
+    }
+    if let Some(rest) = after_two(line, "match", "community") {
+        return community_lists(rest);
+    }
+    if let Some(rest) = after_two(line, "set", "community") {
+        return communities(rest);
     }
     if is_unsupported(line) {
         return Reading::Faulty(Cause::Unsupported);

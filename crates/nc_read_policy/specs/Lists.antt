@@ -1,0 +1,66 @@
+-- The prefix list that its statements make.
+use Rattle.std.specs.Prelude.{ℕ, ◌==◌, nat_lt, List, [], ◌∷◌, map, filter, Option, Result, Ok, Err, if◌then◌else◌, codes}
+use Rattle.std.specs.List.{filter_map, last_or}
+use Rattle.std.specs.Option.{None, option_map}
+use Rattle.std.specs.Str.{bytes_eq}
+use Rattle.nc_types.specs.Communities.{put_all}
+use Rattle.nc_types.specs.declared.fault.Fault.{Fault}
+use Rattle.nc_types.specs.declared.fault.Cause.TheVariants.{Syntax}
+use Rattle.nc_types.specs.declared.config.ListEntry.{ListEntry}
+use Rattle.nc_lines.specs.Parts.{Numbered}
+use Rattle.nc_lines.specs.Statements.{Reading, Outside, Faulty, Says}
+use Rattle.nc_read_policy.specs.Entries.{entry_at}
+
+-- what is behind `ip prefix-list`: the name of a list; a description, and that entries are shown with their numbers, are outside
+abbrev pub list_name_says : List (List ℕ) → Reading (List ℕ)
+list_name_says [] = Faulty Syntax
+list_name_says (name ∷ []) = if bytes_eq name (codes "sequence-number") then Outside else Says name
+list_name_says (name ∷ word ∷ words) = if bytes_eq word (codes "description") then Outside else Says name
+
+-- ---- statements
+
+-- what is made of a value, if there is one, and otherwise its fault
+abbrev pub on_ok : {A B : Type 0} → (A → Result B Fault) → Result A Fault → Result B Fault
+on_ok f (Ok x) = f x
+on_ok f (Err fault) = Err fault
+
+abbrev pub ok_map : {A B : Type 0} → (A → B) → Result A Fault → Result B Fault
+ok_map f (Ok x) = Ok (f x)
+ok_map f (Err fault) = Err fault
+
+-- the higher of two numbers
+abbrev pub higher : ℕ → ℕ → ℕ
+higher m n = if nat_lt m n then n else m
+
+-- the entries that the lines of one list write, given the highest number before them, or the fault of the first faulty line
+abbrev pub stated_from : ℕ → List Numbered → Result (List ListEntry) Fault
+stated_from highest [] = Ok []
+stated_from highest (l ∷ block) =
+    on_ok (λ named. ok_map (λ es. named.1 ∷ es) (stated_from (higher highest named.1.seq) block)) (entry_at l.line highest l.text)
+
+-- ---- entries
+
+-- an entry, and the lines of its statements
+pub record EntryPart : Type 0 where
+  pub entry : ListEntry
+  pub lines : List ℕ
+
+-- the statements of one number
+abbrev pub of_seq : ℕ → List ListEntry → List ListEntry
+of_seq seq es = filter (λ e. e.seq == seq) es
+
+-- what statements of one number make: the last one holds, and the lines are those of all
+abbrev pub part_of : List ListEntry → Option EntryPart
+part_of es = option_map (λ last. record { entry = last; lines = map (λ e. e.line) es }) (last_or None es)
+
+-- the numbers of statements, ascending and each once
+abbrev pub seqs_of : List ListEntry → List ℕ
+seqs_of es = put_all [] (map (λ e. e.seq) es)
+
+-- the entries that statements make: one for each number, in order of the numbers
+abbrev pub parts_of : List ListEntry → List EntryPart
+parts_of es = filter_map (λ seq. part_of (of_seq seq es)) (seqs_of es)
+
+-- the entries of the list that these lines make, or the fault of the first faulty one
+unfoldable pub list_in : List Numbered → Result (List EntryPart) Fault
+list_in block = ok_map parts_of (stated_from 0 block)
