@@ -5,7 +5,8 @@ use Rattle.std.proofs.lemmas.Bool.{eqb-true, eq-eqb, ltb-true, lt-ltb, leb-true}
 use Rattle.std.proofs.lemmas.List.FromFn.{length-range_with_len}
 use Rattle.std.proofs.lemmas.Map.Views.{any-filter_same}
 use Rattle.nc_tables.specs.Longest.{places_from}
-use Rattle.nc_underlay.proofs.Flagging.{same_truth, not_true, any_in, any_out}
+use Rattle.nc_types.proofs.Truth.{same_truth}
+use Rattle.nc_underlay.proofs.Flagging.{not_true, any_in, any_out}
 
 -- a filter keeps some exactly where one passes
 pub some_kept : {A : Type 0} (test : A → Bool) (xs : List A) → nat_lt 0 (length (filter test xs)) ≡ list_any test xs

@@ -20,7 +20,8 @@ use Rattle.nc_tables.specs.Rounds.{BgpRowView, AreBgpRows, chosen_in, chosen_at,
 use Rattle.nc_tables.specs.Main.{AreMainRows, discards, learnt_rows, bgp_side, base_side, nearer, prefixes_at, main_rows_at, main_table, main_tables}
 use Rattle.nc_tables.specs.State.{StateView, HaveNoProcess, IsState, state_at, static_state}
 use Rattle.nc_tables.proofs.RowOrder.{by_prefix}
-use Rattle.nc_tables.proofs.ByPrefix.{same_is, prefixes_rise, distinct_in_order, of_prefix, by_prefixes}
+use Rattle.nc_types.proofs.Sameness.{same_prefix_is}
+use Rattle.nc_tables.proofs.ByPrefix.{prefixes_rise, distinct_in_order, of_prefix, by_prefixes}
 use Rattle.nc_tables.proofs.WithoutProcess.{no_process, of_none, stays}
 use Rattle.nc_stable.specs.MainRows.{main_row, main_rows}
 
@@ -70,7 +71,7 @@ module _ (routers : List ConfigView) (none : HaveNoProcess routers) (tables : Li
       where
         on : (place : ℕ) (row : BaseRow) (b : Bool) → same_prefix row.prefix p ≡ b
             → cond b (Some (record { prefix = p; distance = row.distance; from = Base place })) None ≡ cond b (Some (main_row place row)) None
-        on place row true same = ap (λ (q : Cidr). Some (record { prefix = q; distance = row.distance; from = Base place })) (sym (same_is row.prefix p same))
+        on place row true same = ap (λ (q : Cidr). Some (record { prefix = q; distance = row.distance; from = Base place })) (sym (same_prefix_is row.prefix p same))
         on place row false other = refl
 
     alone : (xs : List MainRow) → nearer xs [] ≡ xs

@@ -8,7 +8,8 @@ use Rattle.nc_types.specs.Network.{PlaceIn}
 use Rattle.nc_tables.specs.declared.base.BaseRow.{BaseRow}
 use Rattle.nc_tables.specs.Reach.{hits, leads_to, owns, reaches}
 use Rattle.nc_underlay.specs.Levels.{flag, any_flagged, is_next}
-use Rattle.nc_underlay.proofs.Flagging.{same_truth, not_left, not_true, flagged_in, flagged_out}
+use Rattle.nc_types.proofs.Truth.{same_truth}
+use Rattle.nc_underlay.proofs.Flagging.{not_left, not_true, flagged_in, flagged_out}
 use Rattle.nc_tables.proofs.Owner.{next_within}
 
 -- ---- routers to which places lead
