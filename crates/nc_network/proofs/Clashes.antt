@@ -79,12 +79,10 @@ all-kept {A} {B} h f (x ∷ xs) =
       on None = refl
       on (Some y) = all-cons f y (filter_map h xs) ∙ ap (λ (o : Option Clash). merge o (first_of_all f (filter_map h xs))) (sym (all-cons f y [] ∙ merge-none (earliest (f y))))
 
--- three searches, one after another
-pub found-three : (found r1 r2 r3 : Option Clash) (ps qs cs : List Clash) → r1 ≡ merge found (earliest ps) → r2 ≡ merge r1 (earliest qs) → r3 ≡ merge r2 (earliest cs) → r3 ≡ merge found (earliest (ps ++ (qs ++ cs)))
-found-three found r1 r2 r3 ps qs cs one two three =
-    three ∙ ap (λ (o : Option Clash). merge o (earliest cs)) (two ∙ ap (λ (o : Option Clash). merge o (earliest qs)) one)
-    ∙ merge_assoc (merge found (earliest ps)) (earliest qs) (earliest cs) ∙ ap (merge (merge found (earliest ps))) (sym (earliest-append qs cs))
-    ∙ merge_assoc found (earliest ps) (earliest (qs ++ cs)) ∙ ap (merge found) (sym (earliest-append ps (qs ++ cs)))
+-- two searches, one after the other
+pub found-two : (found r1 r2 : Option Clash) (ps qs : List Clash) → r1 ≡ merge found (earliest ps) → r2 ≡ merge r1 (earliest qs) → r2 ≡ merge found (earliest (ps ++ qs))
+found-two found r1 r2 ps qs one two =
+    two ∙ ap (λ (o : Option Clash). merge o (earliest qs)) one ∙ merge_assoc found (earliest ps) (earliest qs) ∙ ap (merge found) (sym (earliest-append ps qs))
 
 pub all-one : {A : Type 0} (f : A → List Clash) (x : A) → first_of_all f (x ∷ []) ≡ earliest (f x)
 all-one f x = all-cons f x [] ∙ merge-none (earliest (f x))

@@ -4,8 +4,8 @@ use Rattle.std.specs.List.{filter_map, cons_option, list_any}
 use Rattle.std.proofs.lemmas.Bool.{both_ways}
 use Rattle.std.proofs.lemmas.List.{append_assoc, append-nil, length_push}
 use Rattle.nc_network.specs.declared.TheConstants.{PREFIX_LIMIT}
-use Rattle.nc_types.specs.Cidr.{Cidr}
-use Rattle.nc_network.specs.Judged.{same_prefix, new_after}
+use Rattle.nc_types.specs.Cidr.{Cidr, same_prefix}
+use Rattle.nc_network.specs.Judged.{new_after}
 use Rattle.nc_network.specs.Steps.{added, Fits}
 
 abbrev pub with_prefix : List Cidr → Cidr → List Cidr
@@ -61,9 +61,6 @@ first-many old ps qs many =
 -- what a test keeps of an item that has something
 pub kept-some : {A B : Type 0} (h : A → Option B) (y : B) (x : A) (xs ys : List A) → h x ≡ Some y → ys ≡ x ∷ xs → filter_map h ys ≡ y ∷ filter_map h xs
 kept-some {A} {B} h y x xs ys e cut = ap (filter_map h) cut ∙ ap (λ (o : Option B). cons_option o (filter_map h xs)) e
-
-pub kept-none : {A B : Type 0} (h : A → Option B) (x : A) (xs ys : List A) → h x ≡ None → ys ≡ x ∷ xs → filter_map h ys ≡ filter_map h xs
-kept-none {A} {B} h x xs ys e cut = ap (filter_map h) cut ∙ ap (λ (o : Option B). cons_option o (filter_map h xs)) e
 
 -- a walk that found too many
 pub stopped : (old now new total ps xs ys : List Cidr) → IsLeft old now ys total → ys ≡ ps ++ xs → (fits : Bool) → Fits fits now new ps → fits ≡ false → Fits false old new total

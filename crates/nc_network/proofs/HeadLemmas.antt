@@ -2,31 +2,14 @@
 use Rattle.std.proofs.Common.{◌≡◌, ℕ, Bool, true, false, cond, ◌&&◌, ◌||◌, List, [], ◌∷◌, Option, Some, None, refl, sym, ap, ◌∙◌, arith}
 use Rattle.std.specs.Prelude.{nat_lt, ◌==◌}
 use Rattle.std.specs.List.{flat_map}
-use Rattle.std.specs.Map.{lookup}
 use Rattle.std.specs.Option.{option_map, option_map_or}
-use Rattle.std.proofs.lemmas.Bool.{eq-eqb, le-ltb, eqb-true}
+use Rattle.std.proofs.lemmas.Bool.{eq-eqb, le-ltb}
 use Rattle.std.proofs.lemmas.Bool.Decides.{nat_tests}
-use Rattle.nc_types.specs.declared.addr.Addr.{Addr}
 use Rattle.nc_types.specs.Joining.{Clash, Used, Numbered, before_or, is_before, earlier, earliest, used_by, same_address, with_later}
 use Rattle.nc_network.specs.declared.clash.Place.{Place}
-use Rattle.nc_network.specs.Steps.{merge, first_of_all, lower_place, Heading, head_of, Heads, Notes, by_address, pair_up, address_pairs, router_addresses}
+use Rattle.nc_network.specs.Steps.{merge, first_of_all, lower_place, head_of, by_address, pair_up, address_pairs, router_addresses}
 use Rattle.nc_network.proofs.ClashOrder.{merge_comm}
 use Rattle.nc_network.proofs.Clashes.{all-cons, all-turned, all-joined, all-same, earliest-append}
-
--- one more value
-module _ {K V : Type 0} (h : Heading K V) (exact : (x y : K) → h.same x y ≡ true → x ≡ y) where
-  pub heads-more : (old new : List (K × V)) (x : Used) (xs : List Used) → Heads h old xs → Notes h (h.key x) (h.value x) old new → Heads h new (x ∷ xs)
-  heads-more old new x xs heads notes q =
-      notes q ∙ by (h.same (h.key x) q) refl where
-        by : (b : Bool) → h.same (h.key x) q ≡ b → cond b (Some (option_map_or (h.lower (h.value x)) (lookup (h.same (h.key x)) old) (h.value x))) (lookup (h.same q) old)
-            ≡ cond b (Some (option_map_or (h.lower (h.value x)) (head_of h q xs) (h.value x))) (head_of h q xs)
-        by true e = ap (λ (o : Option V). Some (option_map_or (h.lower (h.value x)) o (h.value x))) (heads (h.key x) ∙ ap (λ (k : K). head_of h k xs) (exact (h.key x) q e))
-        by false e = heads q
-
-pub address_exact : (x y : Addr) → by_address.same x y ≡ true → x ≡ y
-address_exact x y e = let same : x.0 ≡ y.0 = eqb-true x.0 y.0 e in ap (λ (n : ℕ). address_at n) same where
-  address_at : ℕ → Addr
-  address_at n = record { 0 = n }
 
 -- ---- pairs of one first line
 

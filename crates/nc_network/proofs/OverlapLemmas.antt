@@ -2,27 +2,17 @@
 use Rattle.std.proofs.Common.{◌≡◌, ℕ, ◌+◌, ◌-◌, ◌*◌, ◌/◌, ◌<◌, ◌≤◌, Bool, true, false, cond, ◌&&◌, List, [], ◌∷◌, Option, Some, None, refl, sym, ap, ◌∙◌, inl, inr, arith}
 use Rattle.std.specs.Prelude.{nat_lt, nat_le, ◌==◌}
 use Rattle.std.specs.Option.{option_map, option_map_or}
-use Rattle.std.proofs.lemmas.Bool.{cases_Bool, cases_order, and_parts, eq-eqb, ne_eqb, lt-ltb, le-ltb, le-leb, lt-leb, eqb-true, eqb-false}
+use Rattle.std.proofs.lemmas.Bool.{cases_Bool, cases_order, eq-eqb, ne_eqb, lt-ltb, le-ltb, le-leb, lt-leb, eqb-true, eqb-false}
 use Rattle.std.proofs.Math.Nat.{mul-div_cancel}
 use Rattle.std.proofs.lemmas.Nat.{pow_pos}
 use Rattle.std.proofs.lemmas.Bool.Decides.{nat_tests}
-use Rattle.nc_types.specs.Cidr.{Cidr, IsCidr}
+use Rattle.nc_types.specs.Cidr.{Cidr, IsCidr, same_prefix}
 use Rattle.nc_types.specs.Masks.{size_of, network_of}
 use Rattle.nc_types.specs.Joining.{Clash, Used, before_or, is_before, earlier, earliest, is_inside}
-use Rattle.nc_network.specs.Judged.{same_prefix}
 use Rattle.nc_network.specs.Steps.{merge, first_of_all, head_of, by_prefix, lower_line, lines_clash, in_length, in_shorter, same_pairs, AreCidrs}
 use Rattle.nc_network.proofs.ClashOrder.{merge-none}
 use Rattle.nc_network.proofs.Clashes.{all-cons, all-both, all-same, all-none}
 use Rattle.nc_network.proofs.HeadLemmas.{or_same}
-
-pub prefix_exact : (p q : Cidr) → same_prefix p q ≡ true → p ≡ q
-prefix_exact p q e =
-    let parts = and_parts (p.base == q.base) (p.len == q.len) e in
-    let bases : p.base ≡ q.base = eqb-true p.base q.base parts.0 in
-    let lens : p.len ≡ q.len = eqb-true p.len q.len parts.1 in
-    ap (λ (n : ℕ). cidr n p.len) bases ∙ ap (cidr q.base) lens where
-      cidr : ℕ → ℕ → Cidr
-      cidr base len = record { base = base; len = len }
 
 -- ---- two lines of one router
 

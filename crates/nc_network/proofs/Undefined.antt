@@ -8,12 +8,12 @@ use Rattle.nc_types.specs.declared.config.Interface.{Interface}
 use Rattle.nc_types.specs.declared.config.StaticRoute.{StaticRoute}
 use Rattle.nc_types.specs.declared.config.Neighbor.{Neighbor}
 use Rattle.nc_types.specs.declared.config.Clause.{Clause}
-use Rattle.nc_types.specs.declared.config.PrefixList.{PrefixList}
 use Rattle.nc_types.specs.declared.config.Process.{Process}
 use Rattle.nc_types.specs.declared.config.RouterConfig.{RouterConfig}
-use Rattle.nc_types.specs.Config.{ClauseView, PrefixListView, ProcessView, clause_view, list_view, process_view}
+use Rattle.nc_types.specs.Config.{ClauseView, ProcessView, clause_view, config_view, process_view}
 use Rattle.nc_types.specs.Joining.{Clash, earliest, undefined_by, interface_by}
-use Rattle.nc_network.specs.Steps.{merge, first_of_all, Knows, undefined_interfaces, undefined_maps, undefined_lists}
+use Rattle.nc_network.specs.declared.defined.ListKind.{ListKind}
+use Rattle.nc_network.specs.Steps.{merge, first_of_all, Knows, undefined_interfaces, undefined_maps, undefined_lists, names_of, lists_in}
 use Rattle.nc_network.proofs.ClashOrder.{merge-none, merge_assoc}
 use Rattle.nc_network.proofs.Clashes.{all-append, all-same, all-kept, all-joined}
 use Rattle.nc_network.proofs.Walks.{numbered}
@@ -28,10 +28,11 @@ module _ (router : ℕ) (keys names : List (List ℕ)) (knows : Knows keys names
   kept_known : {A : Type 0} (h : A → Option Reference) (xs : List A) → first_of_all (undefined_by router names) (filter_map h xs) ≡ first_of_all (λ x. flat_map (undefined_by router keys) (option_to_list (h x))) xs
   kept_known h xs = all_known (filter_map h xs) ∙ all-kept h (undefined_by router keys) xs
 
-  joined_known : (ks : List ClauseView) → first_of_all (undefined_by router names) (flat_map (λ k. k.lists) ks) ≡ first_of_all (λ k. flat_map (undefined_by router keys) k.lists) ks
-  joined_known ks =
-      all-joined (λ (k : ClauseView). k.lists) (undefined_by router names) ks
-      ∙ all-same (λ (k : ClauseView). flat_map (undefined_by router names) k.lists) (λ (k : ClauseView). flat_map (undefined_by router keys) k.lists) (λ k. all_known k.lists) ks
+  joined_known : (lists : ClauseView → List Reference) (ks : List ClauseView)
+      → first_of_all (undefined_by router names) (flat_map lists ks) ≡ first_of_all (λ k. flat_map (undefined_by router keys) (lists k)) ks
+  joined_known lists ks =
+      all-joined lists (undefined_by router names) ks
+      ∙ all-same (λ (k : ClauseView). flat_map (undefined_by router names) (lists k)) (λ (k : ClauseView). flat_map (undefined_by router keys) (lists k)) (λ k. all_known (lists k)) ks
 
 abbrev vias : ℕ → List (List ℕ) → StaticRoute → List Clash
 vias router keys s = flat_map (undefined_by router keys) (option_to_list (interface_by s.via))
@@ -55,10 +56,6 @@ none_through (s ∷ ss) e = by_via (interface_by s.via) (none_through ss) e
         → cons_option o (filter_map (λ s. interface_by s.via) ss) ≡ []
     by_via None rest e = rest e
     by_via (Some r) rest e = absurd cc
-
-pub none_is : {X : Type 0} (o : Option X) → is_some o ≡ false → o ≡ None
-none_is None e = refl
-none_is (Some x) e = absurd cc
 
 -- where there is no process and no route leads through an interface, nothing refers to one
 pub interfaces-unused : (router : ℕ) (config : RouterConfig) (found : Option Clash) → config.process ≡ None → list_any (λ s. is_some (interface_by s.via)) config.statics.items ≡ false
@@ -117,13 +114,11 @@ maps-some router config p keys clauses neighbors others found r s same same_neig
     ∙ ap (λ (o : Option Clash). merge o outs) (e ∙ ap (λ (ns : List Neighbor). merge found (first_of_all (through router keys (λ n. n.map_in)) ns)) same_neighbors)
     ∙ merge_assoc found ins outs ∙ ap (merge found) (sym parts)
 
--- ---- prefix lists
+-- ---- lists of a kind
 
-pub lists-found : (router : ℕ) (config : RouterConfig) (keys : List (List ℕ)) (lists : List PrefixList) (clauses : List Clause) (found r : Option Clash)
-    → lists ≡ config.lists.items → clauses ≡ config.clauses.items → Knows keys (map (λ l. l.name) (map list_view lists))
-    → r ≡ merge found (first_of_all (λ k. flat_map (undefined_by router keys) k.lists) (map clause_view clauses)) → r ≡ merge found (earliest (undefined_lists (numbered router config)))
-lists-found router config keys lists clauses found r same same_clauses knows e =
-    let names = map (λ (l : PrefixListView). l.name) (map list_view config.lists.items) in
-    let known : Knows keys names = λ q. knows q ∙ ap (λ (ls : List PrefixList). list_any (bytes_eq q) (map (λ (l : PrefixListView). l.name) (map list_view ls))) same in
-    e ∙ ap (λ (ks : List Clause). merge found (first_of_all (λ (k : ClauseView). flat_map (undefined_by router keys) k.lists) (map clause_view ks))) same_clauses
-    ∙ ap (merge found) (sym (joined_known router keys names known (map clause_view config.clauses.items)))
+pub lists-found : (kind : ListKind) (router : ℕ) (config : RouterConfig) (keys : List (List ℕ)) (clauses : List Clause) (found r : Option Clash)
+    → clauses ≡ config.clauses.items → Knows keys (names_of kind (config_view config))
+    → r ≡ merge found (first_of_all (λ k. flat_map (undefined_by router keys) (lists_in kind k)) (map clause_view clauses)) → r ≡ merge found (earliest (undefined_lists kind (numbered router config)))
+lists-found kind router config keys clauses found r same knows e =
+    e ∙ ap (λ (ks : List Clause). merge found (first_of_all (λ (k : ClauseView). flat_map (undefined_by router keys) (lists_in kind k)) (map clause_view ks))) same
+    ∙ ap (merge found) (sym (joined_known router keys (names_of kind (config_view config)) knows (lists_in kind) (map clause_view config.clauses.items)))

@@ -1,8 +1,8 @@
 -- What is wrong with several configurations together, and which fault of them is told.
-use Rattle.std.specs.Prelude.{ℕ, Bool, nat_lt, ◌==◌, ◌&&◌, List, [], ◌∷◌, ◌++◌, length, map, if◌then◌else◌}
+use Rattle.std.specs.Prelude.{ℕ, nat_lt, List, [], ◌∷◌, ◌++◌, length, map, if◌then◌else◌}
 use Rattle.std.specs.List.{filter_map, flat_map, list_any, sum_by}
 use Rattle.std.specs.Option.{option_map, option_map_or}
-use Rattle.nc_types.specs.Cidr.{Cidr}
+use Rattle.nc_types.specs.Cidr.{Cidr, same_prefix}
 use Rattle.nc_types.specs.Config.{ProcessView, ConfigView}
 use Rattle.nc_types.specs.Joining.{Clash, earliest, same_names, overlaps, same_addresses, undefined}
 use Rattle.nc_network.specs.declared.TheConstants.{PREFIX_LIMIT, NEIGHBOR_LIMIT}
@@ -19,10 +19,6 @@ process_prefixes p = map (λ n. n.prefix) p.networks ++ map (λ a. a.prefix) p.a
 abbrev pub prefixes_in : ConfigView → List Cidr
 prefixes_in c =
     filter_map (λ i. option_map (λ a. a.prefix) i.address) c.interfaces ++ (map (λ s. s.prefix) c.statics ++ option_map_or process_prefixes c.process [])
-
--- two prefixes that are the same
-abbrev pub same_prefix : Cidr → Cidr → Bool
-same_prefix p q = (p.base == q.base) && (p.len == q.len)
 
 -- of a list of prefixes those that are not among the ones before them, each once
 abbrev pub new_after : List Cidr → List Cidr → List Cidr

@@ -1,3 +1,4 @@
 pub mod Judged
 pub mod Told
 pub mod Steps
+pub mod CaseLists

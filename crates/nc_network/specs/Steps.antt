@@ -4,14 +4,17 @@ use Rattle.std.specs.List.{flat_map, list_any}
 use Rattle.std.specs.Map.{lookup}
 use Rattle.std.specs.Option.{option_map, option_map_or}
 use Rattle.std.specs.Str.{bytes_eq}
-use Rattle.nc_types.specs.Cidr.{Cidr, IsCidr}
+use Rattle.nc_types.specs.Cidr.{Cidr, IsCidr, same_prefix}
 use Rattle.nc_types.specs.declared.addr.Addr.{Addr}
 use Rattle.nc_types.specs.declared.config.Interface.{Interface}
+use Rattle.nc_types.specs.declared.config.Reference.{Reference}
+use Rattle.nc_types.specs.Config.{ConfigView, ClauseView}
 use Rattle.nc_types.specs.Network.{up_of}
-use Rattle.nc_types.specs.Joining.{Clash, Numbered, Used, before_or, earlier, earliest, used_by, same_address, is_inside, undefined_by, interface_references, map_references, list_references}
+use Rattle.nc_types.specs.Joining.{Clash, Numbered, Used, before_or, earlier, earliest, used_by, same_address, is_inside, undefined_by, interface_references, map_references}
 use Rattle.nc_network.specs.declared.TheConstants.{PREFIX_LIMIT}
 use Rattle.nc_network.specs.declared.clash.Place.{Place}
-use Rattle.nc_network.specs.Judged.{same_prefix}
+use Rattle.nc_network.specs.declared.defined.ListKind.{ListKind}
+use Rattle.nc_network.specs.declared.defined.ListKind.TheVariants.{OfPrefixes, OfCommunities}
 
 -- the earlier of two clashes, each of which may be missing
 abbrev pub merge : Option Clash → Option Clash → Option Clash
@@ -34,8 +37,17 @@ undefined_interfaces n = flat_map (undefined_by n.router (map (λ i. i.name) n.c
 abbrev pub undefined_maps : Numbered → List Clash
 undefined_maps n = flat_map (undefined_by n.router (map (λ k. k.map_name) n.config.clauses)) (map_references n.config)
 
-abbrev pub undefined_lists : Numbered → List Clash
-undefined_lists n = flat_map (undefined_by n.router (map (λ l. l.name) n.config.lists)) (list_references n.config)
+-- the names of the lists of a kind, and the lists of a kind that a clause refers to
+abbrev pub names_of : ListKind → ConfigView → List (List ℕ)
+names_of OfPrefixes c = map (λ l. l.name) c.lists
+names_of OfCommunities c = map (λ l. l.name) c.community_lists
+
+abbrev pub lists_in : ListKind → ClauseView → List Reference
+lists_in OfPrefixes k = k.lists
+lists_in OfCommunities k = k.community_lists
+
+abbrev pub undefined_lists : ListKind → Numbered → List Clash
+undefined_lists kind n = flat_map (undefined_by n.router (names_of kind n.config)) (flat_map (lists_in kind) n.config.clauses)
 
 -- these prefixes, and those of more that are not among them, each once
 abbrev pub added : List Cidr → List Cidr → List Cidr

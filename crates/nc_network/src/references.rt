@@ -6,10 +6,10 @@ ghost use Rattle.std.specs.Option.{is_some, option_to_list};
 ghost use Rattle.nc_types.specs.declared.TheConstants.{ROUTER_LIMIT};
 ghost use Rattle.nc_types.specs.Config.{clause_view, config_view};
 ghost use Rattle.nc_types.specs.Joining.{Numbered, earliest, interface_by, undefined, undefined_by, undefined_in};
-ghost use Rattle.nc_network.specs.Steps.{merge, first_of_all, undefined_interfaces, undefined_maps, undefined_lists};
+ghost use Rattle.nc_network.specs.Steps.{merge, first_of_all, undefined_interfaces, undefined_maps, undefined_lists, lists_in};
 
 use crate::clash::{LinePair, earlier_of};
-use crate::defined::{interface_names, list_names, map_names};
+use crate::defined::{ListKind, interface_names, list_names, map_names};
 use indexmap::IndexSet;
 use nc_types::{Clause, Neighbor, Reference, RouterConfig, StaticRoute, Text};
 use std::alloc::{AllocError, Global};
@@ -148,18 +148,29 @@ fn check_out(
     found
 }
 
-// Looks up the prefix lists of clauses.
+// The lists of a kind that a clause refers to.
+fn lists_of(kind: ListKind, clause: &Clause) -> &[Reference]
+    ensures { result.now ≡ lists_in kind (clause_view clause.now) }
+{
+    match kind {
+        ListKind::OfPrefixes => &clause.lists,
+        ListKind::OfCommunities => &clause.community_lists,
+    }
+}
+
+// Looks up the lists of a kind that clauses refer to.
 fn check_clauses(
     router: u32,
+    kind: ListKind,
     names: &IndexSet<Text>,
     clauses: &[Clause],
     found: Option<LinePair>,
 ) -> Option<LinePair>
-    ensures { result ≡ merge found (first_of_all (λ k. flat_map (undefined_by router names.now.keys) k.lists) (map clause_view clauses.now)) }
+    ensures { result ≡ merge found (first_of_all (λ k. flat_map (undefined_by router names.now.keys) (lists_in kind k)) (map clause_view clauses.now)) }
 {
     let mut found = found;
     'clauses: for clause in clauses {
-        found = check_each(router, names, &clause.lists, found);
+        found = check_each(router, names, lists_of(kind, clause), found);
     }
     found
 }
@@ -223,17 +234,18 @@ fn check_maps(
     }
 }
 
-// The prefix lists that a router refers to.
+// The lists of a kind that a router refers to.
 fn check_lists(
     alloc: Global,
     router: u32,
+    kind: ListKind,
     config: &RouterConfig,
     found: Option<LinePair>,
 ) -> Result<Option<LinePair>, AllocError>
-    ensures { IfOk result (λ r. r ≡ merge found (earliest (undefined_lists (record { router = router; config = config_view config.now })))) }
+    ensures { IfOk result (λ r. r ≡ merge found (earliest (undefined_lists kind (record { router = router; config = config_view config.now })))) }
 {
-    let names = list_names(alloc, &config.lists)?;
-    let found = check_clauses(router, &names, &config.clauses, found);
+    let names = list_names(alloc, kind, config)?;
+    let found = check_clauses(router, kind, &names, &config.clauses, found);
     Ok(found)
 }
 
@@ -248,7 +260,8 @@ fn check_router(
 {
     let found = check_used_interfaces(alloc, router, config, found)?;
     let found = check_maps(alloc, router, config, found)?;
-    let found = check_lists(alloc, router, config, found)?;
+    let found = check_lists(alloc, router, ListKind::OfPrefixes, config, found)?;
+    let found = check_lists(alloc, router, ListKind::OfCommunities, config, found)?;
     Ok(found)
 }
 

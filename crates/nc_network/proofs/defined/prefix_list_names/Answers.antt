@@ -2,7 +2,7 @@ use Rattle.std.proofs.Common.{◌+◌, ◌<◌, map, drop, length, ◌∙◌, ar
 use Rattle.nc_types.specs.Config.{PrefixListView, list_view}
 use Rattle.nc_network.proofs.Known.{known-more}
 use Rattle.nc_types.proofs.Walks.{drop_views}
-use Rattle.nc_network.proofs.defined.list_names.Goals as goal
+use Rattle.nc_network.proofs.defined.prefix_list_names.Goals as goal
 
 pub named-preserved : goal.named-preserved
 named-preserved c = λ q.
