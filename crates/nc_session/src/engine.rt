@@ -1,6 +1,6 @@
 //! The engine: the state of a network, and the answers to the lines of a session.
 
-ghost use Rattle.std.specs.Prelude.{◌≡◌, None, Some, map, IfOk, OnOk, OnErr};
+ghost use Rattle.std.specs.Prelude.{◌≡◌, ◌++◌, None, Some, map, IfOk, OnOk, OnErr};
 ghost use Rattle.nc_command.specs.Command.{command_of};
 ghost use Rattle.nc_session.specs.File.{AreFilesOf, file_view};
 ghost use Rattle.nc_session.specs.Engine.{Turns, begin_at, flow_behind};
@@ -41,6 +41,18 @@ impl Model for Engine {
 
     ghost invariant = { λ e. ForSome e.work (λ w. IsWork w
         × AreFilesOf (state_of w.rules).routers (map file_view e.files.items)) };
+}
+
+// Appends a reply: where nothing stands before it, the buffer itself is handed on.
+fn hand_on(reply: Vec<u8>, out: &mut Vec<u8>) -> Result<(), AllocError>
+    ensures appended { OnOk result (out.new.items ≡ out.old.items ++ reply.items) }
+    ensures kept { OnErr result (out.new.items ≡ out.old.items) }
+{
+    if out.is_empty() {
+        *out = reply;
+        return Ok(());
+    }
+    out.extend_from_slice(&reply)
 }
 
 impl Engine {
@@ -84,7 +96,7 @@ impl Engine {
         };
         let mut reply = Vec::new(alloc);
         let flow = work.answer(alloc, line, &mut reply)?;
-        out.extend_from_slice(&reply)?;
+        hand_on(reply, out)?;
         self.work = Some(work);
         Ok(flow)
     }

@@ -162,12 +162,24 @@ impl Shown {
         format!(in alloc; "strong {strong} weak {weak} uncovered {uncovered} outside {outside}")
     }
 
+    // How many bytes the lines of the routers take together, if that is a number; it reserves and promises
+    // nothing.
+    fn room(&self) -> usize {
+        let mut room: usize = 0;
+        'sheets: for sheet in &self.sheets {
+            let line = sheet.name.len().saturating_add(sheet.letters.len());
+            room = room.saturating_add(line.saturating_add(2));
+        }
+        room
+    }
+
     /// Appends the report: the counts of the marks of all lines, then of each router its name and a
     /// letter a line.
     pub(crate) fn push(&self, alloc: Global, out: &mut Vec<u8>) -> Result<(), AllocError>
         ensures { OnOk result (out.new.items ≡ out.old.items ++ report_of self.now) }
     {
         let summary = self.summary(alloc)?;
+        out.reserve(self.room().saturating_add(summary.len()).saturating_add(1))?;
         push_line(out, summary.as_bytes())?;
         push_sheets(out, &self.sheets)?;
         Ok(())
