@@ -1,6 +1,6 @@
 //! A community as its word writes it.
 
-ghost use Rattle.std.specs.Prelude.{◌≡◌, ◌==◌, List, ℕ, [], ◌∷◌, MatchOption};
+ghost use Rattle.std.specs.Prelude.{◌≡◌, ◌==◌, List, ℕ, [], ◌∷◌, MatchOption, position};
 ghost use Rattle.std.specs.List.{slice_split};
 ghost use Rattle.nc_community.specs.Words.{community_of, halves_of};
 
@@ -9,15 +9,22 @@ use nc_lines::numbers::read_number;
 // The greatest half of a community.
 const GREATEST_HALF: u32 = 65_535;
 
+// Where a colon stands first.
+fn colon_place(word: &[u8]) -> Option<usize>
+    ensures { result ≡ position (λ b. b == 58) word.now }
+{
+    word.iter().position(|b| *b == b':')
+}
+
 // The two parts of a word around the only colon in it.
 fn cut_halves(word: &[u8]) -> Option<(&[u8], &[u8])>
     ensures { MatchOption result ((high low : List ℕ) → slice_split (λ b. b == 58) word.now ≡ high ∷ low ∷ [] → ⊥)
         (λ cut. slice_split (λ b. b == 58) word.now ≡ cut.0.now ∷ cut.1.now ∷ []) }
 {
-    let at = word.iter().position(|b| *b == b':')?;
+    let at = colon_place(word)?;
     let (high, _) = word.split_at(at);
     let (_, low) = word.split_at(at + 1);
-    match low.iter().position(|b| *b == b':') {
+    match colon_place(low) {
         Some(_) => None,
         None => Some((high, low)),
     }
