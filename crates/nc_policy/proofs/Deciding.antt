@@ -1,6 +1,6 @@
 -- The deciding clause, found by going over the clauses once.
 use Rattle.std.proofs.Common.{◌≡◌, ℕ, ◌+◌, ◌<◌, Bool, true, false, cond, nat_lt, ◌&&◌, List, ◌∷◌, length, map, get_or, drop, filter, Option, Some, None, refl, sym, ap, ◌∙◌, arith}
-use Rattle.std.specs.Option.{option_map_or}
+use Rattle.std.specs.Option.{is_some, option_map_or}
 use Rattle.std.proofs.lemmas.Bool.{ltb-true, ltb-false}
 use Rattle.std.proofs.lemmas.List.{length-map, get_or-map, at_drop_more}
 use Rattle.nc_types.specs.declared.config.Clause.{Clause}
@@ -82,3 +82,14 @@ module _ (test : Placed → Bool) (clauses : List Clause) (place : ℕ) (k : Cla
       ap (λ (ks : List Placed). lower_of best (least (filter test ks))) next
       ∙ passed test best here (placed_from (place + 1) (drop (place + 1) (map clause_view clauses)))
       ∙ ap (λ (o : Option Placed). lower_of o (rest_from (place + 1))) (joined test best here)
+
+-- a clause whose entries are taken has a lower number, is one of the map and matches by them; one that is passed over isn't all that
+pub taken : {N : Type 0} (low named : Bool) (o : Option N) (n : N) → Some n ≡ cond (low && named) o None → ((low && (named && is_some o)) ≡ true) × (Some n ≡ o)
+taken true true o n e = (ap is_some (sym e), e)
+taken true false o n e = absurd cc
+taken false named o n e = absurd cc
+
+pub passed_over : {N : Type 0} (low named : Bool) (o : Option N) → None ≡ cond (low && named) o None → (low && (named && is_some o)) ≡ false
+passed_over true true o e = ap is_some (sym e)
+passed_over true false o e = refl
+passed_over false named o e = refl

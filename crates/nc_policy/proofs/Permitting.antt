@@ -1,17 +1,16 @@
 -- What is found in the lists of a configuration.
-use Rattle.std.proofs.Common.{◌≡◌, ℕ, ◌+◌, Bool, true, false, cond, nat_lt, not, ◌||◌, List, [], ◌∷◌, length, map, Option, Some, None, refl, sym, ap, ◌∙◌}
-use Rattle.std.specs.Prelude.{position, option_and_then, slice_get}
-use Rattle.std.specs.List.{find, list_any, position_or_len}
-use Rattle.std.specs.Option.{is_some, option_map_or}
+use Rattle.std.proofs.Common.{◌≡◌, ℕ, ◌+◌, ◌<◌, Bool, true, false, cond, nat_lt, not, List, [], ◌∷◌, length, map, get_or, Option, Some, None, refl, sym, ap, ◌∙◌}
+use Rattle.std.specs.Prelude.{position, slice_get, option_and_then}
+use Rattle.std.specs.Option.{option_map}
+use Rattle.std.specs.List.{position_or_len}
 use Rattle.std.proofs.lemmas.List.{length-map}
-use Rattle.nc_types.specs.Cidr.{Cidr}
-use Rattle.nc_types.specs.Config.{ConfigView}
-use Rattle.nc_types.specs.declared.config.Reference.{Reference}
-use Rattle.nc_tables.specs.Policy.{permits, list_named, reference_permits}
+use Rattle.std.proofs.lemmas.Option.{slice_get-map, slice_get_read}
+use Rattle.nc_tables.specs.declared.policy.Place.{Place}
+use Rattle.nc_tables.specs.Policy.{place_in}
 
 module _ {A B : Type 0} (f : A → B) (test : B → Bool) where
-  abbrev Place : ℕ → ℕ → Option ℕ
-  Place n k = cond (nat_lt k n) (Some k) None
+  abbrev Position : ℕ → ℕ → Option ℕ
+  Position n k = cond (nat_lt k n) (Some k) None
 
   position_or_len_map : (xs : List A) → position_or_len test (map f xs) ≡ position_or_len (λ x. test (f x)) xs
   position_or_len_map [] = refl
@@ -22,23 +21,23 @@ module _ {A B : Type 0} (f : A → B) (test : B → Bool) where
       on false more = ap (λ n. 1 + n) more
 
   pub position_map : (xs : List A) → position test (map f xs) ≡ position (λ x. test (f x)) xs
-  position_map xs = ap (λ n. Place (length (map f xs)) n) (position_or_len_map xs) ∙ ap (λ n. Place n (position_or_len (λ x. test (f x)) xs)) (length-map xs f)
+  position_map xs = ap (λ n. Position (length (map f xs)) n) (position_or_len_map xs) ∙ ap (λ n. Position n (position_or_len (λ x. test (f x)) xs)) (length-map xs f)
 
-module _ (c : ConfigView) (p : Cidr) where
-  -- a list that permits is one that is there
-  pub permitting_is_named : (r : Reference) → reference_permits c p r ≡ true → is_some (list_named c r.name) ≡ true
-  permitting_is_named r = by_list (list_named c r.name)
-    where
-      by_list : (o : Option ℕ) → option_map_or (λ l. permits l p) (option_and_then (slice_get c.lists) o) false ≡ true → is_some o ≡ true
-      by_list None e = absurd cc
-      by_list (Some place) e = refl
+-- what is read at a place, through a view
+pub seen_at : {A B : Type 0} (view : A → B) (items xs : List A) (k : ℕ) (x : A) → xs ≡ items → k < length xs → x ≡ get_or xs k x → slice_get (map view items) k ≡ Some (view x)
+seen_at {A} view items xs k x same lt read =
+    slice_get-map view items k ∙ ap (option_map view) (ap (λ (ys : List A). slice_get ys k) (sym same) ∙ slice_get_read xs (length xs) k x refl lt read)
 
-  -- one of the lists permits exactly where there is a first that does
-  pub any_permits : (rs : List Reference) → list_any (reference_permits c p) rs ≡ is_some (option_and_then {U = ℕ} (λ r. list_named c r.name) (find (reference_permits c p) rs))
-  any_permits [] = refl
-  any_permits (r ∷ rs) = on (reference_permits c p r) refl (any_permits rs)
-    where
-      on : (b : Bool) → reference_permits c p r ≡ b → list_any (reference_permits c p) rs ≡ is_some (option_and_then {U = ℕ} (λ r. list_named c r.name) (find (reference_permits c p) rs))
-          → (b || list_any (reference_permits c p) rs) ≡ is_some (option_and_then {U = ℕ} (λ r. list_named c r.name) (cond b (Some r) (find (reference_permits c p) rs)))
-      on true is more = sym (permitting_is_named r is)
-      on false is more = more
+-- the entry by which the list of a name permits
+pub placed : {L : Type 0} (lists : List L) (is_named : L → Bool) (permits : L → Option ℕ) (k i : ℕ) (l : L)
+    → Some k ≡ position is_named lists → slice_get lists k ≡ Some l → Some i ≡ permits l → (m n : ℕ) → m ≡ k → n ≡ i → Some (record { list = m; entry = n }) ≡ place_in is_named permits lists
+placed {L} lists is_named permits k i l named at entry m n same_list same_entry =
+    ap (λ (k : ℕ). Some (put k n)) same_list ∙ ap (λ (i : ℕ). Some (put k i)) same_entry
+    ∙ sym (
+    ap (option_and_then (λ (k : ℕ). option_map (put k) (option_and_then permits (slice_get lists k)))) (sym named)
+    ∙ ap (λ (o : Option L). option_map (put k) (option_and_then permits o)) at
+    ∙ ap (option_map (put k)) (sym entry)
+    )
+  where
+    put : ℕ → ℕ → Place
+    put k i = record { list = k; entry = i }

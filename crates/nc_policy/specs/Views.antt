@@ -1,11 +1,19 @@
 -- A candidate and a verdict of the code as those of the definition.
-use Rattle.std.specs.Prelude.{Bool, true, nat_lt, Option}
+use Rattle.std.specs.Prelude.{ℕ, Bool, true, nat_lt, List, Option, position}
 use Rattle.std.specs.Option.{option_map_or}
-use Rattle.nc_types.specs.Config.{ClauseView, clause_view}
+use Rattle.std.specs.Str.{bytes_eq}
+use Rattle.nc_types.specs.Config.{ClauseView, ConfigView, clause_view}
 use Rattle.nc_tables.specs.Policy as policy
 use Rattle.nc_policy.specs.declared.clauses.Candidate.{Candidate}
 use Rattle.nc_policy.specs.declared.route_map.Verdict.{Verdict}
 use Rattle.nc_policy.specs.declared.route_map.Verdict.TheVariants.{Deny, Permit}
+
+-- the place of the prefix list of a name, and of the community list
+abbrev pub named_list : ConfigView → List ℕ → Option ℕ
+named_list c name = position (λ l. bytes_eq name l.name) c.lists
+
+abbrev pub named_community_list : ConfigView → List ℕ → Option ℕ
+named_community_list c name = position (λ l. bytes_eq name l.name) c.community_lists
 
 -- a clause with its place
 abbrev pub candidate_view : Candidate → policy.Placed
@@ -18,4 +26,4 @@ is_lower k other = option_map_or (λ o. nat_lt k.number o.clause.number) other t
 -- what is made of a route
 abbrev pub verdict_view : Verdict → policy.Verdict
 verdict_view Deny = policy.Deny
-verdict_view (Permit route clause list) = policy.Permit route clause list
+verdict_view (Permit route clause entry community) = policy.Permit route clause (record { entry = entry; community = community })

@@ -2,7 +2,7 @@ use Rattle.std.proofs.Common.{ℕ, ap, sym, ◌∙◌, arith, Some, None}
 use Rattle.nc_types.specs.Config.{config_view}
 use Rattle.nc_tables.specs.Policy.{Permit}
 use Rattle.nc_policy.specs.Views.{candidate_view}
-use Rattle.nc_policy.proofs.Few.{few_clauses, few_lists}
+use Rattle.nc_policy.proofs.Few.{few_clauses}
 use Rattle.nc_policy.proofs.Verdicts.{undecided, denied, permitted}
 use Rattle.nc_policy.proofs.route_map.apply.Goals as goal
 
@@ -10,19 +10,23 @@ pub returns-in_default : goal.returns-in_default
 returns-in_default c = undecided (config_view c.args.config.now) c.args.map.now c.args.route.now c.in_default.ensures.deciding
 
 pub returns-then-not-found : goal.returns-then-not-found
-returns-then-not-found c = denied (config_view c.args.config.now) c.args.map.now c.args.route.now (candidate_view c.in-Some.found) c.in-Some.ensures.deciding c.if-not-found.true
+returns-then-not-found c =
+    let found = c.in-Some.found in
+    denied (config_view c.args.config.now) c.args.map.now c.args.route.now (candidate_view found) found.names c.in-Some.ensures.deciding c.in-Some.ensures.names c.if-not-found.true
 
 pub returns-in_default-2 : goal.returns-in_default-2
 returns-in_default-2 c =
-    permitted (config_view c.args.config.now) c.args.map.now c.args.route.now (candidate_view c.in-Some.found) c.in-Some.ensures.deciding c.if-not-found.false None (sym c.in_default-2.is ∙ c.in_ok-changed.ensures)
+    let found = c.in-Some.found in
+    permitted (config_view c.args.config.now) c.args.map.now c.args.route.now (candidate_view found) found.names c.in-Some.ensures.deciding c.in-Some.ensures.names c.if-not-found.false None
+    (sym c.in_default-2.is ∙ c.in_ok-changed.ensures)
 
 pub place_number-requires : goal.place_number-requires
 place_number-requires c = let few = few_clauses c.args.config.now c.requires in omega (arith, c.in-Some.ensures.within)
 
-pub list_number-requires : goal.list_number-requires
-list_number-requires c = few_lists c.args.config.now c.requires
-
 pub returns : goal.returns
 returns c =
-    let by = permitted (config_view c.args.config.now) c.args.map.now c.args.route.now (candidate_view c.in-Some.found) c.in-Some.ensures.deciding c.if-not-found.false (Some c.in-Some-2.changed) (sym c.in-Some-2.is ∙ c.in_ok-changed.ensures) in
-    ap (λ (n : ℕ). Permit c.in-Some-2.changed n c.list_number.result) c.place_number.ensures ∙ ap (Permit c.in-Some-2.changed c.in-Some.found.place) c.list_number.ensures ∙ by
+    let found = c.in-Some.found in
+    let changed = c.in-Some-2.changed in
+    ap (λ (n : ℕ). Permit changed n found.names) c.place_number.ensures
+    ∙ permitted (config_view c.args.config.now) c.args.map.now c.args.route.now (candidate_view found) found.names c.in-Some.ensures.deciding c.in-Some.ensures.names c.if-not-found.false (Some changed)
+    (sym c.in-Some-2.is ∙ c.in_ok-changed.ensures)
