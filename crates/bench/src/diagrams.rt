@@ -4,6 +4,7 @@ ghost use Rattle.std.specs.Prelude.{◌<◌, ◌+◌, ◌*◌, ◌^◌, IfOk, On
 ghost use Rattle.nc_diagram.specs.Diagrams.{Belongs};
 ghost use Rattle.bench.specs.Held.{HoldsOn};
 
+use crate::telling::tell_time;
 use anyhow::Result;
 use nc_diagram::{Ref, Store, StoreFault};
 use std::time::Instant;
@@ -51,18 +52,27 @@ fn measure_and(rt: &HostRuntime, name: &str, store: &mut Store, a: Ref, b: Ref) 
     let _both = store.and(a, b)?;
     let micros = start.elapsed(rt)?.as_micros();
     println!(rt; "{name}: nodes {before} to {}", store.len())?;
-    eprintln!(rt; "{name}: microseconds {micros}")?;
-    Ok(())
+    tell_time(rt, name, "microseconds", micros)
 }
 
-/// Measures both.
-pub fn measure(rt: &HostRuntime) -> Result<()> {
+// The conjunction of two chains of variables.
+fn measure_chains(rt: &HostRuntime) -> Result<()> {
     let mut store = Store::new(rt.alloc(), LIMIT);
     let even = chain(&mut store, 0, 100_000)?;
     let odd = chain(&mut store, 1, 100_000)?;
-    measure_and(rt, "chains", &mut store, even, odd)?;
+    measure_and(rt, "chains", &mut store, even, odd)
+}
+
+// The conjunction of two chains of clauses.
+fn measure_clauses(rt: &HostRuntime) -> Result<()> {
     let mut store = Store::new(rt.alloc(), LIMIT);
     let even = clauses(&mut store, 0, 50_000)?;
     let odd = clauses(&mut store, 1, 50_000)?;
     measure_and(rt, "clauses", &mut store, even, odd)
+}
+
+/// Measures both.
+pub fn measure(rt: &HostRuntime) -> Result<()> {
+    measure_chains(rt)?;
+    measure_clauses(rt)
 }

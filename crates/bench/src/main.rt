@@ -12,6 +12,7 @@ mod graphs;
 mod marks;
 mod shapes;
 mod table;
+mod telling;
 
 use anyhow::Result;
 

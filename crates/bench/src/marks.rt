@@ -6,6 +6,7 @@ ghost use Rattle.bench.specs.Table.{flow_of};
 
 use crate::shapes::{LAYER_ELEMENTS, Shape};
 use crate::table::{Table, TableRules};
+use crate::telling::tell_time;
 use anyhow::Result;
 use nc_graph::graph::Graph;
 use nc_graph::node::NodeId;
@@ -41,7 +42,51 @@ fn are_nodes(graph: &Graph<u32>, nodes: &[NodeId]) -> bool
     nodes.iter().all(|node| node.0 < count)
 }
 
-// Times the marks of tested facts, and tells how many elements have each.
+// What the marks of tested facts came to, and how long they took.
+#[derive(Clone, Copy, Debug, PartialEq, Eq)]
+struct Outcome {
+    facts: u32,
+    strong: u32,
+    weak: u32,
+    micros: u128,
+}
+
+impl Outcome {
+    // Tells what was counted, and how long it took.
+    fn tell(self, rt: &HostRuntime, name: &str) -> Result<()> {
+        let Outcome {
+            facts,
+            strong,
+            weak,
+            micros,
+        } = self;
+        println!(rt; "{name}: facts {facts}, strong {strong}, weak {weak}")?;
+        tell_time(rt, name, "microseconds", micros)
+    }
+}
+
+// Times the marks for nodes of a graph, and counts them over so many elements.
+fn time_marks(
+    rt: &HostRuntime,
+    elements: u32,
+    graph: &Graph<u32>,
+    nodes: &[NodeId],
+) -> Result<Outcome>
+    requires { All (λ p. p.0 < length graph.now.facts) nodes.now }
+{
+    let mut kept = KeptMarks::new(rt.alloc(), elements)?;
+    let start = Instant::now(rt)?;
+    kept.add(graph, nodes)?;
+    let micros = start.elapsed(rt)?.as_micros();
+    Ok(Outcome {
+        facts: graph.len(),
+        strong: count(kept.marks(), elements, Mark::Strong),
+        weak: count(kept.marks(), elements, Mark::Weak),
+        micros,
+    })
+}
+
+// Measures the marks of tested facts.
 fn measure_facts(
     rt: &HostRuntime,
     name: &str,
@@ -53,21 +98,11 @@ fn measure_facts(
 {
     let mut graph = Graph::new(rt.alloc(), u32::MAX);
     let nodes = graph.add(&mut TableRules::new(table), facts)?;
-    let mut kept = KeptMarks::new(rt.alloc(), elements)?;
     if !are_nodes(&graph, &nodes) {
         return Ok(());
     }
-    let start = Instant::now(rt)?;
-    kept.add(&graph, &nodes)?;
-    let micros = start.elapsed(rt)?.as_micros();
-    let strong = count(kept.marks(), elements, Mark::Strong);
-    let weak = count(kept.marks(), elements, Mark::Weak);
-    println!(rt;
-        "{name}: facts {}, strong {strong}, weak {weak}",
-        graph.len()
-    )?;
-    eprintln!(rt; "{name}: microseconds {micros}")?;
-    Ok(())
+    let outcome = time_marks(rt, elements, &graph, &nodes)?;
+    outcome.tell(rt, name)
 }
 
 // The marks for the last fact of a shape.
