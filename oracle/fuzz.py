@@ -3,8 +3,8 @@
 
     python3 oracle/fuzz.py KIND [COUNT] [SEED]
 
-KIND is one of net, odd, join, static, names, bytes, banner, session, words, which are random and take COUNT cases each,
-or table, grid, limits, facts, which are systematic (table takes COUNT random changes besides); all is all but facts.
+KIND is one of net, odd, join, static, policy, names, bytes, banner, session, words, which are random and take COUNT cases each,
+or table, grid, policies, limits, facts, which are systematic (table takes COUNT random changes besides); all is all but facts.
 The program is crates/netcov/out/netcov, or what the variable NETCOV names. A difference goes to a folder of its own,
 which is printed. The status is 1 where there was one. At the end stands what was reached.
 """
@@ -17,7 +17,9 @@ import sys
 import tempfile
 
 import oracle
-from cases import R, Case, RANDOM_KINDS, facts_cases, grid_cases, limit_cases, table_cases
+from cases import RANDOM_KINDS, facts_cases, grid_cases, limit_cases, table_cases
+from pieces import R, Case
+from policies import policy_cases
 
 HERE = os.path.dirname(os.path.abspath(__file__))
 PROGRAM = os.environ.get("NETCOV", os.path.join(HERE, "..", "crates", "netcov", "out", "netcov"))
@@ -147,7 +149,7 @@ def systematic(kind, count):
     """The systematic cases of a kind."""
     if kind == "table":
         return table_cases(count)
-    return {"grid": grid_cases, "limits": limit_cases, "facts": facts_cases}[kind]()
+    return {"grid": grid_cases, "policies": policy_cases, "limits": limit_cases, "facts": facts_cases}[kind]()
 
 
 def cases_of(kind, count):
@@ -162,7 +164,7 @@ def main():
     seed = int(sys.argv[3]) if len(sys.argv) > 3 else random.SystemRandom().randrange(10**9)
     R.seed(seed)
     print(f"{kind} {count} seed {seed}", flush=True)
-    kinds = ["table", "grid", "limits"] + list(RANDOM_KINDS) if kind == "all" else [kind]
+    kinds = ["table", "grid", "policies", "limits"] + list(RANDOM_KINDS) if kind == "all" else [kind]
     bad = collections.Counter()
     top = tempfile.mkdtemp(prefix="netcov-cases-")
     try:

@@ -11,6 +11,7 @@ import sys
 
 LIMIT_FILE, LIMIT_LINES, LIMIT_ROUTERS, LIMIT_PREFIXES = 4194304, 65535, 256, 1024
 LIMIT_SESSION, LIMIT_LINE, LIMIT_TESTS, LIMIT_FACTS = 16777216, 4096, 4096, 1048576
+LAST_SEQ, SEQ_STEP, LIMIT_COMMUNITIES, LIMIT_PREPENDED = 4294967294, 5, 64, 10
 SYNTAX, UNSUPPORTED = b"syntax", b"unsupported"
 
 
@@ -64,6 +65,11 @@ def mask(w):
         if a == bits(length):
             return length
     return None
+
+
+def large(w):
+    """A number below 2^32, or None."""
+    return number(w, 0, 4294967295)
 
 
 def covers(prefix, a):
@@ -123,8 +129,114 @@ def read_route(w):
     return (p, name, hop, distance) if good else SYNTAX
 
 
+def listed_prefix(w):
+    """A/L of one word, its host bits cleared, or None."""
+    if w.count(b"/") != 1:
+        return None
+    a, length = w.split(b"/")
+    a, length = address(a), number(length, 0, 32)
+    return None if a is None or length is None else (a & bits(length), length)
+
+
+def read_entry(w):
+    """(list's name, seq or None, permit, prefix, low, high) of an `ip prefix-list` line, or a cause"""
+    name, r = w[2:3], w[3:]
+    seq = None
+    if r[:1] == [b"seq"]:
+        seq = number(r[1], 1, LAST_SEQ) if len(r) > 1 else None
+        if seq is None:
+            return SYNTAX
+        r = r[2:]
+    if not name or len(r) < 2 or r[0] not in (b"permit", b"deny"):
+        return SYNTAX
+    p, rest, bounds = listed_prefix(r[1]), r[2:], {}
+    for which in (b"ge", b"le"):
+        if rest[:1] == [which] and len(rest) > 1:
+            bounds[which], rest = number(rest[1], 0, 32), rest[2:]
+    if p is None or rest or None in bounds.values():
+        return SYNTAX
+    low = bounds.get(b"ge", p[1])
+    high = bounds.get(b"le", 32 if b"ge" in bounds else p[1])
+    return (name[0], seq, r[0] == b"permit", p, low, high) if p[1] <= low <= high <= 32 else SYNTAX
+
+
+def community(w):
+    """The number of a community, or None."""
+    if b":" not in w:
+        return large(w)
+    halves = [number(x, 0, 65535) for x in w.split(b":")]
+    return None if len(halves) != 2 or None in halves else 65536 * halves[0] + halves[1]
+
+
+def communities(given):
+    """The set of these words, which aren't none; or a cause."""
+    values = {community(w) for w in given}
+    if None in values:
+        return UNSUPPORTED
+    return SYNTAX if not given or len(values) > LIMIT_COMMUNITIES else values
+
+
+def read_community_list(w):
+    """(list's name, permit, members) of an `ip community-list` line, a cause, or None where it is outside"""
+    r = w[2:]
+    if not r:
+        return SYNTAX
+    if r[0] == b"standard":
+        r = r[1:]
+    elif number(r[0], 1, 99) is None:
+        return None
+    if len(r) < 3 or r[1] not in (b"permit", b"deny"):
+        return SYNTAX
+    members = communities(r[2:])
+    return members if isinstance(members, bytes) else (r[0], r[1] == b"permit", members)
+
+
+def read_clause_header(w):
+    """(map's name, number, permit), or a cause"""
+    if len(w) != 4 or w[2] not in (b"permit", b"deny") or number(w[3], 0, 65535) is None:
+        return SYNTAX
+    return (w[1], number(w[3], 0, 65535), w[2] == b"permit")
+
+
+def read_prepended(rest):
+    numbers = [number(x, 1, 4294967295) for x in rest]
+    return SYNTAX if not 1 <= len(numbers) <= LIMIT_PREPENDED or None in numbers else numbers
+
+
+def read_set_community(rest):
+    """(values, whether they are added)"""
+    added = rest[-1:] == [b"additive"]
+    values = communities(rest[:-1] if added else rest)
+    return values if isinstance(values, bytes) else (values, added)
+
+
+def in_clause(w):
+    """A statement of a route map's block, as statement() gives it."""
+    def judged(kind, got):
+        return ("fault", got) if isinstance(got, bytes) else (kind, got)
+
+    if starts(w, "match ip address prefix-list"):
+        return judged("lists", w[4:] or SYNTAX)
+    if starts(w, "match community"):
+        return judged("community lists", UNSUPPORTED if b"exact-match" in w[2:] else w[2:] or SYNTAX)
+    for field in ("local-preference", "metric"):
+        if starts(w, "set " + field):
+            value = large(w[2]) if len(w) == 3 else None
+            return judged(field, SYNTAX if value is None else value)
+    if starts(w, "set as-path prepend"):
+        return judged("prepend", read_prepended(w[3:]))
+    if starts(w, "set community"):
+        return judged("communities", read_set_community(w[2:]))
+    for text in ("set origin igp", "set origin incomplete"):
+        if starts(w, text):
+            return judged("origin", SYNTAX if len(w) > 3 else [w[2]])
+    return ("fault", UNSUPPORTED) if w[0] in (b"continue", b"match", b"set") else ("outside",)
+
+
 def statement(w, block):
-    """A statement of a block ('none' or 'interface'): ('outside',), ('fault', cause) or what it says."""
+    """A statement of a block ('none', 'interface' or 'clause'): ('outside',), ('fault', cause) or what it says."""
+    if block == "clause":
+        return in_clause(w)
     if block == "none":
         if starts(w, "ip route"):
             got = read_route(w)
@@ -133,12 +245,17 @@ def statement(w, block):
             return ("fault", UNSUPPORTED)
         if w[0] == b"router" and len(w) > 1:                       # bgp isn't served yet
             return ("fault", UNSUPPORTED)
-        if w[0] == b"route-map":                                   # not served yet
-            return ("fault", UNSUPPORTED)
-        if starts(w, "ip prefix-list"):                            # not served yet, the two outside forms apart
+        if w[0] == b"route-map":
+            got = read_clause_header(w)
+            return ("fault", got) if isinstance(got, bytes) else ("clause", got)
+        if starts(w, "ip prefix-list"):
             if w[2:] == [b"sequence-number"] or w[3:4] == [b"description"]:
                 return ("outside",)
-            return ("fault", UNSUPPORTED)
+            got = read_entry(w)
+            return ("fault", got) if isinstance(got, bytes) else ("entry", got)
+        if starts(w, "ip community-list"):
+            got = read_community_list(w)
+            return ("outside",) if got is None else ("fault", got) if isinstance(got, bytes) else ("community entry", got)
         if w[0] == b"hostname":
             if len(w) != 2 or not 1 <= len(w[1]) <= 63 or any(not 0x21 <= c <= 0x7E for c in w[1]):
                 return ("fault", SYNTAX)
@@ -181,8 +298,15 @@ def behind_banner(lines, k):
     return (closing[0], None) if closing else (None, SYNTAX)
 
 
+def block_of(what):
+    """The block that an unindented statement opens: its kind and by what it is told from others, or None."""
+    if what[0] == "interface":
+        return what
+    return ("clause", what[1][:2]) if what[0] == "clause" else None
+
+
 def sayings_of(lines):
-    """[(line number, the interface in whose block it is or None, what it says)]"""
+    """[(line number, the block in which it is or None, what it says)]"""
     said, k, current = [], 0, None
     while k < len(lines):
         line, w = lines[k], words(lines[k])
@@ -190,7 +314,7 @@ def sayings_of(lines):
         if not w or w[0][:1] == b"!":
             continue
         if line[:1] in (b" ", b"\t"):
-            said.append((k, current, statement(w, "interface" if current is not None else "no block")))
+            said.append((k, current, statement(w, "no block" if current is None else current[0])))
         elif w[0] == b"banner":
             last, cause = behind_banner(lines, k)
             if cause is not None:
@@ -198,18 +322,35 @@ def sayings_of(lines):
             k = len(lines) if last is None else last
         else:
             what = statement(w, "none")
-            current = what[1] if what[0] == "interface" else None
+            current = block_of(what)
             said.append((k, None, what))
     return said
 
 
-def key_of(iface, what):
-    """By what the element of a statement is told from others; None where it has none."""
-    if what[0] == "interface":
-        return ("I", what[1])
-    if what[0] in ("address", "shut"):
-        return ("I", iface)
-    return ("S",) + what[1][:3] if what[0] == "route" else None
+def counted(said):
+    """The same, each entry of a prefix list with its seq: one that isn't written counts on from the highest so far."""
+    out, highest = [], {}
+    for n, block, what in said:
+        if what[0] == "entry":
+            name, seq = what[1][:2]
+            seq = highest.get(name, 0) + SEQ_STEP if seq is None else seq
+            highest[name] = max(highest.get(name, 0), seq)
+            what = ("entry", (name, seq) + what[1][2:]) if seq <= LAST_SEQ else ("fault", SYNTAX)
+        out.append((n, block, what))
+    return out
+
+
+def key_of(n, block, what):
+    """By what the element of a statement in line n is told from others; None where it has none."""
+    if what[0] in ("interface", "clause"):
+        return block_of(what)
+    if what[0] == "route":
+        return ("route",) + what[1][:3]
+    if what[0] == "entry":
+        return ("entry",) + what[1][:2]
+    if what[0] == "community entry":
+        return ("community entry", n)
+    return None if what[0] in ("hostname", "outside") else block
 
 
 def interface_of(name, place, mine):
@@ -222,29 +363,59 @@ def interface_of(name, place, mine):
             "up": value is not None and not (shuts and shuts[-1]), "element": place}
 
 
+def clause_of(key, place, mine):
+    """A clause of these statements: the last of each field decides, and each list that is named is asked."""
+    def last(kind):
+        return next((what[1] for _, what in reversed(mine) if what[0] == kind), None)
+
+    def named(kind):
+        return [(name, n) for n, what in mine if what[0] == kind for name in what[1]]
+
+    clause = {field: last(field) for field in ("local-preference", "metric", "prepend", "origin", "communities")}
+    return {**clause, "map": key[0], "number": key[1], "permit": last("clause")[2], "element": place,
+            "lists": named("lists"), "community lists": named("community lists")}
+
+
 def read_file(lines):
     """The configuration of a file, or Fault(line, cause)."""
-    said = sayings_of(lines)
+    said = counted(sayings_of(lines))
     faults = sorted((n, what[1]) for n, _, what in said if what[0] == "fault")
     if faults:
         raise Fault(*faults[0])
     names = [(n, what[1]) for n, _, what in said if what[0] == "hostname"]
     if not names:
         raise Fault(0, b"no-name")
-    config = {"count": len(lines), "name": names[-1][1], "name_line": names[-1][0], "interfaces": [], "statics": []}
+    config = {"count": len(lines), "name": names[-1][1], "name_line": names[-1][0], "interfaces": [], "statics": [],
+              "clauses": [], "lists": {}, "community lists": {}}
     statements = {}
-    for n, iface, what in said:
-        if key_of(iface, what) is not None:
-            statements.setdefault(key_of(iface, what), []).append((n, what))
+    for n, block, what in said:
+        if key_of(n, block, what) is not None:
+            statements.setdefault(key_of(n, block, what), []).append((n, what))
     of_elements = sorted(statements.items(), key=lambda item: item[1][0][0])
     config["elements"] = [(e, [n for n, _ in mine]) for e, mine in of_elements]
     for place, (e, mine) in enumerate(of_elements):
-        if e[0] == "I":
+        n, what = mine[-1]
+        if e[0] == "interface":
             config["interfaces"].append(interface_of(e[1], place, mine))
-        else:
-            n, what = mine[-1]
+        elif e[0] == "route":
             config["statics"].append({"prefix": e[1], "name": e[2], "hop": e[3], "distance": what[1][3], "line": n, "element": place})
+        elif e[0] == "clause":
+            config["clauses"].append(clause_of(e[1], place, mine))
+        elif e[0] == "entry":
+            config["lists"].setdefault(e[1], {})[e[2]] = what[1][2:] + (place,)
+        else:
+            config["community lists"].setdefault(what[1][0], []).append(what[1][1:] + (place,))
     return config
+
+
+def references(c):
+    """[(line, name, the names that are defined)] of the references in force."""
+    opened = {x["name"] for x in c["interfaces"]}
+    found = [(t["line"], t["name"], opened) for t in c["statics"] if t["name"] is not None]
+    for k in c["clauses"]:
+        for kind in ("lists", "community lists"):
+            found += [(n, name, c[kind]) for name, n in k[kind]]
+    return found
 
 
 # --- the network -----------------------------------------------------------------------------
@@ -271,9 +442,7 @@ def join(routers):
     if found:
         return min(found)[2], min(found)[3], b"same-address"
     for r, c in enumerate(routers):
-        for t in c["statics"]:
-            if t["name"] is not None and t["name"] not in [x["name"] for x in c["interfaces"]]:
-                found.append((r, t["line"]))
+        found += [(r, n) for n, name, defined in references(c) if name not in defined]
     if found:
         return min(found)[0], min(found)[1], b"undefined"
     prefixes = {x["prefix"] for c in routers for x in c["interfaces"] if x["prefix"] is not None}
