@@ -3,7 +3,7 @@
 ghost use Rattle.std.specs.Prelude.{◌≡◌, ℕ, ◌<◌, ◌==◌, not, Bool, length, [], ◌∷◌, position, MatchOption, IfSome, IfNone};
 ghost use Rattle.std.specs.List.{slice_split};
 ghost use Rattle.nc_lines.specs.Blocks.{is_idle};
-ghost use Rattle.nc_lines.specs.Lines.{is_gap, lines_of, words_of, is_indented, without_return};
+ghost use Rattle.nc_lines.specs.Lines.{is_gap, words_of, is_indented, without_return};
 
 use memchr::memchr;
 
@@ -39,23 +39,6 @@ pub(crate) fn trim_return(line: &[u8]) -> &[u8]
         return line;
     }
     line.split_at(last).0
-}
-
-/// Takes the first line off a text, without its line feed and the one carriage return before it; `None`
-/// where the text has no line.
-pub fn cut_line(text: &[u8]) -> Option<(&[u8], &[u8])>
-    ensures line { MatchOption result (lines_of text.now ≡ []) (λ cut. lines_of text.now ≡ cut.0.now ∷ lines_of cut.1.now) }
-    ensures shorter { IfSome result (λ cut. length cut.1.now < length text.now) }
-    ensures none { IfNone result (text.now ≡ []) }
-{
-    if text.is_empty() {
-        return None;
-    }
-    if let Some((line, rest)) = cut_at(text, b'\n') {
-        return Some((trim_return(line), rest));
-    }
-    let (line, rest) = text.split_at(text.len());
-    Some((trim_return(line), rest))
 }
 
 // Whether a byte is a space or a tab.
