@@ -15,4 +15,5 @@ pub mod SeenLemmas
 pub mod GatherLemmas
 pub mod RouteLemmas
 pub mod OrderLemmas
+pub mod ThingLemmas
 pub mod ConfigLemmas

@@ -1,25 +1,21 @@
 -- The configuration that a file's lines make.
-use Rattle.std.specs.Prelude.{ℕ, Bool, ◌&&◌, ◌==◌, nat_lt, List, [], ◌∷◌, ◌++◌, length, map, Option, Some, None, Result, Ok, Err, count_by}
-use Rattle.std.specs.List.{filter_map, find, last_or, range_with_len}
-use Rattle.std.specs.Option.{option_map, option_map_or, option_eq}
-use Rattle.std.specs.Str.{bytes_eq}
-use Rattle.nc_types.specs.Cidr.{Cidr}
-use Rattle.nc_types.specs.Config.{ElementView, ConfigView}
+use Rattle.std.specs.Prelude.{ℕ, ◌==◌, nat_lt, List, [], ◌∷◌, ◌++◌, length, map, Option, Some, None, Result, Ok, Err, count_by}
+use Rattle.std.specs.List.{filter_map, flat_map, find, last_or, range_with_len}
+use Rattle.std.specs.Option.{option_map_or}
+use Rattle.nc_types.specs.Config.{ElementView, ClauseView, PrefixListView, CommunityListView, ConfigView}
 use Rattle.nc_types.specs.WellFormed.{first_line}
 use Rattle.nc_types.specs.Faults.{lowest}
 use Rattle.nc_types.specs.declared.fault.Fault.{Fault}
-use Rattle.nc_types.specs.declared.config.Kind.TheVariants.{Interface as InterfaceKind, Static as StaticKind}
 use Rattle.nc_types.specs.declared.config.Interface.{Interface}
-use Rattle.nc_types.specs.declared.config.Via.{Via}
-use Rattle.nc_types.specs.declared.config.Via.TheVariants.{Null, Hop, Through}
 use Rattle.nc_types.specs.declared.config.StaticRoute.{StaticRoute}
+use Rattle.nc_types.specs.declared.config.ListEntry.{ListEntry}
+use Rattle.nc_types.specs.declared.communities.CommunityEntry.{CommunityEntry}
 use Rattle.nc_types.specs.declared.fault.Cause.TheVariants.{NoName}
-use Rattle.nc_lines.specs.Lines.{line_at}
-use Rattle.nc_lines.specs.Parts.{numbered}
-use Rattle.nc_read_link.specs.Interfaces.{InterfacePart, interface_in}
-use Rattle.nc_read_link.specs.Statics.{static_at}
+use Rattle.nc_reader.specs.declared.topic.Topic.{Topic}
 use Rattle.nc_reader.specs.Groups.{Keyed, Group, groups}
-use Rattle.nc_reader.specs.Roles.{Role, Wrong, Names, Within, Routes, Placed, roles_from}
+use Rattle.nc_reader.specs.Roles.{Role, Wrong, Names, Within, Placed, roles_from}
+use Rattle.nc_reader.specs.Topics.{same_topic}
+use Rattle.nc_reader.specs.Things.{Part, AnInterface, Routes, AClause, Entries, Communities, part_in, pieces_in, ok_of, err_of}
 
 -- ---- the router's name
 
@@ -31,78 +27,23 @@ name_at line role = None
 abbrev pub name_of : List Placed → Option (ℕ × List ℕ)
 name_of rs = last_or None (filter_map (λ r. name_at r.line r.role) rs)
 
--- ---- interfaces
+-- ---- topics
 
-abbrev pub within_at : ℕ → Role → Option (Keyed (List ℕ) ℕ)
-within_at line (Within name) = Some (record { key = name; value = line })
-within_at line role = None
+abbrev pub spoken_at : ℕ → Role → Option (Keyed Topic ℕ)
+spoken_at line (Within topic) = Some (record { key = topic; value = line })
+spoken_at line role = None
 
--- the lines of the blocks of each interface, by its name
-abbrev pub blocks_of : List Placed → List (Group (List ℕ) ℕ)
-blocks_of rs = groups bytes_eq (filter_map (λ r. within_at r.line r.role) rs)
+-- the lines that speak of a topic, each with its topic
+abbrev pub spoken : List Placed → List (Keyed Topic ℕ)
+spoken rs = filter_map (λ r. spoken_at r.line r.role) rs
 
--- what the blocks of each interface make
-abbrev pub interfaces_of : List (List ℕ) → List Placed → List (Result InterfacePart Fault)
-interfaces_of lines rs = map (λ g. interface_in g.key (numbered lines g.values)) (blocks_of rs)
+-- the topics in order of first mention, each with its lines
+abbrev pub topics_of : List Placed → List (Group Topic ℕ)
+topics_of rs = groups same_topic (spoken rs)
 
--- ---- static routes
-
--- a static route with the line of its statement
-pub record Routed : Type 0 where
-  pub line : ℕ
-  pub route : StaticRoute
-
--- a static route with the lines of all its statements
-pub record RoutePart : Type 0 where
-  pub route : StaticRoute
-  pub lines : List ℕ
-
-abbrev pub route_at : ℕ → Role → Option ℕ
-route_at line Routes = Some line
-route_at line role = None
-
--- the lines of static routes
-abbrev pub route_lines : List Placed → List ℕ
-route_lines rs = filter_map (λ r. route_at r.line r.role) rs
-
-abbrev pub routed : ℕ → Result StaticRoute Fault → Result Routed Fault
-routed line (Ok route) = Ok (record { line = line; route = route })
-routed line (Err fault) = Err fault
-
--- what each of these lines makes
-abbrev pub routes_of : List (List ℕ) → List Placed → List (Result Routed Fault)
-routes_of lines rs = map (λ line. routed line (static_at line (line_at line lines))) (route_lines rs)
-
--- by what a static route is told from others: its prefix, its interface and its next hop
-pub record RouteKeyView : Type 0 where
-  pub prefix : Cidr
-  pub interface : Option (List ℕ)
-  pub hop : Option ℕ
-
-abbrev pub interface_by : Via → Option (List ℕ)
-interface_by (Through reference hop) = Some reference.name
-interface_by via = None
-
-abbrev pub hop_by : Via → Option ℕ
-hop_by Null = None
-hop_by (Hop hop) = Some hop.0
-hop_by (Through reference hop) = Some hop.0
-
-abbrev pub key_of : StaticRoute → RouteKeyView
-key_of r = record { prefix = r.prefix; interface = interface_by r.via; hop = hop_by r.via }
-
-abbrev pub same_key : RouteKeyView → RouteKeyView → Bool
-same_key a b =
-    ((a.prefix.base == b.prefix.base) && (a.prefix.len == b.prefix.len))
-    && (option_eq bytes_eq a.interface b.interface && option_eq (λ x y. x == y) a.hop b.hop)
-
--- the last of some statements of one route decides, and the route has the lines of all
-abbrev pub route_part : List Routed → Option RoutePart
-route_part rs = option_map (λ last. record { route = last.route; lines = map (λ r. r.line) rs }) (last_or None rs)
-
--- the routes in order of first mention
-abbrev pub statics_of : List Routed → List RoutePart
-statics_of rs = filter_map (λ g. route_part g.values) (groups same_key (map (λ r. record { key = key_of r.route; value = r }) rs))
+-- what each topic makes of its lines
+abbrev pub parts_of : List (List ℕ) → List Placed → List (Result Part Fault)
+parts_of lines rs = map (λ g. part_in lines g.key g.values) (topics_of rs)
 
 -- ---- the whole file
 
@@ -110,23 +51,13 @@ abbrev pub wrong_at : ℕ → Role → Option Fault
 wrong_at line (Wrong cause) = Some (record { line = line; cause = cause })
 wrong_at line role = None
 
-abbrev pub ok_of : {A : Type 0} → Result A Fault → Option A
-ok_of (Ok x) = Some x
-ok_of (Err fault) = None
-
-abbrev pub err_of : {A : Type 0} → Result A Fault → Option Fault
-err_of (Ok x) = None
-err_of (Err fault) = Some fault
-
--- all that is wrong: with lines by themselves, with interfaces, and with static routes
+-- all that is wrong: with lines by themselves, and with topics
 abbrev pub faults_of : List (List ℕ) → List Placed → List Fault
-faults_of lines rs =
-    filter_map (λ r. wrong_at r.line r.role) rs ++ (filter_map err_of (interfaces_of lines rs) ++ filter_map err_of (routes_of lines rs))
+faults_of lines rs = filter_map (λ r. wrong_at r.line r.role) rs ++ filter_map err_of (parts_of lines rs)
 
--- the elements in no order: those of the interfaces and those of the routes
-abbrev pub pieces_of : List InterfacePart → List RoutePart → List ElementView
-pieces_of interfaces statics =
-    map (λ p. record { kind = InterfaceKind; lines = p.lines }) interfaces ++ map (λ p. record { kind = StaticKind; lines = p.lines }) statics
+-- the elements, part by part
+abbrev pub pieces_of : List Part → List ElementView
+pieces_of parts = flat_map pieces_in parts
 
 -- the elements line by line: at each line the one that begins there
 abbrev pub in_order : ℕ → List ElementView → List ElementView
@@ -141,34 +72,65 @@ abbrev pub first_in : List ℕ → ℕ
 first_in [] = 0
 first_in (line ∷ lines) = line
 
+-- ---- the things of each kind, where the element that begins at a line has this place
+
 abbrev pub with_place : ℕ → Interface → Interface
 with_place place i = record { name = i.name; address = i.address; address_line = i.address_line; shut = i.shut; element = place }
+
+abbrev pub interfaces_in : (ℕ → ℕ) → Part → List Interface
+interfaces_in place (AnInterface p) = with_place (place (first_in p.lines)) p.interface ∷ []
+interfaces_in place part = []
 
 abbrev pub route_with_place : ℕ → StaticRoute → StaticRoute
 route_with_place place r = record { prefix = r.prefix; via = r.via; distance = r.distance; element = place }
 
--- the configuration of a router of this name, of its interfaces and routes
-abbrev pub config_of : ℕ → ℕ × List ℕ → List InterfacePart → List RoutePart → ConfigView
-config_of count name interfaces statics =
-    let pieces = pieces_of interfaces statics in
+abbrev pub statics_in : (ℕ → ℕ) → Part → List StaticRoute
+statics_in place (Routes ps) = map (λ p. route_with_place (place (first_in p.lines)) p.route) ps
+statics_in place part = []
+
+abbrev pub clause_with_place : ℕ → ClauseView → ClauseView
+clause_with_place place k = record k { element = place }
+
+abbrev pub clauses_in : (ℕ → ℕ) → Part → List ClauseView
+clauses_in place (AClause p) = clause_with_place (place (first_in p.lines)) p.clause ∷ []
+clauses_in place part = []
+
+abbrev pub entry_with_place : ℕ → ListEntry → ListEntry
+entry_with_place place e = record e { element = place }
+
+abbrev pub lists_in : (ℕ → ℕ) → Part → List PrefixListView
+lists_in place (Entries name ps) = record { name = name; entries = map (λ p. entry_with_place (place (first_in p.lines)) p.entry) ps } ∷ []
+lists_in place part = []
+
+abbrev pub community_with_place : ℕ → CommunityEntry → CommunityEntry
+community_with_place place e = record e { element = place }
+
+abbrev pub community_lists_in : (ℕ → ℕ) → Part → List CommunityListView
+community_lists_in place (Communities name ps) = record { name = name; entries = map (λ p. community_with_place (place p.line) p.entry) ps } ∷ []
+community_lists_in place part = []
+
+-- the configuration of a router of this name, of its parts
+abbrev pub config_of : ℕ → ℕ × List ℕ → List Part → ConfigView
+config_of count name parts =
+    let place = place_of (pieces_of parts) in
     record {
       name = name.1;
       name_line = name.0;
       line_count = count;
-      elements = in_order count pieces;
-      interfaces = map (λ p. with_place (place_of pieces (first_in p.lines)) p.interface) interfaces;
-      statics = map (λ p. route_with_place (place_of pieces (first_in p.lines)) p.route) statics;
+      elements = in_order count (pieces_of parts);
+      interfaces = flat_map (interfaces_in place) parts;
+      statics = flat_map (statics_in place) parts;
       process = None;
-      clauses = [];
-      lists = [];
+      clauses = flat_map (clauses_in place) parts;
+      lists = flat_map (lists_in place) parts;
+      community_lists = flat_map (community_lists_in place) parts;
     }
 
 -- the configuration, or its fault: that of the lowest faulty line, or the missing name
 abbrev pub judged : List (List ℕ) → List Placed → Result ConfigView Fault
 judged lines rs =
     option_map_or Err (lowest (faults_of lines rs))
-    (option_map_or (λ name. Ok (config_of (length lines) name (filter_map ok_of (interfaces_of lines rs)) (statics_of (filter_map ok_of (routes_of lines rs)))))
-    (name_of rs) (Err (record { line = 0; cause = NoName })))
+    (option_map_or (λ name. Ok (config_of (length lines) name (filter_map ok_of (parts_of lines rs)))) (name_of rs) (Err (record { line = 0; cause = NoName })))
 
 -- what a file's lines configure
 unfoldable pub configuration : List (List ℕ) → Result ConfigView Fault

@@ -7,22 +7,20 @@ use Rattle.nc_reader.specs.declared.gather.Gathered.{Gathered}
 use Rattle.nc_reader.specs.Roles.{roles_from}
 use Rattle.nc_reader.specs.Readings.{lines_in}
 use Rattle.nc_reader.specs.Steps.{Sketch}
-use Rattle.nc_reader.specs.Configuration.{name_of, blocks_of, route_lines, wrong_at}
+use Rattle.nc_reader.specs.Configuration.{name_of, topics_of, wrong_at}
 
 -- a line of the file
 abbrev pub IsLine : List (List ℕ) → ℕ → Type 0
 IsLine lines k = (0 < k) × (k ≤ length lines)
 
--- the name, the interfaces with their blocks, the static routes and the lowest wrong line are those of the whole file
+-- the name, the topics with their lines and the lowest wrong line are those of the whole file
 pub record Gathers (lines : List (List ℕ)) (g : Gathered) : Type 0 where
   pub name : g.name ≡ name_of (roles_from [] lines)
-  pub names : g.names.keys ≡ map (λ group. group.key) (blocks_of (roles_from [] lines))
-  pub interfaces : map (λ b. b.lines.items) g.interfaces.items ≡ map (λ group. group.values) (blocks_of (roles_from [] lines))
-  pub routes : g.routes.items ≡ route_lines (roles_from [] lines)
+  pub topics : g.topics.keys ≡ map (λ group. group.key) (topics_of (roles_from [] lines))
+  pub blocks : lines_in g.blocks.items ≡ map (λ group. group.values) (topics_of (roles_from [] lines))
   pub fault : g.fault ≡ lowest (filter_map (λ r. wrong_at r.line r.role) (roles_from [] lines))
-  pub block_lines : All (λ b. All (IsLine lines) b.lines.items) g.interfaces.items
-  pub lines_of_routes : All (IsLine lines) g.routes.items
+  pub block_lines : All (λ b. All (IsLine lines) b.lines.items) g.blocks.items
 
 -- what is gathered so far, as lists
 abbrev pub sketch : Draft → Sketch
-sketch d = record { name = d.name; names = d.names.keys; blocks = lines_in d.blocks.items; routes = d.routes.items; fault = d.fault; in_banner = d.in_banner; block = d.block }
+sketch d = record { name = d.name; topics = d.topics.keys; blocks = lines_in d.blocks.items; fault = d.fault; in_banner = d.in_banner; block = d.block }

@@ -1,5 +1,7 @@
 pub mod Groups
+pub mod Topics
 pub mod Roles
+pub mod Things
 pub mod Configuration
 pub mod Outcome
 pub mod Steps
@@ -8,3 +10,4 @@ pub mod Firsts
 pub mod Readings
 pub mod Parts
 pub mod Whole
+pub mod Arranging

@@ -1,8 +1,10 @@
--- What has been made of some of a file's parts, and what of them is wrong.
-use Rattle.std.specs.Prelude.{◌≡◌, ℕ, ◌==◌, nat_lt, List, [], ◌∷◌, ◌++◌, map, Option, Some, Result, count_by}
+-- What has been made of some of a file's topics, and what of them is wrong.
+use Rattle.std.specs.Prelude.{◌≡◌, ℕ, ◌==◌, nat_lt, List, [], ◌∷◌, ◌++◌, map, Option, Some, Result, Ok, Err, count_by}
 use Rattle.std.specs.List.{filter_map, find, range_with_len}
 use Rattle.std.specs.Option.{option_map}
-use Rattle.nc_types.specs.Config.{ElementView, element_view}
+use Rattle.std.specs.declared.alloc.Global.{Global}
+use Rattle.std.specs.declared.vec.Vec.{Vec}
+use Rattle.nc_types.specs.Config.{ElementView, element_view, clause_view}
 use Rattle.nc_types.specs.WellFormed.{first_line}
 use Rattle.nc_types.specs.Faults.{lowest}
 use Rattle.nc_types.specs.declared.config.Element.{Element}
@@ -11,13 +13,22 @@ use Rattle.nc_types.specs.declared.fault.ConfigFault.{ConfigFault}
 use Rattle.nc_types.specs.declared.fault.ConfigFault.TheVariants.{Bad, Memory}
 use Rattle.nc_types.specs.declared.config.StaticRoute.{StaticRoute}
 use Rattle.nc_lines.specs.declared.block.Block.{Block}
-use Rattle.nc_lines.specs.Parts.{numbered}
-use Rattle.nc_read_link.specs.Interfaces.{InterfacePart, interface_in}
-use Rattle.nc_reader.specs.declared.interfaces.InterfaceLines.{InterfaceLines}
+use Rattle.nc_lines.specs.Outcomes.{IsFault}
+use Rattle.nc_read_link.specs.Interfaces.{InterfacePart}
+use Rattle.nc_read_policy.specs.Clauses.{ClausePart}
+use Rattle.nc_read_policy.specs.Outcomes.{entry_part}
+use Rattle.nc_reader.specs.declared.communities.CommunityLine.{CommunityLine}
+use Rattle.nc_reader.specs.declared.pieces.InterfaceLines.{InterfaceLines}
+use Rattle.nc_reader.specs.declared.pieces.ClauseLines.{ClauseLines}
 use Rattle.nc_reader.specs.declared.routes.RouteKey.{RouteKey}
 use Rattle.nc_reader.specs.declared.routes.RouteLines.{RouteLines}
+use Rattle.nc_reader.specs.declared.things.Part.{Part as PartRead}
+use Rattle.nc_reader.specs.declared.things.Part.TheVariants as parts
+use Rattle.nc_reader.specs.declared.topic.Topic.{Topic}
 use Rattle.nc_reader.specs.Groups.{Keyed, keys_from, groups}
-use Rattle.nc_reader.specs.Configuration.{Routed, RoutePart, RouteKeyView, key_of, same_key, route_part, ok_of, err_of}
+use Rattle.nc_reader.specs.Things.{Routed, RoutePart, RouteKeyView, key_of, same_key, route_part, CommunityPart, ok_of, err_of, Part, AnInterface, Routes, AClause, Entries, Communities, part_in}
+
+-- ---- faults
 
 -- what was told before, and what is wrong with the parts that were read, gives the lowest fault
 abbrev pub IsLowest : {A : Type 0} → List Fault → Option Fault → List (Result A Fault) → Type 0
@@ -28,23 +39,55 @@ abbrev pub Notes : ConfigFault → Option Fault → Option Fault → Type 0
 Notes (Bad line cause) old new = (fs : List Fault) → old ≡ lowest fs → new ≡ lowest (fs ++ record { line = line; cause = cause } ∷ [])
 Notes Memory old new = ⊥
 
--- an interface with the lines of its statements
+-- ---- what a topic makes
+
+-- an interface, a static route and a clause, each with the lines of its statements
 abbrev pub interface_part : InterfaceLines → InterfacePart
 interface_part p = record { interface = p.interface; lines = p.lines.items }
 
--- these are the interfaces that were read, without those that are wrong
-abbrev pub AreInterfaces : List InterfaceLines → List (Result InterfacePart Fault) → Type 0
-AreInterfaces parts read = map interface_part parts ≡ filter_map ok_of read
-
--- what the blocks of interfaces make, each with its name
-abbrev pub interfaces_by : List (List ℕ) → List (List ℕ) → List Block → List (Result InterfacePart Fault)
-interfaces_by lines [] blocks = []
-interfaces_by lines (name ∷ names) [] = []
-interfaces_by lines (name ∷ names) (block ∷ blocks) = interface_in name (numbered lines block.lines.items) ∷ interfaces_by lines names blocks
-
--- a static route with the lines of its statements
 abbrev pub static_part : RouteLines → RoutePart
 static_part p = record { route = p.route; lines = p.lines.items }
+
+abbrev pub clause_part : ClauseLines → ClausePart
+clause_part p = record { clause = clause_view p.clause; lines = p.lines.items }
+
+-- an entry of a community list with its line
+abbrev pub community_line : CommunityLine → CommunityPart
+community_line p = record { entry = p.entry; line = p.line }
+
+abbrev pub part_view : PartRead → Part
+part_view (parts.AnInterface p) = AnInterface (interface_part p)
+part_view (parts.Routes ps) = Routes (map static_part ps.items)
+part_view (parts.AClause p) = AClause (clause_part p)
+part_view (parts.Entries name ps) = Entries name (map entry_part ps.items)
+part_view (parts.Communities name ps) = Communities name (map community_line ps.items)
+
+-- what was returned is this part, or this fault, unless memory ran out
+abbrev pub IsPart : Result PartRead ConfigFault → Result Part Fault → Type 0
+IsPart (Ok part) read = read ≡ Ok (part_view part)
+IsPart (Err fault) read = IsFault fault read
+
+-- these are the parts that were read, without those that are wrong
+abbrev pub AreRead : List PartRead → List (Result Part Fault) → Type 0
+AreRead made read = map part_view made ≡ filter_map ok_of read
+
+-- what topics make of their lines
+abbrev pub parts_by : List (List ℕ) → List Topic → List Block → List (Result Part Fault)
+parts_by lines [] blocks = []
+parts_by lines (topic ∷ topics) [] = []
+parts_by lines (topic ∷ topics) (block ∷ blocks) = part_in lines topic block.lines.items ∷ parts_by lines topics blocks
+
+-- ---- static routes
+
+-- what was returned are these routes, or this fault, unless memory ran out
+abbrev pub AreStatics : Result (Vec RouteLines Global) ConfigFault → Result (List RoutePart) Fault → Type 0
+AreStatics (Ok routes) read = read ≡ Ok (map static_part routes.items)
+AreStatics (Err fault) read = IsFault fault read
+
+-- what was returned are these entries, or this fault, unless memory ran out
+abbrev pub AreCommunities : Result (Vec CommunityLine Global) ConfigFault → Result (List CommunityPart) Fault → Type 0
+AreCommunities (Ok parts) read = read ≡ Ok (map community_line parts.items)
+AreCommunities (Err fault) read = IsFault fault read
 
 -- a static route with one more statement, which decides
 abbrev pub with_statement : ℕ → StaticRoute → RoutePart → RoutePart

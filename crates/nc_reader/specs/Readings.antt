@@ -5,16 +5,27 @@ use Rattle.nc_reader.specs.declared.header.Header.{Header}
 use Rattle.nc_reader.specs.declared.header.Header.TheVariants as headers
 use Rattle.nc_reader.specs.declared.role.Role.{Role as RoleRead}
 use Rattle.nc_reader.specs.declared.role.Role.TheVariants as roles
-use Rattle.nc_reader.specs.Roles.{Role, Passed, Wrong, Names, Within, Routes}
+use Rattle.nc_reader.specs.declared.topic.Subject.{Subject}
+use Rattle.nc_reader.specs.declared.topic.Subject.TheVariants as subjects
+use Rattle.nc_reader.specs.declared.topic.Topic.{Topic}
+use Rattle.nc_reader.specs.declared.topic.Topic.TheVariants as topics
+use Rattle.nc_reader.specs.Roles.{Role, Passed, Wrong, Names, Within}
 use Rattle.nc_reader.specs.Steps.{Kind, Banner, Idle, Member, Heads}
+
+-- a topic that was written
+abbrev pub topic_of : Subject → Topic
+topic_of (subjects.Interface name) = topics.Interface name.now
+topic_of subjects.Statics = topics.Statics
+topic_of (subjects.Clause name number) = topics.Clause name.now number
+topic_of (subjects.List name) = topics.List name.now
+topic_of (subjects.Communities name) = topics.Communities name.now
 
 -- an unindented statement as it was read
 abbrev pub role_of_header : Header → Role
 role_of_header headers.Passed = Passed
 role_of_header (headers.Wrong cause) = Wrong cause
 role_of_header (headers.Names name) = Names name.now
-role_of_header (headers.Opens name) = Within name.now
-role_of_header headers.Routes = Routes
+role_of_header (headers.Speaks subject) = Within (topic_of subject)
 
 -- a line as it was read
 abbrev pub kind_of_role : RoleRead → Kind

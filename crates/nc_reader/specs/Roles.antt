@@ -8,7 +8,13 @@ use Rattle.nc_types.specs.declared.fault.Cause.{Cause}
 use Rattle.nc_types.specs.declared.fault.Cause.TheVariants.{Syntax, Unsupported}
 use Rattle.nc_lines.specs.Lines.{words_of, is_indented}
 use Rattle.nc_lines.specs.Blocks.{is_idle, begins_banner, has_mark, leaves_open, is_open, header_of}
-use Rattle.nc_lines.specs.Statements.{after, begins}
+use Rattle.nc_lines.specs.Statements.{Reading, Outside, Faulty, Says, after, begins}
+use Rattle.nc_read_policy.specs.Clauses.{header_says}
+use Rattle.nc_read_policy.specs.Lists.{list_name_says}
+use Rattle.nc_read_policy.specs.CommunityEntries.{community_name_says}
+use Rattle.nc_reader.specs.declared.topic.Topic.{Topic}
+use Rattle.nc_reader.specs.declared.topic.Topic.TheVariants as topics
+use Rattle.nc_reader.specs.Topics.{has_block}
 
 -- what a line is
 pub data Role : Type 0 where
@@ -17,10 +23,8 @@ pub data Role : Type 0 where
   Wrong : Cause → Role
   -- the router's name
   Names : List ℕ → Role
-  -- the header of the interface of this name, or a line of its block
-  Within : List ℕ → Role
-  -- a static route
-  Routes : Role
+  -- a statement on this topic, or a line of its block
+  Within : Topic → Role
 
 -- ---- unindented lines
 
@@ -29,22 +33,14 @@ abbrev pub is_router : List (List ℕ) → Bool
 is_router [] = false
 is_router (protocol ∷ words) = true
 
--- what is behind `ip prefix-list` and configures no entry: a description, or that entries are shown with their numbers
-abbrev pub is_list_remark : List (List ℕ) → Bool
-is_list_remark [] = false
-is_list_remark (word ∷ []) = bytes_eq word (codes "sequence-number")
-is_list_remark (name ∷ word ∷ words) = bytes_eq word (codes "description")
-
 -- unindented statements that aren't supported
 unfoldable pub is_unsupported : List (List ℕ) → Bool
 is_unsupported words =
     option_map_or is_router (after (codes "router" ∷ []) words) false
-    || (begins (codes "route-map" ∷ []) words
-    || (option_map_or (λ rest. not (is_list_remark rest)) (after (codes "ip" ∷ codes "prefix-list" ∷ []) words) false
     || (begins (codes "ip" ∷ codes "default-network" ∷ []) words
     || (begins (codes "no" ∷ codes "ip" ∷ codes "routing" ∷ []) words
     || (begins (codes "ip" ∷ codes "local" ∷ codes "policy" ∷ []) words
-    || begins (codes "ip" ∷ codes "nat" ∷ []) words)))))
+    || begins (codes "ip" ∷ codes "nat" ∷ []) words)))
 
 -- what is behind `hostname`
 abbrev pub hostname_role : List (List ℕ) → Role
@@ -54,14 +50,23 @@ hostname_role words = Wrong Syntax
 -- what is behind `interface`: words behind the name are passed over
 abbrev pub interface_role : List (List ℕ) → Role
 interface_role [] = Wrong Syntax
-interface_role (name ∷ words) = Within name
+interface_role (name ∷ words) = Within (topics.Interface name)
+
+-- a statement by what it says: it speaks of a topic, is wrong, or configures no route
+abbrev pub said_role : {S : Type 0} → (S → Topic) → Reading S → Role
+said_role topic Outside = Passed
+said_role topic (Faulty cause) = Wrong cause
+said_role topic (Says s) = Within (topic s)
 
 -- the unindented statements that are read
 unfoldable pub read_role : List (List ℕ) → Role
 read_role words =
     option_map_or hostname_role (after (codes "hostname" ∷ []) words)
     (option_map_or interface_role (after (codes "interface" ∷ []) words)
-    (option_map_or (λ rest. Routes) (after (codes "ip" ∷ codes "route" ∷ []) words) Passed))
+    (option_map_or (λ rest. Within topics.Statics) (after (codes "ip" ∷ codes "route" ∷ []) words)
+    (option_map_or (λ rest. said_role topics.List (list_name_says rest)) (after (codes "ip" ∷ codes "prefix-list" ∷ []) words)
+    (option_map_or (λ rest. said_role topics.Communities (community_name_says rest)) (after (codes "ip" ∷ codes "community-list" ∷ []) words)
+    (said_role (λ h. topics.Clause h.map_name h.number) (header_says words))))))
 
 -- what the words of an unindented statement make of it: what isn't supported is looked at first
 abbrev pub header_role : List (List ℕ) → Role
@@ -69,19 +74,19 @@ header_role words = if is_unsupported words then Wrong Unsupported else read_rol
 
 -- ---- all lines
 
--- the interface whose block an unindented statement opens
-abbrev pub opened_by : Role → Option (List ℕ)
-opened_by (Within name) = Some name
+-- the topic whose block an unindented statement opens
+abbrev pub opened_by : Role → Option Topic
+opened_by (Within topic) = if has_block topic then Some topic else None
 opened_by role = None
 
--- the interface in whose block an indented line stands, given the lines before it, the nearest first
-abbrev pub block_of : List (List ℕ) → Option (List ℕ)
+-- the topic in whose block an indented line stands, given the lines before it, the nearest first
+abbrev pub block_of : List (List ℕ) → Option Topic
 block_of earlier = option_and_then (λ header. opened_by (header_role (words_of header))) (header_of earlier)
 
--- an indented line in the block of an interface, or in none
-abbrev pub member_role : Option (List ℕ) → Role
+-- an indented line in the block of a topic, or in none
+abbrev pub member_role : Option Topic → Role
 member_role None = Passed
-member_role (Some name) = Within name
+member_role (Some topic) = Within topic
 
 -- the first line of a banner: it has a mark, and a second one stands in it or in a later line
 abbrev pub banner_role : List ℕ → List (List ℕ) → Role

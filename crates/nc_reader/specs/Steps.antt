@@ -2,7 +2,6 @@
 use Rattle.std.specs.Prelude.{◌≡◌, ◌<◌, ℕ, zero, suc, Bool, true, false, not, ◌&&◌, List, [], ◌∷◌, ◌++◌, length, Option, Some, None, IfSome, if◌then◌else◌}
 use Rattle.std.specs.List.{list_any, position_or_len}
 use Rattle.std.specs.Option.{option_map_or}
-use Rattle.std.specs.Str.{bytes_eq}
 use Rattle.nc_types.specs.Faults.{lower}
 use Rattle.nc_types.specs.declared.fault.Fault.{Fault}
 use Rattle.nc_types.specs.declared.fault.Cause.{Cause}
@@ -10,7 +9,9 @@ use Rattle.nc_types.specs.declared.fault.Cause.TheVariants.{Syntax, Unsupported}
 use Rattle.nc_lines.specs.Lines.{words_of, is_indented}
 use Rattle.nc_lines.specs.Blocks.{is_idle, begins_banner, has_mark, leaves_open}
 use Rattle.nc_reader.specs.Groups.{with_key}
-use Rattle.nc_reader.specs.Roles.{Role, Passed, Wrong, Names, Within, Routes, header_role}
+use Rattle.nc_reader.specs.Roles.{Role, Passed, Wrong, Names, Within, header_role}
+use Rattle.nc_reader.specs.declared.topic.Topic.{Topic}
+use Rattle.nc_reader.specs.Topics.{same_topic, has_block}
 
 -- ---- one line
 
@@ -42,21 +43,20 @@ kind_of in_banner line later =
 
 pub record Sketch : Type 0 where
   pub name : Option (ℕ × List ℕ)
-  -- the names of interfaces, and the lines of the blocks of each
-  pub names : List (List ℕ)
+  -- the topics, and the lines that speak of each
+  pub topics : List Topic
   pub blocks : List (List ℕ)
-  pub routes : List ℕ
   pub fault : Option Fault
-  -- whether a banner is open, and the place of the interface in whose block an indented line would stand
+  -- whether a banner is open, and the place of the topic in whose block an indented line would stand
   pub in_banner : Bool
   pub block : Option ℕ
 
 abbrev pub blank : Sketch
-blank = record { name = None; names = []; blocks = []; routes = []; fault = None; in_banner = false; block = None }
+blank = record { name = None; topics = []; blocks = []; fault = None; in_banner = false; block = None }
 
--- each name has a block, and so has the interface of an indented line
+-- each topic has lines, and so has that of an indented line
 pub record IsSteady (s : Sketch) : Type 0 where
-  pub blocks : length s.blocks ≡ length s.names
+  pub blocks : length s.blocks ≡ length s.topics
   pub block : IfSome s.block (λ place. place < length s.blocks)
 
 -- a list that is changed at one place
@@ -84,14 +84,13 @@ abbrev pub headed : ℕ → Role → Sketch → Sketch
 headed line Passed s = record s { block = None }
 headed line (Wrong cause) s = record s { fault = with_fault line (Some cause) s.fault; block = None }
 headed line (Names name) s = record s { name = Some (line, name); block = None }
-headed line (Within name) s =
-    let place = position_or_len (bytes_eq name) s.names in
+headed line (Within topic) s =
+    let place = position_or_len (same_topic topic) s.topics in
     record s {
-      names = with_key bytes_eq s.names name;
-      blocks = put_at (list_any (bytes_eq name) s.names) line place s.blocks;
-      block = Some place;
+      topics = with_key same_topic s.topics topic;
+      blocks = put_at (list_any (same_topic topic) s.topics) line place s.blocks;
+      block = if has_block topic then Some place else None;
     }
-headed line Routes s = record s { routes = s.routes ++ line ∷ []; block = None }
 
 -- an indented line, in the block at this place or in none
 abbrev pub joined : ℕ → Option ℕ → Sketch → Sketch

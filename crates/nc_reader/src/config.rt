@@ -21,12 +21,7 @@ fn finish(alloc: Global, lines: &Lines, parts: Parts) -> Result<RouterConfig, Co
     ensures well_formed { IfOk result (λ c. IsWellFormed (config_view c)) }
 {
     configurations_are_well_formed();
-    let Parts {
-        name,
-        interfaces,
-        routes,
-        fault,
-    } = parts;
+    let Parts { name, made, fault } = parts;
     if let Some(fault) = fault {
         return Err(ConfigFault::Bad {
             line: fault.line,
@@ -40,17 +35,18 @@ fn finish(alloc: Global, lines: &Lines, parts: Parts) -> Result<RouterConfig, Co
         });
     };
     let count = lines.count();
-    let arranged = arrange(alloc, count, interfaces, routes)?;
+    let (things, elements) = arrange(alloc, count, made)?;
     Ok(RouterConfig {
         name,
         name_line,
         line_count: count,
-        elements: arranged.elements,
-        interfaces: arranged.interfaces,
-        statics: arranged.statics,
+        elements,
+        interfaces: things.interfaces,
+        statics: things.statics,
         process: None,
-        clauses: Vec::new(alloc),
-        lists: Vec::new(alloc),
+        clauses: things.clauses,
+        lists: things.lists,
+        community_lists: things.community_lists,
     })
 }
 

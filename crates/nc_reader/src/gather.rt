@@ -2,13 +2,15 @@
 
 ghost use Rattle.std.specs.Prelude.{◌≡◌, ◌<◌, ◌≤◌, drop, length, OnOk, IfOk};
 ghost use Rattle.nc_reader.specs.Gathering.{Gathers, sketch};
-ghost use Rattle.nc_reader.specs.Readings.{role_of_header};
+ghost use Rattle.nc_reader.specs.Readings.{role_of_header, topic_of};
 ghost use Rattle.nc_reader.specs.Steps.{Banner, Member, IsSteady, blank, with_fault, headed, stepped, kind_of};
+ghost use Rattle.nc_reader.specs.Topics.{has_block};
 ghost use Rattle.nc_lines.specs.Lines.{line_at};
 
 use crate::groups::{add, put};
 use crate::header::Header;
 use crate::role::{Role, read_role};
+use crate::topic::{Subject, Topic};
 use indexmap::IndexSet;
 use nc_lines::{Block, Lines};
 use nc_types::{Cause, Fault, Text};
@@ -19,12 +21,10 @@ use std::alloc::{AllocError, Global};
 pub(crate) struct Gathered {
     /// The line of the name in force, and the name.
     pub(crate) name: Option<(u32, Text)>,
-    /// The names of interfaces, in order of first mention.
-    pub(crate) names: IndexSet<Text>,
-    /// The lines of the blocks of each interface.
-    pub(crate) interfaces: Vec<Block>,
-    /// The lines of static routes.
-    pub(crate) routes: Vec<u32>,
+    /// The topics, in order of first mention.
+    pub(crate) topics: IndexSet<Topic>,
+    /// The lines that speak of each topic.
+    pub(crate) blocks: Vec<Block>,
     /// The lowest line that is wrong by itself.
     pub(crate) fault: Option<Fault>,
 }
@@ -44,17 +44,26 @@ fn with_fault(known: Option<Fault>, line: u32, cause: Option<Cause>) -> Option<F
     Some(Fault { line, cause })
 }
 
+// Whether the indented lines behind a statement speak of its topic.
+fn has_block(subject: Subject<'_>) -> bool
+    ensures { result ≡ has_block (topic_of subject) }
+{
+    match subject {
+        Subject::Interface(_) | Subject::Clause(_, _) => true,
+        Subject::Statics | Subject::List(_) | Subject::Communities(_) => false,
+    }
+}
+
 // What the lines so far say.
 #[derive(Drop)]
 struct Draft {
     name: Option<(u32, Text)>,
-    // The names of interfaces, and the block of each.
-    names: IndexSet<Text>,
+    // The topics, and the lines that speak of each.
+    topics: IndexSet<Topic>,
     blocks: Vec<Block>,
-    routes: Vec<u32>,
     fault: Option<Fault>,
     in_banner: bool,
-    // The place of the interface in whose block an indented line would stand.
+    // The place of the topic in whose block an indented line would stand.
     block: Option<usize>,
 }
 
@@ -65,9 +74,8 @@ impl Draft {
     {
         Draft {
             name: None,
-            names: IndexSet::new(alloc),
+            topics: IndexSet::new(alloc),
             blocks: Vec::new(alloc),
-            routes: Vec::new(alloc),
             fault: None,
             in_banner: false,
             block: None,
@@ -108,13 +116,13 @@ impl Draft {
                 self.name = Some((line, Text::new(alloc, name)?));
                 self.block = None;
             }
-            Header::Opens(name) => {
-                let place = put(alloc, &mut self.names, &mut self.blocks, name, line)?;
-                self.block = Some(place);
-            }
-            Header::Routes => {
-                self.routes.push(line)?;
-                self.block = None;
+            Header::Speaks(subject) => {
+                let place = put(alloc, &mut self.topics, &mut self.blocks, subject, line)?;
+                self.block = if has_block(subject) {
+                    Some(place)
+                } else {
+                    None
+                };
             }
         }
         Ok(())
@@ -149,9 +157,8 @@ pub(crate) fn gather(alloc: Global, lines: &Lines) -> Result<Gathered, AllocErro
     }
     Ok(Gathered {
         name: draft.name,
-        names: draft.names,
-        interfaces: draft.blocks,
-        routes: draft.routes,
+        topics: draft.topics,
+        blocks: draft.blocks,
         fault: draft.fault,
     })
 }

@@ -1,15 +1,15 @@
-//! The lines of the blocks of each interface, by its name.
+//! The lines that speak of each topic.
 
 ghost use Rattle.std.specs.Prelude.{◌≡◌, ◌<◌, ◌∷◌, ◌++◌, [], length, vec_len, OnOk, IfOk};
 ghost use Rattle.std.specs.List.{list_any, position_or_len};
-ghost use Rattle.std.specs.Str.{bytes_eq};
 ghost use Rattle.nc_reader.specs.Groups.{with_key};
-ghost use Rattle.nc_reader.specs.Readings.{lines_in};
+ghost use Rattle.nc_reader.specs.Readings.{lines_in, topic_of};
 ghost use Rattle.nc_reader.specs.Steps.{with_value, put_at};
+ghost use Rattle.nc_reader.specs.Topics.{same_topic};
 
+use crate::topic::{Subject, Topic};
 use indexmap::IndexSet;
 use nc_lines::Block;
-use nc_types::Text;
 use std::alloc::{AllocError, Global};
 
 // For how many lines a new block has room: a header and a few statements.
@@ -42,21 +42,21 @@ fn begin(alloc: Global, blocks: &mut Vec<Block>, line: u32) -> Result<(), AllocE
     Ok(())
 }
 
-/// Adds a line to the block of a name, which is made where the name has none, and tells the name's place.
+/// Adds a line to the block of a topic, which is made where the topic has none, and tells the topic's place.
 pub(crate) fn put(
     alloc: Global,
-    names: &mut IndexSet<Text>,
+    topics: &mut IndexSet<Topic>,
     blocks: &mut Vec<Block>,
-    name: &[u8],
+    subject: Subject<'_>,
     line: u32,
 ) -> Result<usize, AllocError>
-    requires { vec_len blocks.old ≡ length names.old.keys }
-    ensures names { OnOk result (names.new.keys ≡ with_key bytes_eq names.old.keys name.now) }
+    requires { vec_len blocks.old ≡ length topics.old.keys }
+    ensures topics { OnOk result (topics.new.keys ≡ with_key same_topic topics.old.keys (topic_of subject)) }
     ensures blocks { OnOk result (lines_in blocks.new.items
-        ≡ put_at (list_any (bytes_eq name.now) names.old.keys) line (position_or_len (bytes_eq name.now) names.old.keys) (lines_in blocks.old.items)) }
-    ensures place { IfOk result (λ place. place ≡ position_or_len (bytes_eq name.now) names.old.keys) }
+        ≡ put_at (list_any (same_topic (topic_of subject)) topics.old.keys) line (position_or_len (same_topic (topic_of subject)) topics.old.keys) (lines_in blocks.old.items)) }
+    ensures place { IfOk result (λ place. place ≡ position_or_len (same_topic (topic_of subject)) topics.old.keys) }
 {
-    let (place, is_new) = names.insert_full(Text::new(alloc, name)?)?;
+    let (place, is_new) = topics.insert_full(Topic::new(alloc, subject)?)?;
     if is_new {
         begin(alloc, blocks, line)?;
     } else {

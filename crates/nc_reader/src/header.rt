@@ -4,12 +4,17 @@ ghost use Rattle.std.specs.Prelude.{◌≡◌, ◌∷◌, [], List, ℕ, MatchOp
 ghost use Rattle.std.specs.List.{list_all};
 ghost use Rattle.nc_types.specs.WellFormed.{is_name};
 ghost use Rattle.nc_lines.specs.Lines.{words_of};
-ghost use Rattle.nc_reader.specs.Roles.{is_list_remark, header_role};
+ghost use Rattle.nc_read_policy.specs.Lists.{list_name_says};
+ghost use Rattle.nc_read_policy.specs.CommunityEntries.{community_name_says};
+ghost use Rattle.nc_reader.specs.declared.topic.Topic.TheVariants as topics;
+ghost use Rattle.nc_reader.specs.Roles.{said_role, header_role};
 ghost use Rattle.nc_reader.specs.Readings.{role_of_header};
 
 use crate::first::{First, read_first};
+use crate::topic::Subject;
 use nc_lines::cut::cut_word;
-use nc_lines::statement::{begins_one, is_word};
+use nc_lines::statement::{Reading, begins_one, is_word};
+use nc_read_policy::{read_clause_header, read_community_name, read_list_name};
 use nc_types::{Cause, NAME_LIMIT};
 
 /// What an unindented statement is.
@@ -20,10 +25,8 @@ pub(crate) enum Header<'a> {
     Wrong(Cause),
     /// The router's name.
     Names(&'a [u8]),
-    /// The block of this interface begins.
-    Opens(&'a [u8]),
-    /// A static route.
-    Routes,
+    /// A statement on this topic.
+    Speaks(Subject<'a>),
 }
 
 // The one word of a line that has one.
@@ -76,7 +79,7 @@ fn behind_interface(rest: &[u8]) -> Header<'_>
 {
     match cut_word(rest) {
         None => Header::Wrong(Cause::Syntax),
-        Some((name, _)) => Header::Opens(name),
+        Some((name, _)) => Header::Speaks(Subject::Interface(name)),
     }
 }
 
@@ -91,13 +94,18 @@ fn behind_router(rest: &[u8]) -> Header<'_>
     }
 }
 
-// A route map isn't supported.
+// What a line is that begins with `route-map`: the header of a clause.
 #[tactic(auto, unfolding(crate::specs::Roles::is_unsupported, crate::specs::Roles::read_role))]
-fn behind_route_map(rest: &[u8]) -> Header<'_>
+fn route_map<'a>(line: &'a [u8], rest: &[u8]) -> Header<'a>
+    requires { words_of line.now ≡ codes "route-map" ∷ words_of rest.now }
     ensures { role_of_header result ≡ header_role (codes "route-map" ∷ words_of rest.now) }
 {
-    let _words = rest;
-    Header::Wrong(Cause::Unsupported)
+    let _behind = rest;
+    match read_clause_header(line) {
+        Reading::Outside => Header::Passed,
+        Reading::Faulty(cause) => Header::Wrong(cause),
+        Reading::Says(header) => Header::Speaks(Subject::Clause(header.map, header.number)),
+    }
 }
 
 // What is behind `no`.
@@ -114,16 +122,25 @@ fn behind_no(rest: &[u8]) -> Header<'_>
     Header::Passed
 }
 
-// Whether what follows `ip prefix-list` configures no entry.
-fn is_remark(line: &[u8]) -> bool
-    ensures { result ≡ is_list_remark (words_of line.now) }
+// What is behind `ip prefix-list`: an entry of a list.
+fn prefix_list(rest: &[u8]) -> Header<'_>
+    ensures { role_of_header result ≡ said_role topics.List (list_name_says (words_of rest.now)) }
 {
-    let Some((word, rest)) = cut_word(line) else {
-        return false;
-    };
-    match cut_word(rest) {
-        None => is_word(word, "sequence-number"),
-        Some((second, _)) => is_word(second, "description"),
+    match read_list_name(rest) {
+        Reading::Outside => Header::Passed,
+        Reading::Faulty(cause) => Header::Wrong(cause),
+        Reading::Says(name) => Header::Speaks(Subject::List(name)),
+    }
+}
+
+// What is behind `ip community-list`: an entry of a list.
+fn community_list(rest: &[u8]) -> Header<'_>
+    ensures { role_of_header result ≡ said_role topics.Communities (community_name_says (words_of rest.now)) }
+{
+    match read_community_name(rest) {
+        Reading::Outside => Header::Passed,
+        Reading::Faulty(cause) => Header::Wrong(cause),
+        Reading::Says(name) => Header::Speaks(Subject::Communities(name)),
     }
 }
 
@@ -136,7 +153,13 @@ fn behind_ip(rest: &[u8]) -> Header<'_>
         return Header::Passed;
     };
     if is_word(word, "route") {
-        return Header::Routes;
+        return Header::Speaks(Subject::Statics);
+    }
+    if is_word(word, "prefix-list") {
+        return prefix_list(rest);
+    }
+    if is_word(word, "community-list") {
+        return community_list(rest);
     }
     if is_word(word, "default-network") || is_word(word, "nat") {
         return Header::Wrong(Cause::Unsupported);
@@ -144,15 +167,13 @@ fn behind_ip(rest: &[u8]) -> Header<'_>
     if is_word(word, "local") && begins_one(rest, "policy") {
         return Header::Wrong(Cause::Unsupported);
     }
-    if is_word(word, "prefix-list") && !is_remark(rest) {
-        return Header::Wrong(Cause::Unsupported);
-    }
     Header::Passed
 }
 
 /// What an unindented statement of this first word is; what isn't supported is looked at first.
 #[tactic(auto, unfolding(crate::specs::Roles::is_unsupported, crate::specs::Roles::read_role))]
-pub(crate) fn read_header<'a>(word: &[u8], rest: &'a [u8]) -> Header<'a>
+pub(crate) fn read_header<'a>(line: &'a [u8], word: &[u8], rest: &'a [u8]) -> Header<'a>
+    requires { words_of line.now ≡ word.now ∷ words_of rest.now }
     ensures { role_of_header result ≡ header_role (word.now ∷ words_of rest.now) }
 {
     match read_first(word) {
@@ -160,7 +181,7 @@ pub(crate) fn read_header<'a>(word: &[u8], rest: &'a [u8]) -> Header<'a>
         First::Ip => behind_ip(rest),
         First::Hostname => behind_hostname(rest),
         First::Router => behind_router(rest),
-        First::RouteMap => behind_route_map(rest),
+        First::RouteMap => route_map(line, rest),
         First::No => behind_no(rest),
         First::Other => Header::Passed,
     }

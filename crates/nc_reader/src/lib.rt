@@ -8,17 +8,20 @@
 //! faulty line. That every such configuration is well formed is a law in [`laws`].
 #![tactic(auto)]
 
+mod communities;
 mod config;
 mod faults;
 mod first;
 mod gather;
 mod groups;
 mod header;
-mod interfaces;
 pub mod laws;
 mod order;
 mod parts;
+mod pieces;
 mod role;
 mod routes;
+mod things;
+mod topic;
 
 pub use config::read_config;

@@ -1,12 +1,18 @@
-//! The parts of a file: its name, its interfaces and its static routes.
+//! The parts of a file: its name, and what each of its topics makes.
 
-ghost use Rattle.std.specs.Prelude.{IfOk};
+ghost use Rattle.std.specs.Prelude.{◌≡◌, List, Result, ◌++◌, ◌∷◌, [], length, All, OnOk, IfOk};
+ghost use Rattle.nc_types.specs.declared.fault.Fault.{Fault};
+ghost use Rattle.nc_types.specs.Faults.{lowest};
+ghost use Rattle.nc_reader.specs.Gathering.{IsLine};
+ghost use Rattle.nc_reader.specs.Parts.{IsLowest, AreRead, parts_by};
+ghost use Rattle.nc_reader.specs.Things.{Part as PartSpec, part_in};
 ghost use Rattle.nc_reader.specs.Whole.{AreParts};
 
+use crate::faults::note;
 use crate::gather::gather;
-use crate::interfaces::{InterfaceLines, read_interfaces};
-use crate::routes::{RouteLines, read_routes};
-use nc_lines::Lines;
+use crate::things::{Part, read_part};
+use crate::topic::Topic;
+use nc_lines::{Block, Lines};
 use nc_types::{Fault, Text};
 use std::alloc::{AllocError, Global};
 
@@ -15,12 +21,59 @@ use std::alloc::{AllocError, Global};
 pub(crate) struct Parts {
     /// The line of the name in force, and the name.
     pub(crate) name: Option<(u32, Text)>,
-    /// The interfaces, in order of first mention.
-    pub(crate) interfaces: Vec<InterfaceLines>,
-    /// The static routes, in order of first mention.
-    pub(crate) routes: Vec<RouteLines>,
+    /// What the topics make that have no fault, in order of first mention.
+    pub(crate) made: Vec<Part>,
     /// The lowest fault of all.
     pub(crate) fault: Option<Fault>,
+}
+
+// What some topics make.
+#[derive(Drop)]
+struct Made {
+    parts: Vec<Part>,
+    // The lowest fault so far.
+    fault: Option<Fault>,
+}
+
+// Reads what one more topic makes.
+fn read_one(
+    alloc: Global,
+    lines: &Lines,
+    topic: &Topic,
+    block: &Block,
+    parts: &mut Vec<Part>,
+    told: &mut Option<Fault>,
+) -> Result<(), AllocError>
+    requires { All (IsLine lines.now) block.now.lines.items }
+    ensures parts { OnOk result ((rs : List (Result PartSpec Fault)) → AreRead parts.old.items rs → AreRead parts.new.items (rs ++ part_in lines.now topic.now block.now.lines.items ∷ [])) }
+    ensures told { OnOk result ((fs : List Fault) (rs : List (Result PartSpec Fault)) → IsLowest fs told.old rs → IsLowest fs told.new (rs ++ part_in lines.now topic.now block.now.lines.items ∷ [])) }
+{
+    match read_part(alloc, lines, topic, block) {
+        Ok(part) => parts.push(part)?,
+        Err(fault) => note(told, fault)?,
+    }
+    Ok(())
+}
+
+// Reads what these topics make, each of its block, given the lowest fault before them.
+fn read_all(
+    alloc: Global,
+    lines: &Lines,
+    topics: &[Topic],
+    blocks: &[Block],
+    before: Option<Fault>,
+) -> Result<Made, AllocError>
+    requires lines { All (λ b. All (IsLine lines.now) b.lines.items) blocks.now }
+    requires named { length topics.now ≡ length blocks.now }
+    ensures parts { IfOk result (λ r. AreRead r.parts.items (parts_by lines.now topics.now blocks.now)) }
+    ensures told { IfOk result (λ r. (fs : List Fault) → before ≡ lowest fs → IsLowest fs r.fault (parts_by lines.now topics.now blocks.now)) }
+{
+    let mut parts = Vec::with_capacity(alloc, blocks.len())?;
+    let mut told = before;
+    'blocks: for (place, block) in blocks.iter().enumerate() {
+        read_one(alloc, lines, &topics[place], block, &mut parts, &mut told)?;
+    }
+    Ok(Made { parts, fault: told })
 }
 
 /// Reads the parts of a file.
@@ -28,13 +81,11 @@ pub(crate) fn read_parts(alloc: Global, lines: &Lines) -> Result<Parts, AllocErr
     ensures { IfOk result (AreParts lines.now) }
 {
     let gathered = gather(alloc, lines)?;
-    let names = gathered.names.as_slice();
-    let interfaces = read_interfaces(alloc, lines, names, &gathered.interfaces, gathered.fault)?;
-    let routes = read_routes(alloc, lines, &gathered.routes, interfaces.fault)?;
+    let topics = gathered.topics.as_slice();
+    let read = read_all(alloc, lines, topics, &gathered.blocks, gathered.fault)?;
     Ok(Parts {
         name: gathered.name,
-        interfaces: interfaces.parts,
-        routes: routes.parts,
-        fault: routes.fault,
+        made: read.parts,
+        fault: read.fault,
     })
 }

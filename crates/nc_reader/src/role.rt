@@ -91,5 +91,5 @@ pub(crate) fn read_role(lines: &Lines, number: u32, in_banner: bool) -> Role<'_>
     if word.first() == Some(&b'!') {
         return Role::Idle;
     }
-    Role::Heads(read_header(word, rest))
+    Role::Heads(read_header(line, word, rest))
 }

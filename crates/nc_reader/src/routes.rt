@@ -1,21 +1,15 @@
 //! The static routes of a file, each from its statements.
 
-ghost use Rattle.std.specs.Prelude.{◌≡◌, ◌<◌, vec_len, length, List, Result, ◌++◌, ◌∷◌, [], map, All, OnOk, IfOk};
-ghost use Rattle.std.specs.List.{filter_map};
-ghost use Rattle.nc_types.specs.declared.fault.Fault.{Fault};
-ghost use Rattle.nc_types.specs.Faults.{lowest};
-ghost use Rattle.nc_lines.specs.Lines.{line_at};
-ghost use Rattle.nc_read_link.specs.Statics.{static_at};
-ghost use Rattle.nc_reader.specs.Configuration.{Routed, statics_of, routed, key_of, ok_of};
+ghost use Rattle.std.specs.Prelude.{◌≡◌, ◌<◌, vec_len, length, List, ◌++◌, ◌∷◌, [], map, All, OnOk, IfOk};
 ghost use Rattle.nc_reader.specs.Gathering.{IsLine};
-ghost use Rattle.nc_reader.specs.Parts.{IsLowest, AreRoutes, key_view, static_part, with_statement};
+ghost use Rattle.nc_reader.specs.Parts.{AreStatics, AreRoutes, key_view, static_part, with_statement};
 ghost use Rattle.nc_reader.specs.Steps.{changed_at};
+ghost use Rattle.nc_reader.specs.Things.{Routed, key_of, routes_in};
 
-use crate::faults::note;
 use indexmap::IndexSet;
 use nc_lines::Lines;
 use nc_read_link::read_static;
-use nc_types::{Addr, Fault, Prefix, StaticRoute, Text, Via};
+use nc_types::{Addr, ConfigFault, Prefix, StaticRoute, Text, Via};
 use std::alloc::{AllocError, Global};
 
 /// By what a static route is told from others.
@@ -32,15 +26,6 @@ pub(crate) struct RouteLines {
     pub(crate) route: StaticRoute,
     /// The lines, ascending, from 1.
     pub(crate) lines: Vec<u32>,
-}
-
-/// The static routes of a file.
-#[derive(Drop)]
-pub(crate) struct Routes {
-    /// In order of first mention, without statements that have a fault.
-    pub(crate) parts: Vec<RouteLines>,
-    /// The lowest fault so far.
-    pub(crate) fault: Option<Fault>,
 }
 
 // The key of a route.
@@ -113,44 +98,27 @@ fn put(
     Ok(())
 }
 
-// Reads one more statement.
-fn read_one(
-    alloc: Global,
-    lines: &Lines,
-    line: u32,
-    keys: &mut IndexSet<RouteKey>,
-    parts: &mut Vec<RouteLines>,
-    told: &mut Option<Fault>,
-) -> Result<(), AllocError>
-    requires within { IsLine lines.now line }
-    requires same { length keys.old.keys ≡ length parts.old.items }
-    ensures same { OnOk result (length keys.new.keys ≡ length parts.new.items) }
-    ensures parts { OnOk result ((rs : List (Result Routed Fault)) → AreRoutes keys.old.keys parts.old.items (filter_map ok_of rs) → AreRoutes keys.new.keys parts.new.items (filter_map ok_of (rs ++ routed line (static_at line (line_at line lines.now)) ∷ []))) }
-    ensures told { OnOk result ((fs : List Fault) (rs : List (Result Routed Fault)) → IsLowest fs told.old rs → IsLowest fs told.new (rs ++ routed line (static_at line (line_at line lines.now)) ∷ [])) }
-{
-    match read_static(alloc, lines, line) {
-        Ok(route) => put(alloc, keys, parts, line, route)?,
-        Err(fault) => note(told, fault)?,
-    }
-    Ok(())
-}
-
-/// Reads the static routes of these lines, given the lowest fault before them.
+/// Reads the static routes of these lines, in order of first mention.
+///
+/// # Errors
+///
+/// The first faulty line, with its cause; memory that runs out.
 pub(crate) fn read_routes(
     alloc: Global,
     lines: &Lines,
     places: &[u32],
-    before: Option<Fault>,
-) -> Result<Routes, AllocError>
+) -> Result<Vec<RouteLines>, ConfigFault>
     requires { All (IsLine lines.now) places.now }
-    ensures parts { IfOk result (λ r. map static_part r.parts.items ≡ statics_of (filter_map ok_of (map (λ line. routed line (static_at line (line_at line lines.now))) places.now))) }
-    ensures told { IfOk result (λ r. (fs : List Fault) → before ≡ lowest fs → IsLowest fs r.fault (map (λ line. routed line (static_at line (line_at line lines.now))) places.now)) }
+    ensures { AreStatics result (routes_in lines.now places.now) }
 {
     let mut keys = IndexSet::new(alloc);
     let mut parts = Vec::new(alloc);
-    let mut told = before;
     'routes: for line in places {
-        read_one(alloc, lines, *line, &mut keys, &mut parts, &mut told)?;
+        let route = match read_static(alloc, lines, *line) {
+            Ok(route) => route,
+            Err(fault) => return Err(fault),
+        };
+        put(alloc, &mut keys, &mut parts, *line, route)?;
     }
-    Ok(Routes { parts, fault: told })
+    Ok(parts)
 }

@@ -6,7 +6,7 @@ use Rattle.nc_lines.specs.Parts.{numbered}
 use Rattle.nc_read_link.specs.Interfaces.{InterfacePart, interface_in}
 use Rattle.nc_reader.specs.Parts.{IsLowest, AreInterfaces, interfaces_by}
 use Rattle.nc_reader.proofs.ConfigLemmas.{interfaces_by-more, interfaces_by-all}
-use Rattle.nc_reader.proofs.interfaces.read_interfaces.Goals as goal
+use Rattle.nc_reader.proofs.parts.read_all.Goals as goal
 
 pub blocks-2-preserved : goal.blocks-2-preserved
 blocks-2-preserved c =

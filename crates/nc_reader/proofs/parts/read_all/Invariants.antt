@@ -2,7 +2,7 @@ use Rattle.std.proofs.Common.{◌≡◌, List, take}
 use Rattle.nc_types.specs.declared.fault.Fault.{Fault}
 use Rattle.nc_types.specs.Faults.{lowest}
 use Rattle.nc_reader.specs.Parts.{IsLowest, AreInterfaces, interfaces_by}
-use Rattle.nc_reader.proofs.interfaces.read_interfaces.Given as goal
+use Rattle.nc_reader.proofs.parts.read_all.Given as goal
 
 abbrev pub invariant-blocks-2 : goal.invariant-blocks-2
 invariant-blocks-2 l = record {

@@ -4,7 +4,7 @@ use Rattle.nc_lines.specs.Parts.{numbered}
 use Rattle.nc_read_link.specs.Interfaces.{InterfacePart, interface_in}
 use Rattle.nc_reader.specs.Parts.{interface_part}
 use Rattle.nc_reader.proofs.FaultLemmas.{ok-push, ok-noted, told-ok, told-err}
-use Rattle.nc_reader.proofs.interfaces.read_one.Goals as goal
+use Rattle.nc_reader.proofs.parts.read_one.Goals as goal
 
 pub returns-in_ok-push-in-Ok-clause-parts : goal.returns-in_ok-push-in-Ok-clause-parts
 returns-in_ok-push-in-Ok-clause-parts c = λ rs same.

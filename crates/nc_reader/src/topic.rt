@@ -1,0 +1,47 @@
+//! Of what the lines of a file speak.
+
+ghost use Rattle.std.specs.Prelude.{◌≡◌, IfOk};
+ghost use Rattle.nc_reader.specs.Readings.{topic_of};
+
+use nc_types::Text;
+use std::alloc::{AllocError, Global};
+
+/// A thing of which lines speak.
+#[derive(Drop, PartialEq, Eq, Hash)]
+pub(crate) enum Topic {
+    /// The interface of this name.
+    Interface(Text),
+    /// The static routes, all of them.
+    Statics,
+    /// The clause of the route map of this name with this number.
+    Clause(Text, u16),
+    /// The prefix list of this name.
+    List(Text),
+    /// The community list of this name.
+    Communities(Text),
+}
+
+/// A topic as a statement writes it.
+#[derive(Clone, Copy)]
+pub(crate) enum Subject<'a> {
+    Interface(&'a [u8]),
+    Statics,
+    Clause(&'a [u8], u16),
+    List(&'a [u8]),
+    Communities(&'a [u8]),
+}
+
+impl Topic {
+    /// The topic of a statement.
+    pub(crate) fn new(alloc: Global, subject: Subject<'_>) -> Result<Topic, AllocError>
+        ensures { IfOk result (λ topic. topic ≡ topic_of subject) }
+    {
+        Ok(match subject {
+            Subject::Interface(name) => Topic::Interface(Text::new(alloc, name)?),
+            Subject::Statics => Topic::Statics,
+            Subject::Clause(map, number) => Topic::Clause(Text::new(alloc, map)?, number),
+            Subject::List(name) => Topic::List(Text::new(alloc, name)?),
+            Subject::Communities(name) => Topic::Communities(Text::new(alloc, name)?),
+        })
+    }
+}
