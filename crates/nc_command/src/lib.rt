@@ -28,6 +28,3 @@ pub const LINE_LIMIT: usize = 4096;
 /// How many bytes of a line are held while it is read: those that a line may have, a carriage return, and one
 /// by which a longer line is known.
 pub const HELD_LIMIT: usize = LINE_LIMIT + 2;
-
-#[cfg(test)]
-mod tests;

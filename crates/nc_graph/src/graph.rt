@@ -14,9 +14,6 @@ use std::alloc::{AllocError, Global};
 use std::hash::Hash;
 use std::marker::Model;
 
-#[cfg(test)]
-mod tests;
-
 /// A graph of at most `limit` facts. A node, by its number, has a fact, that fact's kind and the
 /// nodes of its parents.
 #[derive(Drop)]

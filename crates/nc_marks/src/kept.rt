@@ -20,9 +20,6 @@ use std::alloc::{AllocError, Global};
 use std::hash::Hash;
 use std::marker::Model;
 
-#[cfg(test)]
-mod tests;
-
 // What is kept of each node: the place of its strong elements, and whether a live one reaches it.
 #[derive(Drop)]
 struct KeptNodes {

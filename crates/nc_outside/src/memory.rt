@@ -8,6 +8,3 @@ mod source;
 pub use files::{MemFile, MemFiles};
 pub use sink::{CountSink, MemSink};
 pub use source::{MemSource, PlainSource};
-
-#[cfg(test)]
-mod tests;
