@@ -1,1 +1,5 @@
 pub mod DraftLemmas
+pub mod WordLemmas
+pub mod RunLemmas
+pub mod EntryLaws
+pub mod LineLaws

@@ -10,6 +10,7 @@ use Rattle.nc_lines.specs.Lines.{words_of}
 use Rattle.nc_lines.specs.Numbers.{number_of}
 use Rattle.nc_lines.specs.Outcomes.{at_line}
 use Rattle.nc_lines.specs.Statements.{Reading, Outside, Faulty, Says, after}
+use Rattle.nc_read_policy.specs.Results.{on_ok, ok_map}
 use Rattle.nc_read_policy.specs.Clauses.{action_of, said_as}
 use Rattle.nc_read_policy.specs.Communities.{members_in, behind_communities}
 
@@ -47,17 +48,17 @@ community_entry_of [] = Err Syntax
 community_entry_of (action ∷ words) =
     option_map_or (λ permit. entry_with permit (members_in words) (behind_communities words)) (action_of action) (Err Syntax)
 
--- an entry with the name of its list
-abbrev pub entry_named : List ℕ → Result CommunityEntry Cause → Result (List ℕ × CommunityEntry) Cause
-entry_named name (Ok entry) = Ok (name, entry)
-entry_named name (Err cause) = Err cause
+-- what a line says as a statement: it isn't in another form
+abbrev pub in_form : Reading (List ℕ × List (List ℕ)) → Result (List ℕ × List (List ℕ)) Cause
+in_form Outside = Err Syntax
+in_form (Faulty cause) = Err cause
+in_form (Says named) = Ok named
 
-abbrev pub entry_in : Reading (List ℕ × List (List ℕ)) → Result (List ℕ × CommunityEntry) Cause
-entry_in Outside = Err Syntax
-entry_in (Faulty cause) = Err cause
-entry_in (Says named) = entry_named named.0 (community_entry_of named.1)
+-- the name by the words of a line, and what is behind it
+abbrev pub named_line : List (List ℕ) → Result (List ℕ × List (List ℕ)) Cause
+named_line words = option_map_or (λ rest. in_form (named_list rest)) (after (codes "ip" ∷ codes "community-list" ∷ []) words) (Err Syntax)
 
 -- the name of its list and the entry of a line; in any other form it is a fault of syntax
 unfoldable pub community_entry_at : ℕ → List ℕ → Result (List ℕ × CommunityEntry) Fault
 community_entry_at line text =
-    at_line line (option_map_or (λ rest. entry_in (named_list rest)) (after (codes "ip" ∷ codes "community-list" ∷ []) (words_of text)) (Err Syntax))
+    at_line line (on_ok (λ named. ok_map (λ entry. (named.0, entry)) (community_entry_of named.1)) (named_line (words_of text)))

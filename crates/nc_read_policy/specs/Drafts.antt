@@ -1,5 +1,5 @@
 -- A clause as the lines so far leave it, and what the lines behind them make of it.
-use Rattle.std.specs.Prelude.{◌≡◌, ℕ, false, List, [], ◌∷◌, ◌++◌, map, Some, None, Result, Ok, Err, unwrap_or}
+use Rattle.std.specs.Prelude.{◌≡◌, ℕ, false, List, [], ◌∷◌, ◌++◌, map, Some, Result, Ok, Err, unwrap_or}
 use Rattle.std.specs.List.{filter_map, flat_map, last_or}
 use Rattle.std.specs.Option.{option_map_or, option_or}
 use Rattle.nc_types.specs.Config.{clause_view}
@@ -36,8 +36,20 @@ part_with p line s =
 
 -- what statements behind these leave
 abbrev pub part_behind : ClausePart → List ClauseLine → ClausePart
-part_behind p [] = p
-part_behind p (s ∷ ss) = part_behind (part_with p s.line s.setting) ss
+part_behind p ss =
+    record {
+      clause = record p.clause {
+        permit = unwrap_or (last_or (Some p.clause.permit) (filter_map (λ s. action_by s.setting) ss)) false;
+        lists = p.clause.lists ++ flat_map (λ s. lists_by s.line s.setting) ss;
+        community_lists = p.clause.community_lists ++ flat_map (λ s. community_lists_by s.line s.setting) ss;
+        preference = last_or p.clause.preference (filter_map (λ s. preference_by s.setting) ss);
+        metric = last_or p.clause.metric (filter_map (λ s. metric_by s.setting) ss);
+        prepend = unwrap_or (last_or (Some p.clause.prepend) (filter_map (λ s. prepend_by s.setting) ss)) [];
+        origin = last_or p.clause.origin (filter_map (λ s. origin_by s.setting) ss);
+        communities = last_or p.clause.communities (filter_map (λ s. communities_by s.setting) ss);
+      };
+      lines = p.lines ++ map (λ s. s.line) ss;
+    }
 
 -- the clause that lines make behind those before them, or the fault of the first faulty one
 unfoldable pub finished : ClausePart → List Numbered → Result ClausePart Fault

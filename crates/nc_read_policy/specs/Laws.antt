@@ -1,10 +1,9 @@
 -- What holds of the entries of each prefix list.
-use Rattle.std.specs.Prelude.{◌≡◌, ℕ, ◌<◌, ◌==◌, List, length, map, Some, All, Contains, Ok}
-use Rattle.std.specs.List.{find, AllPairs}
+use Rattle.std.specs.Prelude.{ℕ, ◌<◌, List, length, map, All, Contains}
+use Rattle.std.specs.List.{AllPairs}
 use Rattle.std.specs.List.Sorted.{IsStrictlyIncreasing}
-use Rattle.nc_types.specs.declared.config.ListEntry.{ListEntry}
 use Rattle.nc_lines.specs.Parts.{Numbered}
-use Rattle.nc_read_policy.specs.Lists.{EntryPart, of_seq, part_of, parts_of, stated_from}
+use Rattle.nc_read_policy.specs.Lists.{EntryPart}
 
 -- the line of each statement
 abbrev pub lines_in : List Numbered → List ℕ

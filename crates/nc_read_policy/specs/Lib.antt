@@ -1,3 +1,4 @@
+pub mod Results
 pub mod Communities
 pub mod Clauses
 pub mod Entries

@@ -1,7 +1,7 @@
 -- The prefix list that its statements make.
-use Rattle.std.specs.Prelude.{ℕ, ◌==◌, nat_lt, List, [], ◌∷◌, map, filter, Option, Result, Ok, Err, if◌then◌else◌, codes}
+use Rattle.std.specs.Prelude.{ℕ, ◌==◌, nat_lt, List, [], ◌∷◌, map, filter, Option, None, Result, Ok, if◌then◌else◌, codes}
 use Rattle.std.specs.List.{filter_map, last_or}
-use Rattle.std.specs.Option.{None, option_map}
+use Rattle.std.specs.Option.{option_map}
 use Rattle.std.specs.Str.{bytes_eq}
 use Rattle.nc_types.specs.Communities.{put_all}
 use Rattle.nc_types.specs.declared.fault.Fault.{Fault}
@@ -9,6 +9,7 @@ use Rattle.nc_types.specs.declared.fault.Cause.TheVariants.{Syntax}
 use Rattle.nc_types.specs.declared.config.ListEntry.{ListEntry}
 use Rattle.nc_lines.specs.Parts.{Numbered}
 use Rattle.nc_lines.specs.Statements.{Reading, Outside, Faulty, Says}
+use Rattle.nc_read_policy.specs.Results.{on_ok, ok_map}
 use Rattle.nc_read_policy.specs.Entries.{entry_at}
 
 -- what is behind `ip prefix-list`: the name of a list; a description, and that entries are shown with their numbers, are outside
@@ -19,24 +20,18 @@ list_name_says (name ∷ word ∷ words) = if bytes_eq word (codes "description"
 
 -- ---- statements
 
--- what is made of a value, if there is one, and otherwise its fault
-abbrev pub on_ok : {A B : Type 0} → (A → Result B Fault) → Result A Fault → Result B Fault
-on_ok f (Ok x) = f x
-on_ok f (Err fault) = Err fault
-
-abbrev pub ok_map : {A B : Type 0} → (A → B) → Result A Fault → Result B Fault
-ok_map f (Ok x) = Ok (f x)
-ok_map f (Err fault) = Err fault
-
 -- the higher of two numbers
 abbrev pub higher : ℕ → ℕ → ℕ
 higher m n = if nat_lt m n then n else m
 
+-- the entry that a line writes, given the highest number before it
+abbrev pub statement_at : ℕ → Numbered → Result ListEntry Fault
+statement_at highest l = ok_map (λ named. named.1) (entry_at l.line highest l.text)
+
 -- the entries that the lines of one list write, given the highest number before them, or the fault of the first faulty line
 abbrev pub stated_from : ℕ → List Numbered → Result (List ListEntry) Fault
 stated_from highest [] = Ok []
-stated_from highest (l ∷ block) =
-    on_ok (λ named. ok_map (λ es. named.1 ∷ es) (stated_from (higher highest named.1.seq) block)) (entry_at l.line highest l.text)
+stated_from highest (l ∷ block) = on_ok (λ e. ok_map (λ es. e ∷ es) (stated_from (higher highest e.seq) block)) (statement_at highest l)
 
 -- ---- entries
 

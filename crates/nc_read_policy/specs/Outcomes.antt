@@ -4,14 +4,15 @@ use Rattle.std.specs.declared.alloc.Global.{Global}
 use Rattle.std.specs.declared.vec.Vec.{Vec}
 use Rattle.nc_types.specs.Config.{clause_view}
 use Rattle.nc_types.specs.declared.fault.Fault.{Fault}
+use Rattle.nc_types.specs.declared.fault.Cause.{Cause}
 use Rattle.nc_types.specs.declared.config.Clause.{Clause}
 use Rattle.nc_types.specs.declared.config.ListEntry.{ListEntry}
 use Rattle.nc_types.specs.declared.communities.CommunityEntry.{CommunityEntry}
 use Rattle.nc_types.specs.declared.fault.ConfigFault.{ConfigFault}
-use Rattle.nc_lines.specs.Outcomes.{IsFault}
+use Rattle.nc_lines.specs.Outcomes.{IsFault, at_line}
 use Rattle.nc_read_policy.specs.Clauses.{ClausePart}
 use Rattle.nc_read_policy.specs.Lists.{EntryPart}
-use Rattle.nc_read_policy.specs.declared.lists.EntryLines.{EntryLines}
+use Rattle.nc_read_policy.specs.declared.parts.EntryLines.{EntryLines}
 
 -- what was returned is this clause with its lines, or this fault, unless memory ran out
 abbrev pub IsClause : Result (Clause × Vec ℕ Global) ConfigFault → Result ClausePart Fault → Type 0
@@ -23,10 +24,25 @@ abbrev pub IsEntry : Result (List ℕ × ListEntry) ConfigFault → Result (List
 IsEntry (Ok named) read = read ≡ Ok named
 IsEntry (Err fault) read = IsFault fault read
 
+-- what was returned is the entry that a line makes, or its cause with the line, unless memory ran out
+abbrev pub IsEntryOf : ℕ → Result CommunityEntry ConfigFault → Result CommunityEntry Cause → Type 0
+IsEntryOf line (Ok entry) read = read ≡ Ok entry
+IsEntryOf line (Err fault) read = IsFault fault (at_line line read)
+
 -- what was returned is this community list's name with this entry, or this fault, unless memory ran out
 abbrev pub IsCommunityEntry : Result (List ℕ × CommunityEntry) ConfigFault → Result (List ℕ × CommunityEntry) Fault → Type 0
 IsCommunityEntry (Ok named) read = read ≡ Ok named
 IsCommunityEntry (Err fault) read = IsFault fault read
+
+-- what was returned is what a line writes, or its fault
+abbrev pub IsStatement : Result ListEntry ConfigFault → Result ListEntry Fault → Type 0
+IsStatement (Ok entry) read = read ≡ Ok entry
+IsStatement (Err fault) read = IsFault fault read
+
+-- what was returned is what some lines write, or this fault, unless memory ran out
+abbrev pub AreStatements : Result (Vec ListEntry Global) ConfigFault → Result (List ListEntry) Fault → Type 0
+AreStatements (Ok entries) read = read ≡ Ok entries.items
+AreStatements (Err fault) read = IsFault fault read
 
 -- an entry with the lines of its statements
 abbrev pub entry_part : EntryLines → EntryPart

@@ -18,6 +18,7 @@ mod entries;
 mod header;
 pub mod laws;
 mod lists;
+mod parts;
 mod setting;
 mod values;
 
@@ -25,7 +26,8 @@ pub use clauses::read_clause;
 pub use communities::{read_community_entry, read_community_name};
 pub use entries::read_list_entry;
 pub use header::{ClauseHeader, read_clause_header};
-pub use lists::{EntryLines, read_list, read_list_name};
+pub use lists::{read_list, read_list_name};
+pub use parts::EntryLines;
 
 /// How many numbers a clause puts before a path at most (profile).
 pub const PREPEND_LIMIT: u8 = 10;

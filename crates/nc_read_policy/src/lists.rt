@@ -1,26 +1,20 @@
 //! The prefix list that its statements make.
 
-ghost use Rattle.std.specs.Prelude.{◌≡◌, ◌<◌, ◌≤◌, All, length, map, IfOk};
+ghost use Rattle.std.specs.Prelude.{◌≡◌, ◌<◌, ◌≤◌, All, length};
 ghost use Rattle.nc_lines.specs.Readings.{reading_of};
 ghost use Rattle.nc_lines.specs.Lines.{words_of};
 ghost use Rattle.nc_lines.specs.Parts.{numbered};
-ghost use Rattle.nc_read_policy.specs.Lists.{list_name_says, list_in, higher, stated_from, parts_of};
+ghost use Rattle.nc_read_policy.specs.Lists.{list_name_says, list_in, higher, statement_at, stated_from};
 ghost use Rattle.nc_read_policy.specs.Clauses.{said_as};
-ghost use Rattle.nc_read_policy.specs.Outcomes.{entry_part, AreEntries};
+ghost use Rattle.nc_read_policy.specs.Outcomes.{IsStatement, AreStatements, AreEntries};
 
+use crate::entries::line_entry;
+use crate::parts::{EntryLines, gather_entries};
 use nc_lines::cut::cut_word;
 use nc_lines::statement::{Reading, is_word};
 use nc_lines::{Block, Lines};
 use nc_types::{Cause, ConfigFault, ListEntry};
-use std::alloc::{AllocError, Global};
-
-/// An entry of a prefix list with the lines of its statements.
-#[derive(Debug, Drop)]
-pub struct EntryLines {
-    pub entry: ListEntry,
-    /// The lines, ascending, from 1.
-    pub lines: Vec<u32>,
-}
+use std::alloc::Global;
 
 /// The name of the list by what follows `ip prefix-list`, by which its lines are gathered; outside where it writes no
 /// entry, as `W description ..` and `sequence-number` alone. What is behind the name isn't looked at further.
@@ -41,6 +35,42 @@ pub fn read_list_name(rest: &[u8]) -> Reading<&[u8]>
     }
 }
 
+// The entry that a line writes.
+#[tactic(auto, unfolding(crate::specs::Entries::entry_at))]
+fn read_entry(line: u32, highest: u32, text: &[u8]) -> Result<ListEntry, ConfigFault>
+    ensures { IsStatement result (statement_at highest (record { line = line; text = text.now })) }
+{
+    match line_entry(line, highest, text) {
+        Some((_, entry)) => Ok(entry),
+        None => Err(ConfigFault::Bad {
+            line,
+            cause: Cause::Syntax,
+        }),
+    }
+}
+
+// The higher of two numbers.
+fn higher(a: u32, b: u32) -> u32
+    ensures { result ≡ higher a b }
+{
+    if a < b { b } else { a }
+}
+
+// The entries that the lines of one list write, in order.
+fn read_entries(alloc: Global, lines: &Lines, block: &Block) -> Result<Vec<ListEntry>, ConfigFault>
+    requires { All (λ k. (0 < k) × (k ≤ length lines.now)) block.now.lines.items }
+    ensures { AreStatements result (stated_from 0 (numbered lines.now block.now.lines.items)) }
+{
+    let mut entries = Vec::with_capacity(alloc, block.lines.len())?;
+    let mut highest = 0;
+    for line in &block.lines {
+        let entry = read_entry(*line, highest, lines.line(*line))?;
+        highest = higher(highest, entry.seq);
+        entries.push(entry)?;
+    }
+    Ok(entries)
+}
+
 /// The entries of one prefix list, each with the lines of its statements, from the lines of the list in order: they
 /// ascend in their numbers, of several statements with one number the last holds, and a statement without a number
 /// counts on from the highest before it. Their elements are 0, which the reader of the whole file fills in. The lines
@@ -49,6 +79,7 @@ pub fn read_list_name(rest: &[u8]) -> Reading<&[u8]>
 /// # Errors
 ///
 /// The first faulty line, with its cause; memory that runs out.
+#[tactic(auto, unfolding(crate::specs::Lists::list_in))]
 pub fn read_list(
     alloc: Global,
     lines: &Lines,
@@ -57,7 +88,6 @@ pub fn read_list(
     requires { All (λ k. (0 < k) × (k ≤ length lines.now)) block.now.lines.items }
     ensures { AreEntries result (list_in (numbered lines.now block.now.lines.items)) }
 {
-    let _given = (lines, block);
-    let entries = Vec::new(alloc);
-    Ok(entries)
+    let mut entries = read_entries(alloc, lines, block)?;
+    Ok(gather_entries(alloc, &mut entries)?)
 }

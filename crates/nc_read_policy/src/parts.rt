@@ -1,0 +1,78 @@
+//! The entries of a prefix list from its statements.
+
+ghost use Rattle.std.specs.Prelude.{◌≡◌, ◌≢◌, ◌≤◌, ◌∷◌, List, Some, length, map, take, drop, All, IfOk};
+ghost use Rattle.std.specs.Ordering.{nat_cmp};
+ghost use Rattle.std.specs.List.Sorted.{IsSortedByKey};
+ghost use Rattle.nc_types.specs.declared.config.ListEntry.{ListEntry};
+ghost use Rattle.nc_read_policy.specs.Lists.{part_of, parts_of};
+ghost use Rattle.nc_read_policy.specs.Outcomes.{entry_part};
+
+use nc_types::ListEntry;
+use std::alloc::{AllocError, Global};
+
+/// An entry of a prefix list with the lines of its statements.
+#[derive(Debug, Drop)]
+pub struct EntryLines {
+    pub entry: ListEntry,
+    /// The lines, ascending, from 1.
+    pub lines: Vec<u32>,
+}
+
+// How many statements at the front have this number.
+fn run_len(entries: &[ListEntry], seq: u32) -> usize
+    ensures within { result ≤ length entries.now }
+    ensures run { All (λ e. e.seq ≡ seq) (take result entries.now) }
+    ensures behind { (e : ListEntry) (es : List ListEntry) → drop result entries.now ≡ e ∷ es → e.seq ≢ seq }
+{
+    for (count, entry) in entries.iter().enumerate() {
+        if entry.seq != seq {
+            return count;
+        }
+    }
+    entries.len()
+}
+
+// The entry that the statements of one number make, of which there is a first one.
+fn part(alloc: Global, first: ListEntry, run: &[ListEntry]) -> Result<EntryLines, AllocError>
+    ensures { IfOk result (λ p. part_of (first ∷ run.now) ≡ Some (entry_part p)) }
+{
+    let mut entry = first;
+    let mut lines = Vec::new(alloc);
+    lines.push(first.line)?;
+    for statement in run {
+        lines.push(statement.line)?;
+        entry = *statement;
+    }
+    Ok(EntryLines { entry, lines })
+}
+
+// The entries that statements in order of their numbers make.
+fn join_runs(alloc: Global, entries: &[ListEntry]) -> Result<Vec<EntryLines>, AllocError>
+    requires { IsSortedByKey (λ e. e.seq) nat_cmp entries.now }
+    ensures { IfOk result (λ parts. map entry_part parts.items ≡ parts_of entries.now) }
+{
+    let mut parts = Vec::with_capacity(alloc, entries.len())?;
+    let mut rest = entries;
+    'runs: while let Some((first, others)) = rest.split_first() {
+        let (run, behind) = others.split_at(run_len(others, first.seq));
+        parts.push(part(alloc, *first, run)?)?;
+        rest = behind;
+    }
+    Ok(parts)
+}
+
+/// The entries that the statements of a list make: one for each number, in order, with the lines of all its
+/// statements, of which the last holds.
+///
+/// # Errors
+///
+/// Memory that runs out.
+pub(crate) fn gather_entries(
+    alloc: Global,
+    statements: &mut Vec<ListEntry>,
+) -> Result<Vec<EntryLines>, AllocError>
+    ensures { IfOk result (λ parts. map entry_part parts.items ≡ parts_of statements.old.items) }
+{
+    statements.sort_by_key(|entry| entry.seq)?;
+    join_runs(alloc, statements)
+}
