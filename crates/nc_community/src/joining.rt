@@ -7,7 +7,8 @@ use crate::set::{gathered, united};
 use nc_types::Communities;
 use std::alloc::{AllocError, Global};
 
-/// The set of these numbers; `None` where more than [`nc_types::COMMUNITY_LIMIT`] of them are distinct.
+/// The set of these numbers; `None` where more than [`nc_types::COMMUNITY_LIMIT`] of them are
+/// distinct.
 ///
 /// # Errors
 ///

@@ -13,8 +13,8 @@ pub fn holds_all(held: &[u32], members: &Communities) -> bool
     members.numbers().iter().all(|member| held.contains(member))
 }
 
-/// The entry of a community list that decides on a route with these communities, by its place: the first whose
-/// members it has all; `None` where there is none.
+/// The entry of a community list that decides on a route with these communities, by its place: the
+/// first whose members it has all; `None` where there is none.
 pub fn decide(list: &CommunityList, held: &[u32]) -> Option<usize>
     ensures { result ≡ deciding_community held.now list.now.entries.items }
 {

@@ -18,7 +18,8 @@ fn colon_place(word: &[u8]) -> Option<usize>
 
 // The two parts of a word around the only colon in it.
 fn cut_halves(word: &[u8]) -> Option<(&[u8], &[u8])>
-    ensures { MatchOption result ((high low : List ℕ) → slice_split (λ b. b == 58) word.now ≡ high ∷ low ∷ [] → ⊥)
+    ensures { MatchOption result
+        ((high low : List ℕ) → slice_split (λ b. b == 58) word.now ≡ high ∷ low ∷ [] → ⊥)
         (λ cut. slice_split (λ b. b == 58) word.now ≡ cut.0.now ∷ cut.1.now ∷ []) }
 {
     let at = colon_place(word)?;
@@ -39,8 +40,8 @@ fn of_halves(high: &[u8], low: &[u8]) -> Option<u32>
     Some(high * 65_536 + low)
 }
 
-/// The community that a word writes: two numbers up to 65,535 with a colon between them, of which the first is the
-/// upper half (RFC 1997), or one number below 2^32; `None` where it writes none.
+/// The community that a word writes: two numbers up to 65,535 with a colon between them, of which
+/// the first is the upper half (RFC 1997), or one number below 2^32; `None` where it writes none.
 #[tactic(auto, unfolding(crate::specs::Words::community_of))]
 pub fn read_community(word: &[u8]) -> Option<u32>
     ensures { result ≡ community_of word.now }

@@ -8,3 +8,4 @@ pub mod Outcomes
 pub mod Readings
 pub mod Drafts
 pub mod Laws
+pub mod CaseStatements

@@ -2,7 +2,8 @@
 
 ghost use Rattle.std.specs.Prelude.{◌≡◌, ◌≤◌, IfSome};
 ghost use Rattle.nc_lines.specs.Lines.{words_of};
-ghost use Rattle.nc_read_policy.specs.Entries.{length_of, one_bound, two_bounds, written_bounds, bounds_of};
+ghost use Rattle.nc_read_policy.specs.Entries.{length_of, one_bound, two_bounds, written_bounds};
+ghost use Rattle.nc_read_policy.specs.Entries.{bounds_of};
 
 use nc_lines::cut::cut_word;
 use nc_lines::numbers::read_number;
@@ -61,8 +62,8 @@ fn written_bounds(len: u8, text: &[u8]) -> Option<(u8, u8)>
     two_bounds(first, low, second, high)
 }
 
-/// The least and the greatest length that words behind a prefix of this length write; `None` where a length is
-/// less than the prefix's own, or the least is above the greatest.
+/// The least and the greatest length that words behind a prefix of this length write; `None` where
+/// a length is less than the prefix's own, or the least is above the greatest.
 pub(crate) fn bounds(len: u8, text: &[u8]) -> Option<(u8, u8)>
     ensures { result ≡ bounds_of len (words_of text.now) }
 {

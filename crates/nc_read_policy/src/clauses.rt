@@ -4,7 +4,8 @@ ghost use Rattle.std.specs.Prelude.{◌≡◌, ◌<◌, ◌≤◌, All, length, 
 ghost use Rattle.std.specs.Option.{option_map};
 ghost use Rattle.nc_lines.specs.Statements.{said_of};
 ghost use Rattle.nc_lines.specs.Parts.{numbered};
-ghost use Rattle.nc_read_policy.specs.Clauses.{head_by, text_says, head_in, name_in, number_in, clause_in};
+ghost use Rattle.nc_read_policy.specs.Clauses.{head_by, text_says, head_in, name_in, number_in};
+ghost use Rattle.nc_read_policy.specs.Clauses.{clause_in};
 ghost use Rattle.nc_read_policy.specs.Readings.{header_view, statement_view};
 ghost use Rattle.nc_read_policy.specs.Outcomes.{IsClause};
 
@@ -28,7 +29,8 @@ fn head_by(setting: Setting<'_>) -> Option<ClauseHeader<'_>>
 
 // The header that a line is.
 fn head_of(text: &[u8]) -> Option<ClauseHeader<'_>>
-    ensures { option_map header_view result ≡ option_and_then head_by (said_of (text_says text.now)) }
+    ensures { option_map header_view result
+        ≡ option_and_then head_by (said_of (text_says text.now)) }
 {
     match read_setting(text) {
         Reading::Says(setting) => head_by(setting),
@@ -59,12 +61,13 @@ fn name_and_number<'a>(lines: &'a Lines, block: &Block) -> (&'a [u8], u16)
     }
 }
 
-/// The clause that the lines of its block make, with the lines of its statements, headers among them. Its element
-/// is 0, which the reader of the whole file fills in.
+/// The clause that the lines of its block make, with the lines of its statements, headers among
+/// them. Its element is 0, which the reader of the whole file fills in.
 ///
-/// The first line of the block is a header, `route-map W permit N` or `route-map W deny N`, which gives the name
-/// and the number; the last header gives the action. Each `match ip address prefix-list` and each
-/// `match community` adds its lists, and of what is set the last statement decides. The lines exist.
+/// The first line of the block is a header, `route-map W permit N` or `route-map W deny N`, which
+/// gives the name and the number; the last header gives the action. Each `match ip address
+/// prefix-list` and each `match community` adds its lists, and of what is set the last statement
+/// decides. The lines exist.
 ///
 /// # Errors
 ///

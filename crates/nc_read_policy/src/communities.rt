@@ -3,7 +3,10 @@
 ghost use Rattle.std.specs.Prelude.{◌≡◌, ◌<◌, ◌≤◌, length};
 ghost use Rattle.nc_lines.specs.Readings.{reading_of};
 ghost use Rattle.nc_lines.specs.Lines.{words_of, line_at};
-ghost use Rattle.nc_read_policy.specs.CommunityEntries.{is_list_number, standard_list, named_list, community_name_says, entry_with, community_entry_of, named_line, community_entry_at};
+ghost use Rattle.nc_read_policy.specs.CommunityEntries.{is_list_number, standard_list, named_list};
+ghost use Rattle.nc_read_policy.specs.CommunityEntries.{community_name_says, entry_with};
+ghost use Rattle.nc_read_policy.specs.CommunityEntries.{community_entry_of, named_line};
+ghost use Rattle.nc_read_policy.specs.CommunityEntries.{community_entry_at};
 ghost use Rattle.nc_read_policy.specs.Results.{ok_map};
 ghost use Rattle.nc_read_policy.specs.Clauses.{said_as};
 ghost use Rattle.nc_read_policy.specs.Communities.{members_in, behind_communities};
@@ -18,8 +21,8 @@ use nc_lines::statement::{Reading, after_two, is_word};
 use nc_types::{Cause, CommunityEntry, ConfigFault, Text};
 use std::alloc::Global;
 
-// The communities that the first words write, where there are some and no more than a route carries, and the words
-// behind them.
+// The communities that the first words write, where there are some and no more than a route
+// carries, and the words behind them.
 pub(crate) fn members(text: &[u8]) -> (Option<CommunitySet>, &[u8])
     ensures members { result.0 ≡ members_in (words_of text.now) }
     ensures rest { words_of result.1.now ≡ behind_communities (words_of text.now) }
@@ -53,7 +56,8 @@ fn is_list_number(word: &[u8]) -> bool
 
 // The name by what follows `standard`, and what is behind it.
 fn standard(rest: &[u8]) -> Reading<(&[u8], &[u8])>
-    ensures { said_as (λ named. (named.0.now, words_of named.1.now)) (reading_of result) ≡ standard_list (words_of rest.now) }
+    ensures { said_as (λ named. (named.0.now, words_of named.1.now)) (reading_of result)
+        ≡ standard_list (words_of rest.now) }
 {
     match cut_word(rest) {
         None => Reading::Faulty(Cause::Syntax),
@@ -63,7 +67,8 @@ fn standard(rest: &[u8]) -> Reading<(&[u8], &[u8])>
 
 // The name by what follows `ip community-list`, and what is behind it.
 fn named(rest: &[u8]) -> Reading<(&[u8], &[u8])>
-    ensures { said_as (λ named. (named.0.now, words_of named.1.now)) (reading_of result) ≡ named_list (words_of rest.now) }
+    ensures { said_as (λ named. (named.0.now, words_of named.1.now)) (reading_of result)
+        ≡ named_list (words_of rest.now) }
 {
     let Some((word, behind)) = cut_word(rest) else {
         return Reading::Faulty(Cause::Syntax);
@@ -78,11 +83,12 @@ fn named(rest: &[u8]) -> Reading<(&[u8], &[u8])>
     }
 }
 
-/// The name of the list by what follows `ip community-list`, by which its lines are gathered: the word behind
-/// `standard`, or a number from 1 to 99; outside where another word stands there. What is behind the name isn't
-/// looked at.
+/// The name of the list by what follows `ip community-list`, by which its lines are gathered: the
+/// word behind `standard`, or a number from 1 to 99; outside where another word stands there. What
+/// is behind the name isn't looked at.
 pub fn read_community_name(rest: &[u8]) -> Reading<&[u8]>
-    ensures { said_as (λ name. name.now) (reading_of result) ≡ community_name_says (words_of rest.now) }
+    ensures { said_as (λ name. name.now) (reading_of result)
+        ≡ community_name_says (words_of rest.now) }
 {
     match named(rest) {
         Reading::Outside => Reading::Outside,
@@ -98,7 +104,8 @@ fn entry_with(
     permit: bool,
     text: &[u8],
 ) -> Result<CommunityEntry, ConfigFault>
-    ensures { IsEntryOf line result (entry_with permit (members_in (words_of text.now)) (behind_communities (words_of text.now))) }
+    ensures { IsEntryOf line result (entry_with permit
+        (members_in (words_of text.now)) (behind_communities (words_of text.now))) }
 {
     let (members, rest) = members(text);
     if cut_word(rest).is_some() {
@@ -139,7 +146,8 @@ fn entry(alloc: Global, line: u32, text: &[u8]) -> Result<CommunityEntry, Config
 
 // The name and the rest of a line that begins with `ip community-list`.
 fn line_named(text: &[u8]) -> Result<(&[u8], &[u8]), Cause>
-    ensures { ok_map (λ named. (named.0.now, words_of named.1.now)) result ≡ named_line (words_of text.now) }
+    ensures { ok_map (λ named. (named.0.now, words_of named.1.now)) result
+        ≡ named_line (words_of text.now) }
 {
     let Some(rest) = after_two(text, "ip", "community-list") else {
         return Err(Cause::Syntax);
@@ -151,8 +159,8 @@ fn line_named(text: &[u8]) -> Result<(&[u8], &[u8]), Cause>
     }
 }
 
-/// The entry of a line, which begins with `ip community-list`, and the name of its list. Its element is 0, which the
-/// reader of the whole file fills in. Lines count from 1.
+/// The entry of a line, which begins with `ip community-list`, and the name of its list. Its
+/// element is 0, which the reader of the whole file fills in. Lines count from 1.
 ///
 /// # Errors
 ///

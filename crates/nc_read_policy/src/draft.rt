@@ -29,7 +29,8 @@ fn refer(
     line: u32,
     names: &[u8],
 ) -> Result<(), AllocError>
-    ensures { OnOk result (lists.new.items ≡ lists.old.items ++ map (λ name. record { name = name; line = line }) (words_of names.now)) }
+    ensures { OnOk result (lists.new.items ≡ lists.old.items
+        ++ map (λ name. record { name = name; line = line }) (words_of names.now)) }
 {
     let mut rest = names;
     'names: while let Some((word, behind)) = cut_word(rest) {
@@ -66,7 +67,8 @@ impl Draft {
 
     // Lets the clause have what a statement says.
     fn apply(&mut self, alloc: Global, line: u32, setting: Setting<'_>) -> Result<(), AllocError>
-        ensures { OnOk result (part_of self.new ≡ part_with (part_of self.old) line (statement_view setting.entry)) }
+        ensures { OnOk result (part_of self.new
+            ≡ part_with (part_of self.old) line (statement_view setting.entry)) }
     {
         self.lines.push(line)?;
         match setting {
@@ -93,7 +95,8 @@ impl Draft {
     ///
     /// The line, where it is faulty; memory that runs out.
     pub(crate) fn take(&mut self, alloc: Global, line: u32, text: &[u8]) -> Result<(), ConfigFault>
-        ensures { (block : List Numbered) → Takes result (part_of self.old) (part_of self.new) (record { line = line; text = text.now }) block }
+        ensures { (block : List Numbered) → Takes result (part_of self.old) (part_of self.new)
+            (record { line = line; text = text.now }) block }
     {
         match read_setting(text) {
             Reading::Outside => Ok(()),
@@ -108,7 +111,8 @@ impl Draft {
     /// The clause where no line is left, and the lines.
     #[tactic(auto, unfolding(crate::specs::Drafts::finished))]
     pub(crate) fn finish(self) -> (Clause, Vec<u32>)
-        ensures { finished (part_of self) [] ≡ Ok (record { clause = clause_view result.0; lines = result.1.items }) }
+        ensures { finished (part_of self) []
+            ≡ Ok (record { clause = clause_view result.0; lines = result.1.items }) }
     {
         (self.clause, self.lines)
     }

@@ -4,7 +4,8 @@ ghost use Rattle.std.specs.Prelude.{◌≡◌, ◌<◌, ◌≤◌, ◌∷◌, []
 ghost use Rattle.std.specs.Option.{option_map};
 ghost use Rattle.nc_lines.specs.Lines.{words_of, line_at};
 ghost use Rattle.nc_lines.specs.Statements.{after};
-ghost use Rattle.nc_read_policy.specs.Entries.{seq_of, counted_seq, entry_of, numbered_entry, any_entry, named_entry, entry_at};
+ghost use Rattle.nc_read_policy.specs.Entries.{seq_of, counted_seq, entry_of, numbered_entry};
+ghost use Rattle.nc_read_policy.specs.Entries.{any_entry, named_entry, entry_at};
 ghost use Rattle.nc_read_policy.specs.Outcomes.{IsEntry};
 
 use crate::action::action;
@@ -80,7 +81,8 @@ fn any_entry(line: u32, highest: u32, text: &[u8]) -> Option<ListEntry>
 
 // What follows `ip prefix-list`: the name of a list, and the entry.
 fn named_entry(line: u32, highest: u32, text: &[u8]) -> Option<(&[u8], ListEntry)>
-    ensures { option_map (λ named. (named.0.now, named.1)) result ≡ named_entry line highest (words_of text.now) }
+    ensures { option_map (λ named. (named.0.now, named.1)) result
+        ≡ named_entry line highest (words_of text.now) }
 {
     let (name, rest) = cut_word(text)?;
     let entry = any_entry(line, highest, rest)?;
@@ -90,15 +92,16 @@ fn named_entry(line: u32, highest: u32, text: &[u8]) -> Option<(&[u8], ListEntry
 /// The name of a list and the entry of a line; `None` where it is in another form.
 pub(crate) fn line_entry(line: u32, highest: u32, text: &[u8]) -> Option<(&[u8], ListEntry)>
     ensures { option_map (λ named. (named.0.now, named.1)) result
-        ≡ option_and_then (named_entry line highest) (after (codes "ip" ∷ codes "prefix-list" ∷ []) (words_of text.now)) }
+        ≡ option_and_then (named_entry line highest)
+        (after (codes "ip" ∷ codes "prefix-list" ∷ []) (words_of text.now)) }
 {
     let rest = after_two(text, "ip", "prefix-list")?;
     named_entry(line, highest, rest)
 }
 
-/// The entry of a line, which begins with `ip prefix-list`, and the name of its list. An entry that writes no
-/// number has the highest number of its list so far, 0 where there is none, and 5. Lines count from 1. Its element
-/// is 0, which the reader of the whole file fills in.
+/// The entry of a line, which begins with `ip prefix-list`, and the name of its list. An entry that
+/// writes no number has the highest number of its list so far, 0 where there is none, and 5. Lines
+/// count from 1. Its element is 0, which the reader of the whole file fills in.
 ///
 /// # Errors
 ///

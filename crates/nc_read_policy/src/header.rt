@@ -41,7 +41,8 @@ fn header(line: &[u8]) -> Option<ClauseHeader<'_>>
     })
 }
 
-/// The header that a line is; outside where it doesn't begin with `route-map`. The number is 0 to 65,535.
+/// The header that a line is; outside where it doesn't begin with `route-map`. The number is 0 to
+/// 65,535.
 pub fn read_clause_header(line: &[u8]) -> Reading<ClauseHeader<'_>>
     ensures { header_reading result ≡ header_says (words_of line.now) }
 {

@@ -1,12 +1,14 @@
 //! The statements of route maps, prefix lists and community lists.
 //!
-//! A line is read by its words: the forms that are read are looked at first, then what the tool refuses to pass
-//! over, and all else is outside. The crate stands on `nc_lines` for lines and words and on `nc_community` for
-//! communities, and makes the types of `nc_types`. Its contract promises that [`read_clause_header`] gives the name,
-//! the number and the action of a header, [`read_clause`] the clause that the lines of its block make, where the last
-//! statement of each field decides and matches add up, [`read_list_entry`] and [`read_community_entry`] the entry of
-//! their line, and [`read_list`] the entries of a prefix list from its lines; and that a fault is told of the first
-//! faulty line, with its cause. What holds of the entries of each list are laws in [`laws`].
+//! A line is read by its words: the forms that are read are looked at first, then what the tool
+//! refuses to pass over, and all else is outside. The crate stands on `nc_lines` for lines and
+//! words and on `nc_community` for communities, and makes the types of `nc_types`. Its contract
+//! promises that [`read_clause_header`] gives the name, the number and the action of a header,
+//! [`read_clause`] the clause that the lines of its block make, where the last statement of each
+//! field decides and matches add up, [`read_list_entry`] and [`read_community_entry`] the entry of
+//! their line, and [`read_list`] the entries of a prefix list from its lines; and that a fault is
+//! told of the first faulty line, with its cause. What holds of the entries of each list are laws
+//! in [`laws`].
 #![tactic(auto)]
 
 mod action;

@@ -4,7 +4,8 @@ ghost use Rattle.std.specs.Prelude.{◌≡◌, ◌<◌, ◌≤◌, All, length};
 ghost use Rattle.nc_lines.specs.Readings.{reading_of};
 ghost use Rattle.nc_lines.specs.Lines.{words_of};
 ghost use Rattle.nc_lines.specs.Parts.{numbered};
-ghost use Rattle.nc_read_policy.specs.Lists.{list_name_says, list_in, higher, statement_at, stated_from};
+ghost use Rattle.nc_read_policy.specs.Lists.{list_name_says, list_in, higher, statement_at};
+ghost use Rattle.nc_read_policy.specs.Lists.{stated_from};
 ghost use Rattle.nc_read_policy.specs.Clauses.{said_as};
 ghost use Rattle.nc_read_policy.specs.Outcomes.{IsStatement, AreStatements, AreEntries};
 
@@ -16,8 +17,9 @@ use nc_lines::{Block, Lines};
 use nc_types::{Cause, ConfigFault, ListEntry};
 use std::alloc::Global;
 
-/// The name of the list by what follows `ip prefix-list`, by which its lines are gathered; outside where it writes no
-/// entry, as `W description ..` and `sequence-number` alone. What is behind the name isn't looked at further.
+/// The name of the list by what follows `ip prefix-list`, by which its lines are gathered; outside
+/// where it writes no entry, as `W description ..` and `sequence-number` alone. What is behind the
+/// name isn't looked at further.
 pub fn read_list_name(rest: &[u8]) -> Reading<&[u8]>
     ensures { said_as (λ name. name.now) (reading_of result) ≡ list_name_says (words_of rest.now) }
 {
@@ -71,10 +73,10 @@ fn read_entries(alloc: Global, lines: &Lines, block: &Block) -> Result<Vec<ListE
     Ok(entries)
 }
 
-/// The entries of one prefix list, each with the lines of its statements, from the lines of the list in order: they
-/// ascend in their numbers, of several statements with one number the last holds, and a statement without a number
-/// counts on from the highest before it. Their elements are 0, which the reader of the whole file fills in. The lines
-/// exist.
+/// The entries of one prefix list, each with the lines of its statements, from the lines of the
+/// list in order: they ascend in their numbers, of several statements with one number the last
+/// holds, and a statement without a number counts on from the highest before it. Their elements are
+/// 0, which the reader of the whole file fills in. The lines exist.
 ///
 /// # Errors
 ///

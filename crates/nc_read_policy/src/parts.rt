@@ -1,6 +1,7 @@
 //! The entries of a prefix list from its statements.
 
-ghost use Rattle.std.specs.Prelude.{◌≡◌, ◌≢◌, ◌≤◌, ◌∷◌, List, Some, length, map, take, drop, All, IfOk};
+ghost use Rattle.std.specs.Prelude.{◌≡◌, ◌≢◌, ◌≤◌, ◌∷◌, List, Some, length, map, take, drop, All};
+ghost use Rattle.std.specs.Prelude.{IfOk};
 ghost use Rattle.std.specs.Ordering.{nat_cmp};
 ghost use Rattle.std.specs.List.Sorted.{IsSortedByKey};
 ghost use Rattle.nc_types.specs.declared.config.ListEntry.{ListEntry};
@@ -22,7 +23,8 @@ pub struct EntryLines {
 fn run_len(entries: &[ListEntry], seq: u32) -> usize
     ensures within { result ≤ length entries.now }
     ensures run { All (λ e. e.seq ≡ seq) (take result entries.now) }
-    ensures behind { (e : ListEntry) (es : List ListEntry) → drop result entries.now ≡ e ∷ es → e.seq ≢ seq }
+    ensures behind { (e : ListEntry) (es : List ListEntry)
+        → drop result entries.now ≡ e ∷ es → e.seq ≢ seq }
 {
     for (count, entry) in entries.iter().enumerate() {
         if entry.seq != seq {
@@ -61,8 +63,8 @@ fn join_runs(alloc: Global, entries: &[ListEntry]) -> Result<Vec<EntryLines>, Al
     Ok(parts)
 }
 
-/// The entries that the statements of a list make: one for each number, in order, with the lines of all its
-/// statements, of which the last holds.
+/// The entries that the statements of a list make: one for each number, in order, with the lines of
+/// all its statements, of which the last holds.
 ///
 /// # Errors
 ///

@@ -6,7 +6,11 @@ ghost use Rattle.std.specs.Option.{option_map};
 ghost use Rattle.std.specs.Str.{bytes_eq};
 ghost use Rattle.nc_lines.specs.Lines.{words_of, is_indented};
 ghost use Rattle.nc_lines.specs.Statements.{after, alone_says};
-ghost use Rattle.nc_read_policy.specs.Clauses.{SetsPreference, SetsMetric, SetsOrigin, Opens, community_lists_say, sets_say, communities_say, or_syntax, lists_say, value_of, prepend_says, header_says, is_unsupported, statement_says, said_as, text_says};
+ghost use Rattle.nc_read_policy.specs.Clauses.{SetsPreference, SetsMetric, SetsOrigin, Opens};
+ghost use Rattle.nc_read_policy.specs.Clauses.{community_lists_say, sets_say, communities_say};
+ghost use Rattle.nc_read_policy.specs.Clauses.{or_syntax, lists_say, value_of, prepend_says};
+ghost use Rattle.nc_read_policy.specs.Clauses.{header_says, is_unsupported, statement_says};
+ghost use Rattle.nc_read_policy.specs.Clauses.{said_as, text_says};
 ghost use Rattle.nc_read_policy.specs.Readings.{statement_reading};
 
 use crate::communities::members;
@@ -40,8 +44,11 @@ pub(crate) enum Setting<'a> {
 
 // What follows `match ip address prefix-list`; `None` where a line begins otherwise.
 fn after_match(line: &[u8]) -> Option<&[u8]>
-    ensures { MatchOption result (after (codes "match" ∷ codes "ip" ∷ codes "address" ∷ codes "prefix-list" ∷ []) (words_of line.now) ≡ None)
-        (λ rest. after (codes "match" ∷ codes "ip" ∷ codes "address" ∷ codes "prefix-list" ∷ []) (words_of line.now) ≡ Some (words_of rest.now)) }
+    ensures { MatchOption result
+        (after (codes "match" ∷ codes "ip" ∷ codes "address" ∷ codes "prefix-list" ∷ [])
+        (words_of line.now) ≡ None)
+        (λ rest. after (codes "match" ∷ codes "ip" ∷ codes "address" ∷ codes "prefix-list" ∷ [])
+        (words_of line.now) ≡ Some (words_of rest.now)) }
 {
     after_one(after_three(line, "match", "ip", "address")?, "prefix-list")
 }
@@ -58,7 +65,8 @@ fn lists(line: &[u8]) -> Reading<Setting<'_>>
 
 // What follows `set local-preference`: a number.
 fn preference(line: &[u8]) -> Reading<Setting<'_>>
-    ensures { statement_reading result ≡ or_syntax (option_map (λ n. SetsPreference n) (value_of (words_of line.now))) }
+    ensures { statement_reading result
+        ≡ or_syntax (option_map (λ n. SetsPreference n) (value_of (words_of line.now))) }
 {
     match value(line) {
         None => Reading::Faulty(Cause::Syntax),
@@ -68,7 +76,8 @@ fn preference(line: &[u8]) -> Reading<Setting<'_>>
 
 // What follows `set metric`: a number.
 fn metric(line: &[u8]) -> Reading<Setting<'_>>
-    ensures { statement_reading result ≡ or_syntax (option_map (λ n. SetsMetric n) (value_of (words_of line.now))) }
+    ensures { statement_reading result
+        ≡ or_syntax (option_map (λ n. SetsMetric n) (value_of (words_of line.now))) }
 {
     match value(line) {
         None => Reading::Faulty(Cause::Syntax),

@@ -29,7 +29,8 @@ fn asn(word: &[u8]) -> Option<u32>
     if number == 0 { None } else { Some(number) }
 }
 
-/// Whether these are numbers of autonomous systems, at least one and at most [`crate::PREPEND_LIMIT`].
+/// Whether these are numbers of autonomous systems, at least one and at most
+/// [`crate::PREPEND_LIMIT`].
 pub(crate) fn are_asns(text: &[u8]) -> bool
     ensures { result ≡ are_asns (words_of text.now) }
 {
