@@ -23,10 +23,12 @@ module _ {A B : Type 0} (f : A → B) (test : B → Bool) where
   pub position_map : (xs : List A) → position test (map f xs) ≡ position (λ x. test (f x)) xs
   position_map xs = ap (λ n. Position (length (map f xs)) n) (position_or_len_map xs) ∙ ap (λ n. Position n (position_or_len (λ x. test (f x)) xs)) (length-map xs f)
 
--- what is read at a place, through a view
+-- what is read at a place, and through a view
+pub read_at : {A : Type 0} (items xs : List A) (k : ℕ) (x : A) → xs ≡ items → k < length xs → x ≡ get_or xs k x → slice_get items k ≡ Some x
+read_at {A} items xs k x same lt read = ap (λ (ys : List A). slice_get ys k) (sym same) ∙ slice_get_read xs (length xs) k x refl lt read
+
 pub seen_at : {A B : Type 0} (view : A → B) (items xs : List A) (k : ℕ) (x : A) → xs ≡ items → k < length xs → x ≡ get_or xs k x → slice_get (map view items) k ≡ Some (view x)
-seen_at {A} view items xs k x same lt read =
-    slice_get-map view items k ∙ ap (option_map view) (ap (λ (ys : List A). slice_get ys k) (sym same) ∙ slice_get_read xs (length xs) k x refl lt read)
+seen_at view items xs k x same lt read = slice_get-map view items k ∙ ap (option_map view) (read_at items xs k x same lt read)
 
 -- the entry by which the list of a name permits
 pub placed : {L : Type 0} (lists : List L) (is_named : L → Bool) (permits : L → Option ℕ) (k i : ℕ) (l : L)
@@ -37,6 +39,19 @@ placed {L} lists is_named permits k i l named at entry m n same_list same_entry 
     ap (option_and_then (λ (k : ℕ). option_map (put k) (option_and_then permits (slice_get lists k)))) (sym named)
     ∙ ap (λ (o : Option L). option_map (put k) (option_and_then permits o)) at
     ∙ ap (option_map (put k)) (sym entry)
+    )
+  where
+    put : ℕ → ℕ → Place
+    put k i = record { list = k; entry = i }
+
+-- the list of a name doesn't permit
+pub unplaced : {L : Type 0} (lists : List L) (is_named : L → Bool) (permits : L → Option ℕ) (k : ℕ) (l : L)
+    → Some k ≡ position is_named lists → slice_get lists k ≡ Some l → None ≡ permits l → None ≡ place_in is_named permits lists
+unplaced {L} lists is_named permits k l named at none =
+    sym (
+    ap (option_and_then (λ (k : ℕ). option_map (put k) (option_and_then permits (slice_get lists k)))) (sym named)
+    ∙ ap (λ (o : Option L). option_map (put k) (option_and_then permits o)) at
+    ∙ ap (option_map (put k)) (sym none)
     )
   where
     put : ℕ → ℕ → Place

@@ -2,18 +2,24 @@
 use Rattle.std.specs.Prelude.{ℕ, Bool, true, nat_lt, List, Option, position}
 use Rattle.std.specs.Option.{option_map_or}
 use Rattle.std.specs.Str.{bytes_eq}
-use Rattle.nc_types.specs.Config.{ClauseView, ConfigView, clause_view}
+use Rattle.nc_types.specs.Config.{ClauseView, CommunityListView, ConfigView, PrefixListView, clause_view}
 use Rattle.nc_tables.specs.Policy as policy
 use Rattle.nc_policy.specs.declared.clauses.Candidate.{Candidate}
 use Rattle.nc_policy.specs.declared.route_map.Verdict.{Verdict}
 use Rattle.nc_policy.specs.declared.route_map.Verdict.TheVariants.{Deny, Permit}
 
 -- the place of the prefix list of a name, and of the community list
+abbrev pub place_of : List ℕ → List PrefixListView → Option ℕ
+place_of name lists = position (λ l. bytes_eq name l.name) lists
+
 abbrev pub named_list : ConfigView → List ℕ → Option ℕ
-named_list c name = position (λ l. bytes_eq name l.name) c.lists
+named_list c name = place_of name c.lists
+
+abbrev pub community_place_of : List ℕ → List CommunityListView → Option ℕ
+community_place_of name lists = position (λ l. bytes_eq name l.name) lists
 
 abbrev pub named_community_list : ConfigView → List ℕ → Option ℕ
-named_community_list c name = position (λ l. bytes_eq name l.name) c.community_lists
+named_community_list c name = community_place_of name c.community_lists
 
 -- a clause with its place
 abbrev pub candidate_view : Candidate → policy.Placed

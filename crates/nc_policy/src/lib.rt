@@ -1,16 +1,25 @@
 //! What a route map makes of a route.
 //!
 //! The clauses of a map are gone over once; only a clause that can still decide has its lists
-//! asked, and a match carries the entries by which it came, so that no list is asked again. The
-//! crate stands on `nc_types` for the configuration of a router, on `nc_tables` for routes and for
-//! the definition of what a map makes of one, and on `nc_community` for sets of communities. Its
-//! contract promises that [`apply`] answers by that definition.
+//! asked, and a match carries the entries by which it came, so that no list is asked again.
+//! [`apply`] scans the lists. [`Policies`] has tables of them, made once for a network: a list is
+//! found by its name at one look-up, and the entry of a prefix list that decides at 33, however
+//! long the list is.
+//!
+//! The crate stands on `nc_types` for the configuration of a router, on `nc_tables` for routes and
+//! for the definition of what a map makes of one, and on `nc_community` for sets of communities.
+//! Its contract promises that both forms answer by that definition.
 #![tactic(auto)]
 
 mod clauses;
+mod index;
 mod lists;
+mod names;
+mod policies;
 mod route_map;
+mod router_index;
 mod setting;
 
 pub use nc_tables::Place;
+pub use policies::Policies;
 pub use route_map::{Verdict, apply};

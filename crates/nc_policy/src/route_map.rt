@@ -1,13 +1,15 @@
 //! What a router's route map makes of a route.
 
-ghost use Rattle.std.specs.Prelude.{◌≡◌, IfOk};
+ghost use Rattle.std.specs.Prelude.{◌≡◌, IfOk, IfSome};
 ghost use Rattle.nc_types.specs.Config.{config_view};
 ghost use Rattle.nc_types.specs.WellFormed.{IsWellFormed};
 ghost use Rattle.nc_tables.specs.Policy.{verdict};
 ghost use Rattle.nc_policy.specs.Views.{verdict_view};
+ghost use Rattle.nc_policy.specs.Indexes.{IsIndexed};
 
 use crate::clauses::deciding;
 use crate::lists::place_number;
+use crate::router_index::RouterIndex;
 use crate::setting::set_by;
 use nc_tables::{Place, Route};
 use nc_types::RouterConfig;
@@ -33,21 +35,20 @@ pub enum Verdict {
     },
 }
 
-/// What a router's route map of this name makes of a route: the matching clause with the least
-/// number permits it, with what the clause sets, or denies it. Where there is no such map, where no
-/// clause matches, and where the path would have more numbers than the limit or the route more
-/// communities, the route is denied. The only error is want of memory.
-pub fn apply(
+// What a router's route map of this name makes of a route, by the router's tables, if it has any.
+pub(crate) fn judge(
     alloc: Global,
     config: &RouterConfig,
+    index: Option<&RouterIndex>,
     map: &[u8],
     route: &Route,
 ) -> Result<Verdict, AllocError>
-    requires { IsWellFormed (config_view config.now) }
+    requires indexed { IfSome index (λ x. IsIndexed (config_view config.now) x.now) }
+    requires formed { IsWellFormed (config_view config.now) }
     ensures { IfOk result (λ v. verdict_view v
         ≡ verdict (config_view config.now) map.now route.now) }
 {
-    let Some(found) = deciding(config, map, route) else {
+    let Some(found) = deciding(config, index, map, route) else {
         return Ok(Verdict::Deny);
     };
     if !found.clause.permit {
@@ -62,4 +63,22 @@ pub fn apply(
         entry: found.names.entry,
         community: found.names.community,
     })
+}
+
+/// What a router's route map of this name makes of a route: the matching clause with the least
+/// number permits it, with what the clause sets, or denies it. Where there is no such map, where no
+/// clause matches, and where the path would have more numbers than the limit or the route more
+/// communities, the route is denied. The only error is want of memory.
+pub fn apply(
+    alloc: Global,
+    config: &RouterConfig,
+    map: &[u8],
+    route: &Route,
+) -> Result<Verdict, AllocError>
+    requires { IsWellFormed (config_view config.now) }
+    ensures { IfOk result (λ v. verdict_view v
+        ≡ verdict (config_view config.now) map.now route.now) }
+{
+    let verdict = judge(alloc, config, None, map, route)?;
+    Ok(verdict)
 }

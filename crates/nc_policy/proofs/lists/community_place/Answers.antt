@@ -8,14 +8,14 @@ use Rattle.nc_policy.proofs.Permitting.{placed, seen_at}
 use Rattle.nc_policy.proofs.lists.community_place.Goals as goal
 
 pub place_number-requires : goal.place_number-requires
-place_number-requires c = omega (arith, few_community_lists c.args.config.now c.requires, c.in_ok-list.ensures.within)
+place_number-requires c = omega (arith, few_community_lists c.args.config.now c.requires.formed, c.in_ok-found.ensures.lookup.3.0)
 
 pub place_number-requires-2 : goal.place_number-requires-2
 place_number-requires-2 c =
     let list = c.in_ok-found.found.now in
     let read = c.in_ok-found.ensures.lookup in
     let at = seen_at community_list_view c.args.config.now.community_lists.items c.deref.result.now c.in_ok-list.list list c.deref.ensures.value read.3.0 read.1 in
-    omega (arith, few_of_community_list c.args.config.now c.requires c.in_ok-list.list (community_list_view list) at, c.in_ok-entry.ensures.within)
+    omega (arith, few_of_community_list c.args.config.now c.requires.formed c.in_ok-list.list (community_list_view list) at, c.in_ok-entry.ensures.within)
 
 pub returns : goal.returns
 returns c =
@@ -24,4 +24,4 @@ returns c =
     let read = c.in_ok-found.ensures.lookup in
     let at = seen_at community_list_view lists c.deref.result.now c.in_ok-list.list list c.deref.ensures.value read.3.0 read.1 in
     placed (map community_list_view lists) (λ (l : CommunityListView). bytes_eq c.args.reference.now.name l.name) (λ (l : CommunityListView). permitting_community c.args.held.now l.entries) c.in_ok-list.list c.in_ok-entry.entry (community_list_view list)
-    (c.in_ok-list.ensures.named ∙ ap (named_community_list (config_view c.args.config.now)) c.bytes.ensures) at c.in_ok-entry.ensures.entry c.place_number.result c.place_number-2.result c.place_number.ensures c.place_number-2.ensures
+    (c.in_ok-list.ensures ∙ ap (named_community_list (config_view c.args.config.now)) c.bytes.ensures) at c.in_ok-entry.ensures.entry c.place_number.result c.place_number-2.result c.place_number.ensures c.place_number-2.ensures

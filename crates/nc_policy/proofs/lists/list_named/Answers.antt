@@ -1,15 +1,14 @@
-use Rattle.std.proofs.Common.{rules, tests, ◌∙◌, sym}
+use Rattle.std.proofs.Common.{Bor, Option, IfSome, subst, ◌∙◌}
 use Rattle.std.specs.Str.{bytes_eq}
-use Rattle.std.proofs.lemmas.Iterator.{YieldsList-from_slice}
-use Rattle.std.proofs.lemmas.Iterator.Search.{position_from_yields_List}
-use Rattle.nc_types.specs.Config.{PrefixListView, list_view}
-use Rattle.nc_types.specs.declared.config.PrefixList.{PrefixList}
+use Rattle.nc_types.specs.Config.{PrefixListView, config_view}
+use Rattle.nc_policy.specs.declared.router_index.RouterIndex.{RouterIndex}
+use Rattle.nc_policy.specs.Indexes.{IsIndexed}
 use Rattle.nc_policy.proofs.Permitting.{position_map}
 use Rattle.nc_policy.proofs.lists.list_named.Goals as goal
 
-pub returns-clause-named : goal.returns-clause-named
-returns-clause-named c =
+pub returns-in-Some : goal.returns-in-Some
+returns-in-Some c =
+    let config = config_view c.args.config.now in
     let name = c.args.name.now in
-    let lists = c.args.config.now.lists.items in
-    position_from_yields_List (λ (l : PrefixList). bytes_eq name l.name) _ _ _ c.position.ensures.ran (YieldsList-from_slice lists cc) (λ x b q k. search (rules, tests))
-    ∙ sym (position_map list_view (λ (l : PrefixListView). bytes_eq name l.name) lists)
+    let tables : IsIndexed config c.in-Some.index.now = subst (λ (o : Option (Bor RouterIndex)). IfSome o (λ x. IsIndexed config x.now)) c.in-Some.is c.requires.indexed in
+    c.place.ensures ∙ tables.names.first name ∙ position_map (λ (l : PrefixListView). l.name) (bytes_eq name) config.lists

@@ -4,7 +4,7 @@ use Rattle.nc_tables.specs.Policy.{Permit}
 use Rattle.nc_policy.specs.Views.{candidate_view}
 use Rattle.nc_policy.proofs.Few.{few_clauses}
 use Rattle.nc_policy.proofs.Verdicts.{undecided, denied, permitted}
-use Rattle.nc_policy.proofs.route_map.apply.Goals as goal
+use Rattle.nc_policy.proofs.route_map.judge.Goals as goal
 
 pub returns-in_default : goal.returns-in_default
 returns-in_default c = undecided (config_view c.args.config.now) c.args.map.now c.args.route.now c.in_default.ensures.deciding
@@ -21,7 +21,7 @@ returns-in_default-2 c =
     (sym c.in_default-2.is ∙ c.in_ok-changed.ensures)
 
 pub place_number-requires : goal.place_number-requires
-place_number-requires c = let few = few_clauses c.args.config.now c.requires in omega (arith, c.in-Some.ensures.within)
+place_number-requires c = let few = few_clauses c.args.config.now c.requires.formed in omega (arith, c.in-Some.ensures.within)
 
 pub returns : goal.returns
 returns c =

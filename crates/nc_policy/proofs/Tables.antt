@@ -1,0 +1,26 @@
+-- Tables made one behind the other, each of what stands at its place.
+use Rattle.std.proofs.Common.{◌≡◌, ℕ, ◌<◌, List, [], ◌∷◌, ◌++◌, length, Some, sym, ap, subst, ◌∙◌, arith, inl, inr}
+use Rattle.std.specs.Prelude.{slice_get}
+use Rattle.std.proofs.lemmas.Bool.{cases_eq}
+use Rattle.std.proofs.lemmas.List.{length_push}
+use Rattle.std.proofs.lemmas.Option.{slice_get_within}
+use Rattle.nc_types.proofs.Placing.{slice_get_left, slice_get_middle}
+
+-- one table more
+pub pushed : {A X : Type 0} (P : A → X → Type 0) (parts : List A) (xs ys : List X) (a : A) (y : X) → ys ≡ xs ++ y ∷ [] → slice_get parts (length xs) ≡ Some a → P a y
+    → ((k : ℕ) (b : A) (x : X) → slice_get parts k ≡ Some b → slice_get xs k ≡ Some x → P b x)
+    → (k : ℕ) (b : A) (x : X) → slice_get parts k ≡ Some b → slice_get ys k ≡ Some x → P b x
+pushed {A} {X} P parts xs ys a y same at here before k b x got found =
+    let all : slice_get (xs ++ y ∷ []) k ≡ Some x = ap (λ (zs : List X). slice_get zs k) (sym same) ∙ found in
+    let within : k < length (xs ++ y ∷ []) = slice_get_within (xs ++ y ∷ []) k x all in
+    elim (cases_eq k (length xs)) [
+      | inl last ↦
+          let one : Some a ≡ Some b = sym at ∙ ap (slice_get parts) (sym last) ∙ got in
+          let other : Some y ≡ Some x = sym (slice_get_middle xs y []) ∙ ap (slice_get (xs ++ y ∷ [])) (sym last) ∙ all in
+          let same_part : a ≡ b = cc in
+          let same_table : y ≡ x = cc in
+          subst (λ (c : A). P c x) same_part (subst (P a) same_table here)
+      | inr earlier ↦
+          let lt : k < length xs = omega (arith, length_push xs y) in
+          before k b x got (sym (slice_get_left xs (y ∷ []) k lt) ∙ all)
+    ]

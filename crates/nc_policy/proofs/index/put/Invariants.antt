@@ -1,0 +1,8 @@
+use Rattle.std.proofs.Common.{◌≡◌, ◌&&◌, ℕ, Some, if◌then◌else◌, nat_lt}
+use Rattle.nc_types.specs.Cidr.{Cidr}
+use Rattle.nc_policy.specs.Indexes.{is_at, spot_in}
+use Rattle.nc_policy.proofs.index.put.Given as goal
+
+-- the lengths so far are put
+abbrev pub invariant-lengths : goal.invariant-lengths
+invariant-lengths l = (q : Cidr) (n : ℕ) → spot_in l.first q n ≡ (if nat_lt n l.len && is_at q n l.entry then Some l.place else spot_in l.fn.first q n)

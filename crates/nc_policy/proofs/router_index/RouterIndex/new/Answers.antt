@@ -1,0 +1,17 @@
+use Rattle.std.proofs.Common.{List, map, subst}
+use Rattle.nc_types.specs.Config.{PrefixListView, CommunityListView, list_view, community_list_view}
+use Rattle.nc_types.specs.declared.config.PrefixList.{PrefixList}
+use Rattle.nc_policy.specs.Indexes.{AreIndexes}
+use Rattle.nc_policy.proofs.Naming.{names_seen}
+use Rattle.nc_policy.proofs.router_index.RouterIndex.new.Goals as goal
+
+pub returns : goal.returns
+returns c =
+    let config = c.args.config.now in
+    record {
+      names = names_seen (λ (l : PrefixListView). l.name) list_view c.deref.result.now config.lists.items c.deref.ensures.value c.in_ok-names.names c.in_ok-names.ensures;
+      community_names =
+          names_seen (λ (l : CommunityListView). l.name) community_list_view c.deref-2.result.now config.community_lists.items c.deref-2.ensures.value c.in_ok-community_names.community_names
+          c.in_ok-community_names.ensures;
+      lists = subst (λ (ls : List PrefixList). AreIndexes (map list_view ls) c.in_ok-lists.lists.items) c.deref-3.ensures.value c.in_ok-lists.ensures;
+    }

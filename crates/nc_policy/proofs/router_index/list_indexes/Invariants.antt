@@ -1,0 +1,13 @@
+use Rattle.std.proofs.Common.{◌≡◌, ℕ, Some, length, map}
+use Rattle.std.specs.Prelude.{slice_get}
+use Rattle.nc_types.specs.Config.{PrefixListView, list_view}
+use Rattle.nc_policy.specs.declared.index.ListIndex.{ListIndex}
+use Rattle.nc_policy.specs.Indexes.{IsIndexOf}
+use Rattle.nc_policy.proofs.router_index.list_indexes.Given as goal
+
+-- the lists so far have their tables
+abbrev pub invariant-lists : goal.invariant-lists
+invariant-lists l = record {
+  count : length l.indexes.items ≡ l.list-index;
+  each : (k : ℕ) (p : PrefixListView) (x : ListIndex) → slice_get (map list_view l.lists) k ≡ Some p → slice_get l.indexes.items k ≡ Some x → IsIndexOf p.entries x;
+}

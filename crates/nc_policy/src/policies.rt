@@ -1,0 +1,72 @@
+//! The tables of all routers of a network, by which route maps are asked again and again.
+
+ghost use Rattle.std.specs.Prelude.{◌≡◌, ◌<◌, List, length, IfOk, IfSome, Some, slice_get};
+ghost use Rattle.nc_types.specs.Config.{ConfigView};
+ghost use Rattle.nc_tables.specs.Policy.{verdict};
+ghost use Rattle.nc_policy.specs.Indexes.{ArePolicies, IsIndexed};
+ghost use Rattle.nc_policy.specs.Views.{verdict_view};
+
+use crate::route_map::{Verdict, judge};
+use crate::router_index::RouterIndex;
+use nc_tables::Route;
+use nc_types::{Network, RouterId};
+use std::alloc::{AllocError, Global};
+
+/// The tables of the lists of a network's routers. They are made once, and by them a list is found
+/// by its name at one look-up, and what a prefix list says of a prefix at 33.
+#[derive(Drop)]
+pub struct Policies {
+    routers: Vec<RouterIndex>,
+}
+
+impl Policies {
+    /// The tables of a network.
+    ///
+    /// # Errors
+    ///
+    /// Memory that runs out.
+    pub fn new(alloc: Global, network: &Network) -> Result<Policies, AllocError>
+        ensures { IfOk result (ArePolicies network.now) }
+    {
+        let configs = network.routers();
+        let mut routers = Vec::with_capacity(alloc, configs.len())?;
+        'routers: for config in configs {
+            routers.push(RouterIndex::new(alloc, config)?)?;
+        }
+        Ok(Policies { routers })
+    }
+
+    // The tables of the router of a number.
+    fn tables(&self, router: usize) -> Option<&RouterIndex>
+        ensures { (routers : List ConfigView) (c : ConfigView) → ArePolicies routers self.now
+            → slice_get routers router ≡ Some c → IfSome result (λ tables. IsIndexed c tables.now) }
+    {
+        let tables = self.routers.get(router)?;
+        Some(tables)
+    }
+
+    /// What the route map of this name of a router makes of a route, as [`crate::apply`] says it.
+    /// The tables are those of the network, which has the router.
+    ///
+    /// # Errors
+    ///
+    /// Memory that runs out.
+    pub fn apply(
+        &self,
+        alloc: Global,
+        network: &Network,
+        router: RouterId,
+        map: &[u8],
+        route: &Route,
+    ) -> Result<Verdict, AllocError>
+        requires policies { ArePolicies network.now self.now }
+        requires router { router.0 < length network.now }
+        ensures { IfOk result (λ v. (c : ConfigView) → slice_get network.now router.0 ≡ Some c
+            → verdict_view v ≡ verdict c map.now route.now) }
+    {
+        let place = router.0 as usize;
+        let config = &network.routers()[place];
+        let verdict = judge(alloc, config, self.tables(place), map, route)?;
+        Ok(verdict)
+    }
+}

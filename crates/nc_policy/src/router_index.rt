@@ -1,0 +1,55 @@
+//! The tables of the lists of one router.
+
+ghost use Rattle.std.specs.Prelude.{◌≡◌, map, IfOk, IfSome, Some, slice_get};
+ghost use Rattle.nc_types.specs.Config.{ConfigView, PrefixListView, config_view, list_view};
+ghost use Rattle.nc_policy.specs.Indexes.{AreIndexes, IsIndexed, IsIndexOf};
+
+use crate::index::ListIndex;
+use crate::names::NameIndex;
+use nc_types::{PrefixList, RouterConfig};
+use std::alloc::{AllocError, Global};
+
+/// The tables of a router's lists: their places by name, and of each prefix list what it says.
+#[derive(Drop)]
+pub(crate) struct RouterIndex {
+    pub(crate) names: NameIndex,
+    pub(crate) community_names: NameIndex,
+    lists: Vec<ListIndex>,
+}
+
+// The tables of prefix lists, in their order.
+fn list_indexes(alloc: Global, lists: &[PrefixList]) -> Result<Vec<ListIndex>, AllocError>
+    ensures { IfOk result (λ indexes. AreIndexes (map list_view lists.now) indexes.items) }
+{
+    let mut indexes = Vec::with_capacity(alloc, lists.len())?;
+    'lists: for list in lists {
+        indexes.push(ListIndex::new(alloc, &list.entries)?)?;
+    }
+    Ok(indexes)
+}
+
+impl RouterIndex {
+    /// The tables of a router's lists.
+    pub(crate) fn new(alloc: Global, config: &RouterConfig) -> Result<RouterIndex, AllocError>
+        ensures { IfOk result (IsIndexed (config_view config.now)) }
+    {
+        let names = NameIndex::new(alloc, &config.lists)?;
+        let community_names = NameIndex::new(alloc, &config.community_lists)?;
+        let lists = list_indexes(alloc, &config.lists)?;
+        Ok(RouterIndex {
+            names,
+            community_names,
+            lists,
+        })
+    }
+
+    /// The table of the prefix list at a place.
+    pub(crate) fn list(&self, place: usize) -> Option<&ListIndex>
+        ensures { (config : ConfigView) (list : PrefixListView) → IsIndexed config self.now
+            → slice_get config.lists place ≡ Some list
+            → IfSome result (λ index. IsIndexOf list.entries index.now) }
+    {
+        let index = self.lists.get(place)?;
+        Some(index)
+    }
+}
