@@ -4,10 +4,10 @@
     python3 oracle/definition_edits.py [--only WORD] [--first N] [--last N] [--list] [--table FILE] [--batch N]
 
 An edit turns one rule of a definition into a wrong one. Each is tried on a copy of the definitions and of the worked
-cases (the files Case* of nc_tables/specs), in a temporary folder: nothing in the checkout changes. It is refused where a
-theorem of these cases no longer holds. Where the edited text can't be read, or where it isn't found, nothing is shown.
-The copies stand side by side in one small crate over nc_types and nc_tables, N at a time, so that one check tries N edits:
-first over the cases of the edit's subject, and what these let through over all cases.
+cases (the files Case* of nc_tables/specs, and two of other crates), in a temporary folder: nothing in the checkout changes.
+It is refused where a theorem of these cases no longer holds. Where the edited text can't be read, or where it isn't found,
+nothing is shown. The copies stand side by side in one small crate over those that are copied, N at a time, so that one
+check tries N edits: first over the cases of the edit's subject, and what these let through over all cases.
 
 WORD picks the edits whose definition or file has it, --first and --last those of these numbers. FILE gets a table of the definitions, their cases and what these
 refuse. The status is 0 where every edit is refused, and else 1. No gate runs this; it takes some minutes.
@@ -23,20 +23,29 @@ import tempfile
 from definition_edits_list import EDITS
 
 TOP = os.path.abspath(os.path.join(os.path.dirname(os.path.abspath(__file__)), ".."))
-# The definitions of nc_types that are copied: what speaks of a whole network. Its types stay as they are.
-OF_TYPES = ("Network", "Joining")
+# The files of crates other than nc_tables that are copied, all of which is. Types stay as they are.
+COPIED = {
+    "nc_types": ("Network", "Joining", "Communities", "Setting"),
+    "nc_network": ("Judged", "CaseLists"),
+    "nc_community": ("Words", "CaseWords"),
+}
+# The crates that have to be there, each with those below it.
+BELOW = ("nc_types", "nc_lines", "nc_community", "nc_network", "nc_tables")
 # The cases of the subject of each file.
 NEAREST = {
     "nc_types/Network": ["CaseNetworks"],
-    "nc_types/Joining": ["CaseNetworks", "CaseRelations"],
+    "nc_types/Joining": ["CaseNetworks", "CaseRelations", "CaseLists"],
+    "nc_types/Communities": ["CaseCommunities"],
+    "nc_types/Setting": ["CaseCommunities"],
+    "nc_community/Words": ["CaseWords"],
     "Order": ["CaseTables"],
     "Base": ["CaseTables"],
     "Longest": ["CaseTables"],
     "Reach": ["CaseTables"],
     "Sessions": ["CaseSessions", "CaseChain"],
-    "Policy": ["CasePolicy"],
+    "Policy": ["CasePolicy", "CaseCommunities"],
     "Choice": ["CaseChoice"],
-    "Rounds": ["CaseChoice", "CaseMessages", "CaseRounds", "CaseRelations"],
+    "Rounds": ["CaseChoice", "CaseMessages", "CaseCommunities", "CaseRounds", "CaseRelations"],
     "Settling": ["CaseRounds"],
     "State": ["CaseRounds", "CaseRelations"],
     "Main": ["CaseForwarding"],
@@ -62,25 +71,32 @@ UNREAD = re.compile(r"is not in scope|has no field|is no name|operand is missing
 RESTS = re.compile(r"^\d+ declarations? that depends? on")
 
 
+def last_part(name):
+    """A file's own name, without that of its crate."""
+    return name.rpartition("/")[2]
+
+
+def is_case(name):
+    return last_part(name).startswith("Case")
+
+
 def files_of(top):
-    """The text of each definition and case by its name, those of nc_types under the name of their crate."""
+    """The text of each definition and case by its name, those of other crates than nc_tables with that of their crate in front."""
+    names = [f"{crate}/{name}" for crate, copied in COPIED.items() for name in copied]
+    names += [name[:-5] for name in sorted(os.listdir(f"{top}/crates/nc_tables/specs")) if name.endswith(".antt") and name != "Lib.antt"]
     texts = {}
-    for name in OF_TYPES:
-        with open(f"{top}/crates/nc_types/specs/{name}.antt", encoding="utf-8") as it:
-            texts[f"nc_types/{name}"] = it.read()
-    folder = f"{top}/crates/nc_tables/specs"
-    for name in sorted(os.listdir(folder)):
-        if name.endswith(".antt") and name != "Lib.antt":
-            with open(f"{folder}/{name}", encoding="utf-8") as it:
-                texts[name[:-5]] = it.read()
+    for name in names:
+        crate = name.partition("/")[0] if "/" in name else "nc_tables"
+        with open(f"{top}/crates/{crate}/specs/{last_part(name)}.antt", encoding="utf-8") as it:
+            texts[name] = it.read()
     return texts
 
 
 def renamed(text, tag):
     """A text that names the copies of this tag, in place of the definitions."""
     text = re.sub(r"Rattle\.nc_tables\.specs\.(?!declared\b)", f"Rattle.{CRATE}.specs.{tag}.", text)
-    for name in OF_TYPES:
-        text = re.sub(rf"Rattle\.nc_types\.specs\.{name}\b", f"Rattle.{CRATE}.specs.{tag}.{name}", text)
+    for crate, copied in COPIED.items():
+        text = re.sub(rf"Rattle\.{crate}\.specs\.({'|'.join(copied)})\b", rf"Rattle.{CRATE}.specs.{tag}.\1", text)
     return text
 
 
@@ -92,20 +108,24 @@ def write(path, text):
 
 def make_room(room):
     """The crates below, and the crate for the copies."""
-    for name in ("nc_types", "nc_tables"):
+    for name in BELOW:
         shutil.copytree(f"{TOP}/crates/{name}", f"{room}/crates/{name}", ignore=shutil.ignore_patterns("out"))
     with open(f"{TOP}/crates.txt", encoding="utf-8") as it:
-        lines = [line for line in it if line.startswith(("nc_types:", "nc_tables:"))]
-    write(f"{room}/crates.txt", "".join(lines) + f"{CRATE}: nc_types nc_tables\n")
+        lines = [line for line in it if line.partition(":")[0] in BELOW]
+    write(f"{room}/crates.txt", "".join(lines) + f"{CRATE}: {' '.join(BELOW)}\n")
     if os.path.isfile(f"{TOP}/HANDLES"):
         shutil.copy(f"{TOP}/HANDLES", f"{room}/HANDLES")
     write(f"{room}/crates/{CRATE}/src/lib.rt", LIB)
 
 
 def edited(texts, edit):
-    """The texts with the edit, or None where its text doesn't stand once in its file."""
+    """The texts with the edit, or None where one of its texts doesn't stand once in its file."""
     text = texts.get(edit.file, "")
-    return {**texts, edit.file: text.replace(edit.old, edit.new)} if text.count(edit.old) == 1 else None
+    for old, new in zip(edit.old, edit.new):
+        if text.count(old) != 1:
+            return None
+        text = text.replace(old, new)
+    return {**texts, edit.file: text}
 
 
 def write_copies(room, copies):
@@ -113,8 +133,8 @@ def write_copies(room, copies):
     shutil.rmtree(specs, ignore_errors=True)
     for tag, texts in copies.items():
         for name, text in texts.items():
-            write(f"{specs}/{tag}/{name.rpartition('/')[2]}.antt", renamed(text, tag))
-        names = sorted(name.rpartition("/")[2] for name in texts)
+            write(f"{specs}/{tag}/{last_part(name)}.antt", renamed(text, tag))
+        names = sorted(last_part(name) for name in texts)
         write(f"{specs}/{tag}.antt", "".join(f"pub mod {name}\n" for name in names))
     write(f"{specs}/Lib.antt", "".join(f"pub mod {tag}\n" for tag in copies))
 
@@ -140,9 +160,10 @@ def judged(said, tags):
 def with_cases(texts, cases):
     """The definitions with these cases alone, and those that they name."""
     wanted = {"Cases", *cases}
-    for name in cases:
-        wanted |= set(re.findall(r"nc_tables\.specs\.(Case\w+)\.", texts[name]))
-    return {name: text for name, text in texts.items() if not name.startswith("Case") or name in wanted}
+    for name, text in texts.items():
+        if last_part(name) in cases:
+            wanted |= set(re.findall(r"nc_tables\.specs\.(Case\w+)\b", text))
+    return {name: text for name, text in texts.items() if not is_case(name) or last_part(name) in wanted}
 
 
 def try_batch(room, texts, batch, nearest=False):

@@ -1,12 +1,17 @@
 """Wrong edits of the definitions of the routing state: of which definition, in which file, what text, what in its place, and what
-the edit makes of the rule. The text stands once in its file; files of nc_types have its name in front."""
+the edit makes of the rule. The text stands once in its file, and so do all where an edit has several; files of other crates
+than nc_tables have its name in front."""
 import collections
 
 Edit = collections.namedtuple("Edit", "definition file old new meaning")
 
 
+def texts(given):
+    return given if isinstance(given, tuple) else (given,)
+
+
 def of(file, *edits):
-    return [Edit(definition, file, old, new, meaning) for definition, old, new, meaning in edits]
+    return [Edit(definition, file, texts(old), texts(new), meaning) for definition, old, new, meaning in edits]
 
 
 NETWORK = of(
@@ -39,11 +44,61 @@ JOINING = of(
     ("undefined", " ++ filter_map (λ n. n.map_out) p.neighbors", "", "maps for what goes out aren't looked up"),
     ("undefined", "map (λ k. k.map_name) n.config.clauses", "map (λ i. i.name) n.config.interfaces", "a map is looked up among the interfaces"),
     ("undefined", "list_references c = flat_map (λ k. k.lists) c.clauses", "list_references c = []", "prefix lists aren't looked up"),
+    ("undefined", "community_list_references c = flat_map (λ k. k.community_lists) c.clauses", "community_list_references c = []", "community lists aren't looked up"),
+    ("undefined", "(map (λ l. l.name) n.config.lists)) (list_references", "(map (λ l. l.name) n.config.community_lists)) (list_references",
+     "a prefix list is looked up among the community lists"),
+    ("undefined", "(map (λ l. l.name) n.config.community_lists)) (community_list_references", "(map (λ l. l.name) n.config.lists)) (community_list_references",
+     "a community list is looked up among the prefix lists"),
     ("earliest", "before_or a.first b.first (before_or", "before_or a.second b.second (before_or", "the first router isn't compared"),
     ("earliest", "before_or a.first_line b.first_line (before_or a.second b.second (nat_lt a.second_line b.second_line))",
      "before_or a.second b.second (nat_lt a.second_line b.second_line)", "the first line isn't compared"),
     ("earliest", "before_or a.second b.second (nat_lt a.second_line b.second_line)", "nat_lt a.second_line b.second_line", "the second router isn't compared"),
     ("earliest", "(nat_lt a.second_line b.second_line)", "(nat_lt b.second_line a.second_line)", "the greater second line comes first"),
+)
+
+COMMUNITIES = of(
+    "nc_types/Communities",
+    ("put", "else (if nat_lt x n then x ∷ put n xs else x ∷ xs)", "else x ∷ put n xs", "a number may stand twice"),
+    ("put", "if nat_lt n x then n ∷ x ∷ xs else", "if nat_lt x n then n ∷ x ∷ xs else", "numbers aren't in order"),
+    ("put", "if nat_lt n x then n ∷ x ∷ xs else", "if nat_lt n x then x ∷ xs else", "a lower number isn't put in"),
+    ("put_all", "put_all (put n set) ns", "put n set", "the first number alone is put in"),
+    ("put_all", "put_all (put n set) ns", "put_all (put n []) ns", "the last number alone is kept"),
+    ("limited", "nat_lt COMMUNITY_LIMIT (length set)", "nat_lt 63 (length set)", "64 communities are too many"),
+    ("limited", "nat_lt COMMUNITY_LIMIT (length set)", "nat_lt 65 (length set)", "65 communities aren't too many"),
+    ("limited", "if nat_lt COMMUNITY_LIMIT (length set) then None else Some set", "Some set", "there is no limit"),
+    ("gather", "limited (put_all [] values)", "limited values", "repeats count"),
+    ("union", "limited (put_all a b)", "limited a", "the second set isn't put in"),
+    ("union", "limited (put_all a b)", "limited b", "the first set is lost"),
+    ("has", "list_any (nat_eq n) held", "list_any (nat_lt n) held", "a greater number will do"),
+    ("has", "list_any (nat_eq n) held", "list_all (nat_eq n) held", "a number has to be the only one"),
+    ("holds_all", "list_all (λ m. has m held) members", "list_any (λ m. has m held) members", "one member is enough"),
+    ("holds_all", "list_all (λ m. has m held) members", "list_all (λ m. has m members) held", "all that is held has to be a member"),
+    ("IsSmallSet", "record IsSmallSet (set : List ℕ) : Type 0 where\n  pub ascends : IsStrictlyIncreasing set",
+     "record IsSmallSet (set : List ℕ) : Type 0 where\n  pub ascends : IsStrictlyIncreasing []", "a small set needn't ascend"),
+    ("IsSmallSet", "pub few : length set ≤ COMMUNITY_LIMIT", "pub few : length set < COMMUNITY_LIMIT", "64 communities are too many for a small set"),
+    ("IsSmallSet", "pub few : length set ≤ COMMUNITY_LIMIT", "pub few : length set ≤ length set", "a small set may have any number"),
+)
+
+SETTING = of(
+    "nc_types/Setting",
+    ("deciding_community", "position (λ e. holds_all held e.members) entries", "position (λ e. holds_all e.members held) entries", "all communities of the route have to be members"),
+    ("deciding_community", "position (λ e. holds_all held e.members) entries", "position (λ e. if e.permit then holds_all held e.members else e.permit) entries", "an entry that denies is passed over"),
+    ("set_all", "if set.additive then put_all held set.values else set.values", "set.values", "what is added takes the place of the others"),
+    ("set_all", "if set.additive then put_all held set.values else set.values", "put_all held set.values", "what is set is added"),
+    ("set_all", "if set.additive then put_all held set.values else set.values", "held", "nothing is set"),
+)
+
+WORDS = of(
+    "nc_community/Words",
+    ("community_of", "high * 65536 + low", "high + low * 65536", "the lower half comes first"),
+    ("community_of", "high * 65536 + low", "high * 65535 + low", "the upper half counts 65,535 times"),
+    ("community_of", "(number_of 65535 high)", "(number_of 65536 high)", "the upper half may be 65,536"),
+    ("community_of", "(number_of 65535 low)", "(number_of 65536 low)", "the lower half may be 65,536"),
+    ("community_of", "(number_of 65535 high)", "(number_of 65534 high)", "the upper half may not be 65,535"),
+    ("community_of", "(number_of 65535 low)", "(number_of 65534 low)", "the lower half may not be 65,535"),
+    ("community_of", "number_of (2 ^ 32 - 1) word", "number_of (2 ^ 32) word", "a number may be 2^32"),
+    ("community_of", "number_of (2 ^ 32 - 1) word", "number_of (2 ^ 32 - 2) word", "the greatest number is no community"),
+    ("community_of", "(λ b. b == 58)", "(λ b. b == 46)", "a dot stands between the halves"),
 )
 
 BASE = of(
@@ -69,7 +124,8 @@ BASE = of(
      "the greatest distance is kept"),
     ("base_table", "in_order row_cmp (filter (is_nearest (candidates c)) (candidates c))", "in_order row_cmp (candidates c)", "greater distances are kept too"),
     ("base_table", "in_order row_cmp (filter (is_nearest (candidates c)) (candidates c))", "filter (is_nearest (candidates c)) (candidates c)", "rows aren't in order"),
-    ("base_table", "(p.base == q.base) && (p.len == q.len)", "p.base == q.base", "prefixes of two lengths are one"),
+    ("base_table", ("pub use Rattle.nc_types.specs.Cidr.{same_prefix}\n", "-- a row of which there is no other"),
+     ("", "abbrev pub same_prefix : Cidr → Cidr → Bool\nsame_prefix p q = p.base == q.base\n\n-- a row of which there is no other"), "prefixes of two lengths are one"),
     ("base_table", "ordering_then (nat_cmp p.base q.base) (nat_cmp p.len q.len)", "ordering_then (nat_cmp p.len q.len) (nat_cmp p.base q.base)",
      "prefixes go by length first"),
     ("base_table", "rank_of (Connected iface) = (0, iface.0)", "rank_of (Connected iface) = (2, iface.0)", "connected rows come behind static ones"),
@@ -150,26 +206,49 @@ SESSIONS += of("Sessions", *[
 
 POLICY = of(
     "Policy",
-    ("permits", "nat_le e.low p.len", "nat_lt e.low p.len", "the least length isn't permitted"),
-    ("permits", "nat_le p.len e.high", "nat_lt p.len e.high", "the greatest length isn't permitted"),
-    ("permits", "covers e.prefix p.base && (nat_le e.low p.len && nat_le p.len e.high)", "nat_le e.low p.len && nat_le p.len e.high", "any prefix of the lengths is permitted"),
-    ("permits", "option_map_or (λ e. e.permit)", "option_map_or (λ e. nat_le 0 0)", "an entry that denies permits"),
-    ("deciding_entry", "position (is_of p) entries", "position (λ e. covers e.prefix p.base) entries", "an entry decides whatever the length"),
-    ("is_matching", "list_any (reference_permits c p) k.lists || (length k.lists == 0)", "list_any (reference_permits c p) k.lists", "a clause without lists never matches"),
-    ("is_matching", "list_any (reference_permits c p) k.lists || (length k.lists == 0)", "nat_le 0 (length k.lists)", "each clause matches"),
-    ("permitting_list", "find (reference_permits c p) k.lists", "find (λ r. nat_le 0 0) k.lists", "the first list is told, whether it permits or not"),
+    ("is_of", "nat_le e.low p.len", "nat_lt e.low p.len", "the least length isn't permitted"),
+    ("is_of", "nat_le p.len e.high", "nat_lt p.len e.high", "the greatest length isn't permitted"),
+    ("is_of", "covers e.prefix p.base && (nat_le e.low p.len && nat_le p.len e.high)", "nat_le e.low p.len && nat_le p.len e.high", "any prefix of the lengths is permitted"),
+    ("is_of", "covers e.prefix p.base && (nat_le e.low p.len && nat_le p.len e.high)", "covers e.prefix p.base", "an entry decides whatever the length"),
+    ("is_held", "is_held held e = holds_all held e.members", "is_held held e = holds_all e.members held", "all communities of the route have to be members"),
+    ("deciding_entry", "position is_asked entries", "if is_some (position is_asked entries) then Some 0 else None", "the first entry is told, whichever decides"),
+    ("permitting_entry", "if option_map_or permits (slice_get entries k) false then Some k else None", "Some k", "an entry that denies permits"),
+    ("permitting_entry", "(deciding_entry is_asked entries)", "(position (λ e. is_asked e && permits e) entries)", "an entry that denies is passed over"),
+    ("place_in", "record { list = k; entry = i }", "record { list = i; entry = k }", "the list's place and the entry's are exchanged"),
+    ("place_in", "record { list = k; entry = i }", "record { list = 0; entry = i }", "the first list is told"),
+    ("place_in", "(position is_named lists)", "(Some 0)", "the first list is asked, whatever its name"),
+    ("first_place", "option_or (place r) (first_place place rs)", "option_or (first_place place rs) (place r)", "the last list that permits is told"),
+    ("first_place", "option_or (place r) (first_place place rs)", "place r", "the first list alone is asked"),
+    ("met", "met place [] = Some None", "met place [] = None", "a clause that names no list of a kind never matches"),
+    ("met", "option_map (λ p. Some p) (first_place place (r ∷ rs))", "Some (first_place place (r ∷ rs))", "no list has to permit"),
+    ("names_of", "(met (prefix_place c r.prefix) k.lists)", "(option_or (met (prefix_place c r.prefix) k.lists) (Some None))", "prefix lists needn't permit"),
+    ("names_of", "(met (community_place c r.communities) k.community_lists)", "(option_or (met (community_place c r.communities) k.community_lists) (Some None))",
+     "community lists needn't permit"),
+    ("names_of", "record { entry = entry; community = community }", "record { entry = community; community = entry }", "the entries of both kinds are exchanged"),
+    ("names_of", "record { entry = entry; community = community }", "record { entry = entry; community = None }", "an entry of a community list isn't told"),
+    ("names_of", "record { entry = entry; community = community }", "record { entry = None; community = community }", "an entry of a prefix list isn't told"),
+    ("is_matching", "is_some (names_of c r k)", "nat_le 0 (length k.lists)", "each clause matches"),
     ("deciding", "if nat_lt other.clause.number k.clause.number then", "if nat_lt k.clause.number other.clause.number then", "the greatest number decides"),
-    ("deciding", "bytes_eq name k.clause.map_name && is_matching c p k.clause", "is_matching c p k.clause", "clauses of other maps decide"),
-    ("deciding", "bytes_eq name k.clause.map_name && is_matching c p k.clause", "bytes_eq name k.clause.map_name", "a clause decides that doesn't match"),
+    ("deciding", "bytes_eq name k.clause.map_name && is_matching c r k.clause", "is_matching c r k.clause", "clauses of other maps decide"),
+    ("deciding", "bytes_eq name k.clause.map_name && is_matching c r k.clause", "bytes_eq name k.clause.map_name", "a clause decides that doesn't match"),
+    ("deciding", "∷ placed_from (place + 1) ks", "∷ placed_from place ks", "clauses aren't counted on"),
     ("verdict", "k.prepend ++ r.path", "r.path ++ k.prepend", "numbers are set behind the path"),
     ("verdict", "unwrap_or k.preference r.preference", "r.preference", "a preference isn't set"),
     ("verdict", "unwrap_or k.metric r.metric", "r.metric", "a metric isn't set"),
     ("verdict", "unwrap_or k.origin r.origin", "r.origin", "an origin isn't set"),
-    ("verdict", "nat_lt PATH_LIMIT (length r.path)", "nat_le PATH_LIMIT (length r.path)", "a path of 250 numbers is too long"),
-    ("verdict", "nat_lt PATH_LIMIT (length r.path)", "nat_lt 251 (length r.path)", "a path of 251 numbers isn't too long"),
-    ("verdict", "if is_long (set_by k.clause r) then Deny", "if is_long r then Deny", "the path is measured before the numbers are set"),
+    ("verdict", "set_all k.communities r.communities", "r.communities", "communities aren't set"),
+    ("is_long", "nat_lt PATH_LIMIT (length r.path)", "nat_le PATH_LIMIT (length r.path)", "a path of 250 numbers is too long"),
+    ("is_long", "nat_lt PATH_LIMIT (length r.path)", "nat_lt 251 (length r.path)", "a path of 251 numbers isn't too long"),
+    ("is_over", "is_long r || nat_lt COMMUNITY_LIMIT (length r.communities)", "is_long r", "any number of communities is carried"),
+    ("is_over", "is_long r || nat_lt COMMUNITY_LIMIT (length r.communities)", "nat_lt COMMUNITY_LIMIT (length r.communities)", "a path may have any length"),
+    ("is_over", "nat_lt COMMUNITY_LIMIT (length r.communities)", "nat_le COMMUNITY_LIMIT (length r.communities)", "64 communities are too many"),
+    ("is_over", "nat_lt COMMUNITY_LIMIT (length r.communities)", "nat_lt 65 (length r.communities)", "65 communities aren't too many"),
+    ("verdict", "if is_over (set_by k.clause r) then Deny", "if is_over r then Deny", "the route is measured before anything is set"),
     ("verdict", "if k.clause.permit then (", "if nat_le 0 0 then (", "a clause that denies permits"),
-    ("verdict", "(set_by k.clause r) k.place (permitting_list", "(set_by k.clause r) 0 (permitting_list", "the first clause is named"),
+    ("verdict", "Permit (set_by k.clause r) k.place names", "Permit (set_by k.clause r) 0 names", "the first clause is named"),
+    ("verdict", "Permit (set_by k.clause r) k.place names", "Permit r k.place names", "nothing is set"),
+    ("verdict", "(names_of c r k.clause) Deny) (deciding c name r) Deny", "(names_of c r k.clause) Deny) (deciding c name r) (Permit r 0 (record { entry = None; community = None }))",
+     "what no clause matches is permitted"),
 )
 
 CHOICE = of(
@@ -216,7 +295,9 @@ ROUNDS = of(
     ("is_active", "is_longer_in p outer = nat_lt outer.len p.len && covers outer p.base", "is_longer_in p outer = nat_lt outer.len p.len", "any longer prefix is inside"),
     ("is_active", "is_longer_in row.prefix a.prefix && nat_lt 0 (length row.chosen)", "is_longer_in row.prefix a.prefix", "a row without a candidate contributes"),
     ("message_at", "best_at router p = first_of (chosen_at router p)", "best_at router p = slice_get (chosen_at router p) 1", "the second of the chosen candidates is sent"),
-    ("message_at", "passed c None route = Some (record { route = route; clause = None; list = None })", "passed c None route = None", "without a map nothing passes"),
+    ("message_at", "passed c None route = Some (record { route = route; clause = None; names = unnamed })", "passed c None route = None", "without a map nothing passes"),
+    ("message_at", "record { route = route; clause = Some clause; names = names }", "record { route = route; clause = None; names = names }", "the clause that let pass isn't named"),
+    ("message_at", "record { route = route; clause = Some clause; names = names }", "record { route = route; clause = Some clause; names = unnamed }", "the entries that let pass aren't named"),
     ("message_at", "a.summary_only && is_longer_in prefix a.prefix", "is_longer_in prefix a.prefix", "each aggregate holds back"),
     ("message_at", "if is_held_back k.sender.process", "if is_held_back k.receiver.process", "the receiver's aggregates hold back"),
     ("message_at", "if is_held_back k.sender.process b.route.prefix then None else (", "if is_kept_inside k b then None else (", "no aggregate holds back"),
@@ -235,6 +316,16 @@ ROUNDS = of(
     ("message_at", "k.sender.statement.self_hop", "k.receiver.statement.self_hop", "the receiver's `next-hop-self` counts"),
     ("message_at", "sent_outside k.sender.process.asn", "sent_outside k.receiver.process.asn", "the receiver's number is set before the path"),
     ("message_at", "if is_long (sent_over k b out.route) then None", "if is_long out.route then None", "the path is measured without the own number"),
+    ("carried", "if send then r else record r { communities = [] }", "r", "communities are always sent"),
+    ("carried", "if send then r else record r { communities = [] }", "record r { communities = [] }", "communities are never sent"),
+    ("message_at", "carried k.sender.statement.send_community r", "carried k.receiver.statement.send_community r", "the receiver's `send-community` counts"),
+    ("message_at", "sent_outside k.sender.process.asn k.source own", "sent_outside k.sender.process.asn k.source (carried k.session.internal own)", "communities are sent inside alone"),
+    ("message_at", "not (is_learnt b.from)) own", "not (is_learnt b.from)) (carried (not k.session.internal) own)", "communities are sent outside alone"),
+    ("message_at", "sent_outside k.sender.process.asn k.source own", "sent_outside k.sender.process.asn k.source r", "outside communities are sent without `send-community`"),
+    ("message_at", "not (is_learnt b.from)) own", "not (is_learnt b.from)) r", "inside communities are sent without `send-community`"),
+    ("message_at", "(outgoing k.session.internal b.route)", "(outgoing k.session.internal (record b.route { communities = [] }))", "the map for what goes out sees no communities"),
+    ("message_at", "(outgoing k.session.internal b.route)", "(outgoing k.session.internal (if k.sender.statement.send_community then b.route else record b.route { communities = [] }))",
+     "the map for what goes out sees communities only where they are sent"),
     ("accepted_at", "list_any (λ n. n == m.link.receiver.process.asn) m.route.path", "list_any (λ n. n == m.link.sender.process.asn) m.route.path", "the sender's number is a loop"),
     ("accepted_at", "is_own m.link.receiver.config.interfaces m.route.next_hop.0", "is_own m.link.sender.config.interfaces m.route.next_hop.0", "the sender's address isn't accepted as the next hop"),
     ("accepted_at", "if is_looped m then None else (", "if has_own_hop m then None else (", "loops are accepted"),
@@ -250,6 +341,7 @@ ROUNDS = of(
     ("origin_at", "same_prefix n.prefix prefix && list_any (λ row. same_prefix row.prefix prefix) (rows_of tables router)", "same_prefix n.prefix prefix", "a network needs no row"),
     ("origin_at", "list_any (λ row. same_prefix row.prefix prefix) (rows_of tables router)", "list_any (λ row. covers row.prefix prefix.base) (rows_of tables router)", "a shorter row is enough for a network"),
     ("origin_at", "Some (begun prefix (Origin place))", "Some (begun prefix (Origin 0))", "each is the first network"),
+    ("begun", "metric = 0; origin = Igp; communities = [] };", "metric = 0; origin = Igp; communities = 7 ∷ [] };", "what a router begins has a community"),
     ("aggregate_at", "if same_prefix a.prefix prefix && is_active table router a then", "if same_prefix a.prefix prefix then", "an aggregate needs nothing inside"),
     ("aggregate_at", "Some (begun prefix (Aggregate place))", "Some (begun prefix (Aggregate 0))", "each is the first aggregate"),
     ("round", " ++ map (λ a. a.prefix) p.aggregates) c.process []", ") c.process []", "aggregates have no rows"),
@@ -274,6 +366,7 @@ SETTLING = of(
     ("settled", "(a.preference == b.preference)", "(a.preference == a.preference)", "preferences aren't compared"),
     ("settled", "(a.metric == b.metric)", "(a.metric == a.metric)", "metrics aren't compared"),
     ("settled", "(origin_rank a.origin == origin_rank b.origin)", "(origin_rank a.origin == origin_rank a.origin)", "origins aren't compared"),
+    ("settled", "bytes_eq a.communities b.communities", "bytes_eq a.communities a.communities", "communities aren't compared"),
     ("settled", "(class_of a == class_of b)", "(class_of a == class_of a)", "networks and what is learnt are the same"),
     ("settled", "(place_of a == place_of b)", "(place_of a == place_of a)", "statements aren't compared"),
     ("settled", "(internal_rank a.internal == internal_rank b.internal)", "(internal_rank a.internal == internal_rank a.internal)", "internal and external are the same"),
@@ -365,4 +458,4 @@ RELATIONS = of(
     ("IsState", "pub valid : IsValid s.routers", "pub valid : s ≡ s", "the routers needn't be valid"),
 )
 
-EDITS = NETWORK + JOINING + BASE + ORDER + LONGEST + REACH + SESSIONS + POLICY + CHOICE + ROUNDS + SETTLING + STATE + MAIN + FORWARDING + LEVELS + RELATIONS
+EDITS = NETWORK + JOINING + COMMUNITIES + SETTING + WORDS + BASE + ORDER + LONGEST + REACH + SESSIONS + POLICY + CHOICE + ROUNDS + SETTLING + STATE + MAIN + FORWARDING + LEVELS + RELATIONS
