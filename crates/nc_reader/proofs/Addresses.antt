@@ -6,6 +6,7 @@ use Rattle.std.specs.Option.{option_map, option_map_or}
 use Rattle.std.proofs.Math.Nat.{mul-div_cancel}
 use Rattle.std.proofs.lemmas.Bool.{cond_both}
 use Rattle.std.proofs.lemmas.Nat.{pow_pos}
+use Rattle.nc_types.proofs.Members.{in_by_filter_map}
 use Rattle.nc_types.specs.Masks.{size_of, network_of}
 use Rattle.nc_types.specs.Cidr.{Covers}
 use Rattle.nc_types.specs.declared.config.IfaceAddr.{IfaceAddr}
@@ -16,7 +17,7 @@ use Rattle.nc_lines.specs.Parts.{Numbered}
 use Rattle.nc_read_link.specs.declared.setting.Setting.{Setting}
 use Rattle.nc_read_link.specs.declared.setting.Setting.TheVariants.{Address, NoAddress, Shut}
 use Rattle.nc_read_link.specs.Interfaces.{InterfaceStatement as Stated, masked_of, is_unsupported, address_says, read_says, setting_says, line_says, interface_statements as statements_in, address_by, address_in}
-use Rattle.nc_reader.proofs.Members.{Has, has_kept}
+use Rattle.nc_reader.proofs.Members.{Has}
 
 abbrev pub IsCovered : IfaceAddr → Type 0
 IsCovered a = Covers a.prefix a.addr.0
@@ -84,7 +85,7 @@ said_covered line (Says setting) s is e =
 
 stated_covered : (block : List Numbered) (s : Stated) → Has (statements_in block) s → SaysCovered (Says s.setting)
 stated_covered block s h =
-    let at = has_kept (λ (l : Numbered). option_map (λ (setting : Setting). record { line = l.line; setting = setting }) (said_of (line_says l))) block s h in
+    let at = in_by_filter_map (λ (l : Numbered). option_map (λ (setting : Setting). record { line = l.line; setting = setting }) (said_of (line_says l))) block s h in
     said_covered at.0.line (line_says at.0) s (line_covered at.0) at.2
 
 pub last_has : {A : Type 0} (o : Option A) (xs : List A) (x : A) → last_or o xs ≡ Some x → (o ≡ Some x) ⊎ Has xs x
@@ -110,7 +111,7 @@ force_covered block p e =
     let said = filter_map (λ (s : Stated). address_by s.line s.setting) ss in
     elim (last_has None said (Some p) (opened (last_or None said) p e)) [
       | inl never ↦ absurd cc
-      | inr h ↦ let at = has_kept (λ (s : Stated). address_by s.line s.setting) ss (Some p) h in by_covered at.0.line at.0.setting p (stated_covered block at.0 at.1) at.2
+      | inr h ↦ let at = in_by_filter_map (λ (s : Stated). address_by s.line s.setting) ss (Some p) h in by_covered at.0.line at.0.setting p (stated_covered block at.0 at.1) at.2
     ]
 
 if_some : (o : Option (ℕ × IfaceAddr)) → ((p : ℕ × IfaceAddr) → o ≡ Some p → IsCovered p.1) → IfSome (option_map (λ (p : ℕ × IfaceAddr). p.1) o) IsCovered

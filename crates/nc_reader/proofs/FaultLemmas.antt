@@ -9,7 +9,7 @@ use Rattle.nc_types.specs.declared.fault.Fault.{Fault}
 use Rattle.nc_types.specs.declared.fault.ConfigFault.{ConfigFault}
 use Rattle.nc_types.specs.declared.fault.ConfigFault.TheVariants.{Bad, Memory}
 use Rattle.nc_lines.specs.Outcomes.{IsFault}
-use Rattle.nc_reader.specs.Configuration.{ok_of, err_of}
+use Rattle.nc_reader.specs.Things.{ok_of, err_of}
 use Rattle.nc_reader.specs.Parts.{IsLowest, Notes}
 use Rattle.nc_reader.proofs.PushLemmas.{filter_map-none, filter_map-some}
 
@@ -34,7 +34,7 @@ ok-push rs r x is = filter_map-some ok_of rs r x (ap ok_of is)
 ok-push_err : {A : Type 0} (rs : List (Result A Fault)) (r : Result A Fault) (f : Fault) → r ≡ Err f → filter_map ok_of (rs ++ r ∷ []) ≡ filter_map ok_of rs
 ok-push_err rs r f is = filter_map-none ok_of rs r (ap ok_of is)
 
-err-push_ok : {A : Type 0} (rs : List (Result A Fault)) (r : Result A Fault) (x : A) → r ≡ Ok x → filter_map err_of (rs ++ r ∷ []) ≡ filter_map err_of rs
+pub err-push_ok : {A : Type 0} (rs : List (Result A Fault)) (r : Result A Fault) (x : A) → r ≡ Ok x → filter_map err_of (rs ++ r ∷ []) ≡ filter_map err_of rs
 err-push_ok rs r x is = filter_map-none err_of rs r (ap err_of is)
 
 err-push : {A : Type 0} (rs : List (Result A Fault)) (r : Result A Fault) (f : Fault) → r ≡ Err f → filter_map err_of (rs ++ r ∷ []) ≡ filter_map err_of rs ++ f ∷ []

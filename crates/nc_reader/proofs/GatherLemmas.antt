@@ -1,17 +1,18 @@
 -- The pass over the lines of a file.
-use Rattle.std.proofs.Common.{◌≡◌, ℕ, zero, suc, ◌+◌, ◌-◌, ◌<◌, ◌≤◌, Bool, true, false, List, [], ◌∷◌, ◌++◌, length, map, get_or, drop, Option, Some, None, refl, sym, ap, ◌∙◌, subst, arith}
+use Rattle.std.proofs.Common.{◌≡◌, ℕ, zero, suc, ◌+◌, ◌-◌, ◌<◌, ◌≤◌, Bool, true, false, cond, List, [], ◌∷◌, ◌++◌, length, map, get_or, drop, Option, Some, None, refl, sym, ap, ◌∙◌, subst, arith}
 use Rattle.std.specs.Prelude.{All, IfSome}
 use Rattle.std.specs.List.{list_any, position_or_len}
-use Rattle.std.specs.Str.{bytes_eq}
 use Rattle.std.proofs.Math.Seq.{drop-cons}
-use Rattle.std.proofs.lemmas.Cmp.{nat_list_eq_equiv}
 use Rattle.std.proofs.lemmas.List.{append-nil, append_assoc, drop_all, length-map}
 use Rattle.std.proofs.lemmas.List.Elements.{All-nil, All-cons, All-head, All-tail, All-push}
 use Rattle.nc_lines.specs.Lines.{line_at}
 use Rattle.nc_lines.specs.Blocks.{is_open, header_of}
 use Rattle.nc_lines.specs.declared.block.Block.{Block}
-use Rattle.nc_reader.specs.Roles.{Role, Passed, Wrong, Names, Within, Routes, Placed, block_of, role_of, roles_from}
-use Rattle.nc_reader.specs.Groups.{Group, of_key, groups}
+use Rattle.nc_reader.specs.Roles.{Role, Passed, Wrong, Names, Within, Placed, block_of, role_of, roles_from}
+use Rattle.nc_reader.specs.declared.topic.Topic.{Topic}
+use Rattle.nc_reader.specs.Topics.{same_topic, has_block}
+use Rattle.nc_reader.specs.Groups.{Group, of_key, groups, with_key}
+use Rattle.nc_reader.specs.Configuration.{spoken}
 use Rattle.nc_reader.specs.Gathering.{IsLine, Gathers, sketch}
 use Rattle.nc_reader.specs.Readings.{lines_in}
 use Rattle.nc_reader.specs.Steps.{Kind, Banner, Idle, Member, Heads, kind_of, Sketch, IsSteady, blank, with_value, put_at, joined, stepped}
@@ -19,7 +20,8 @@ use Rattle.nc_reader.specs.declared.gather.Draft.{Draft}
 use Rattle.nc_reader.specs.declared.gather.Gathered.{Gathered}
 use Rattle.nc_reader.proofs.GroupLemmas.{keys_of, place_known, place_with_key, known-with_key}
 use Rattle.nc_reader.proofs.KindLemmas.{role_by, open_by, block_by, role_is, open_is, block_is}
-use Rattle.nc_reader.proofs.SeenLemmas.{Sees, within_of, IsBlock, sees_more}
+use Rattle.nc_reader.proofs.SeenLemmas.{Sees, IsBlock, sees_more}
+use Rattle.nc_reader.proofs.TopicLemmas.{same_topic_equiv}
 
 -- what the lines up to a number make
 pub record IsSoFar (lines : List (List ℕ)) (count : ℕ) (s : Sketch) : Type 0 where
@@ -30,10 +32,9 @@ pub record IsSoFar (lines : List (List ℕ)) (count : ℕ) (s : Sketch) : Type 0
   pub whole : roles_from [] lines ≡ seen ++ roles_from earlier (drop count lines)
   pub gathered : Sees seen s
   pub in_banner : s.in_banner ≡ is_open earlier
-  pub block : IsBlock s.names (block_of earlier) s.block
+  pub block : IsBlock s.topics (block_of earlier) s.block
   pub steady : IsSteady s
   pub block_lines : All (All (IsLine lines)) s.blocks
-  pub lines_of_routes : All (IsLine lines) s.routes
 
 -- ---- before the first line
 
@@ -45,12 +46,11 @@ begins_blank lines =
       seen = [];
       behind = refl;
       whole = refl;
-      gathered = record { name = refl; names = refl; blocks = refl; routes = refl; fault = refl };
+      gathered = record { name = refl; topics = refl; blocks = refl; fault = refl };
       in_banner = refl;
       block = refl;
       steady = record { blocks = refl; block = tt };
       block_lines = All-nil (All (IsLine lines));
-      lines_of_routes = All-nil (IsLine lines);
     }
 
 -- ---- one more line
@@ -80,22 +80,25 @@ open_step line Member s = join_open line s.block s
 open_step line (Heads Passed) s = refl
 open_step line (Heads (Wrong cause)) s = refl
 open_step line (Heads (Names name)) s = refl
-open_step line (Heads (Within name)) s = refl
-open_step line (Heads Routes) s = refl
+open_step line (Heads (Within topic)) s = refl
 
-block_join : (line : ℕ) (place : Option ℕ) (s : Sketch) (block : Option (List ℕ)) → IsBlock s.names block s.block → IsBlock (joined line place s).names block (joined line place s).block
+block_join : (line : ℕ) (place : Option ℕ) (s : Sketch) (block : Option Topic) → IsBlock s.topics block s.block → IsBlock (joined line place s).topics block (joined line place s).block
 block_join line None s block is = is
 block_join line (Some place) s block is = is
 
-block_step : (line : ℕ) (kind : Kind) (s : Sketch) (block : Option (List ℕ)) → IsBlock s.names block s.block → IsBlock (stepped line kind s).names (block_by kind block) (stepped line kind s).block
+block_step : (line : ℕ) (kind : Kind) (s : Sketch) (block : Option Topic) → IsBlock s.topics block s.block → IsBlock (stepped line kind s).topics (block_by kind block) (stepped line kind s).block
 block_step line (Banner in_banner cause) s block is = is
 block_step line Idle s block is = is
 block_step line Member s block is = block_join line s.block s block is
 block_step line (Heads Passed) s block is = refl
 block_step line (Heads (Wrong cause)) s block is = refl
 block_step line (Heads (Names name)) s block is = refl
-block_step line (Heads (Within name)) s block is = (ap (λ (k : ℕ). Some k) (sym (place_with_key nat_list_eq_equiv s.names name)), known-with_key nat_list_eq_equiv s.names name)
-block_step line (Heads Routes) s block is = refl
+block_step line (Heads (Within topic)) s block is =
+    opens (has_block topic)
+  where
+    opens : (b : Bool) → IsBlock (with_key same_topic s.topics topic) (cond b (Some topic) None) (cond b (Some (position_or_len (same_topic topic) s.topics)) None)
+    opens true = (ap (λ (k : ℕ). Some k) (sym (place_with_key same_topic_equiv s.topics topic)), known-with_key same_topic_equiv s.topics topic)
+    opens false = refl
 
 -- ---- the lines exist
 
@@ -119,34 +122,19 @@ blocks-lines P line Member s p all = join-lines P line s.block s p all
 blocks-lines P line (Heads Passed) s p all = all
 blocks-lines P line (Heads (Wrong cause)) s p all = all
 blocks-lines P line (Heads (Names name)) s p all = all
-blocks-lines P line (Heads (Within name)) s p all = put_at-lines P (list_any (bytes_eq name) s.names) line (position_or_len (bytes_eq name) s.names) s.blocks p all
-blocks-lines P line (Heads Routes) s p all = all
-
-join-routes : (P : ℕ → Type 0) (line : ℕ) (place : Option ℕ) (s : Sketch) → All P s.routes → All P (joined line place s).routes
-join-routes P line None s all = all
-join-routes P line (Some place) s all = all
-
-routes-lines : (P : ℕ → Type 0) (line : ℕ) (kind : Kind) (s : Sketch) → P line → All P s.routes → All P (stepped line kind s).routes
-routes-lines P line (Banner in_banner cause) s p all = all
-routes-lines P line Idle s p all = all
-routes-lines P line Member s p all = join-routes P line s.block s all
-routes-lines P line (Heads Passed) s p all = all
-routes-lines P line (Heads (Wrong cause)) s p all = all
-routes-lines P line (Heads (Names name)) s p all = all
-routes-lines P line (Heads (Within name)) s p all = all
-routes-lines P line (Heads Routes) s p all = All-push P s.routes line all p
+blocks-lines P line (Heads (Within topic)) s p all = put_at-lines P (list_any (same_topic topic) s.topics) line (position_or_len (same_topic topic) s.topics) s.blocks p all
 
 -- ---- together
 
-within_blocks : (s : Sketch) (place : Option ℕ) (block : Option (List ℕ)) → IsBlock s.names block place → length s.blocks ≡ length s.names → IfSome place (λ p. p < length s.blocks)
+within_blocks : (s : Sketch) (place : Option ℕ) (block : Option Topic) → IsBlock s.topics block place → length s.blocks ≡ length s.topics → IfSome place (λ p. p < length s.blocks)
 within_blocks s place None is keyed = subst (λ (o : Option ℕ). IfSome o (λ p. p < length s.blocks)) (sym is) tt
-within_blocks s place (Some name) is keyed =
-    let below = place_known bytes_eq s.names name is.1 in
+within_blocks s place (Some topic) is keyed =
+    let below = place_known same_topic s.topics topic is.1 in
     subst (λ (o : Option ℕ). IfSome o (λ p. p < length s.blocks)) (sym is.0) (omega arith)
 
-steady_is : (seen : List Placed) (s : Sketch) (block : Option (List ℕ)) → Sees seen s → IsBlock s.names block s.block → IsSteady s
+steady_is : (seen : List Placed) (s : Sketch) (block : Option Topic) → Sees seen s → IsBlock s.topics block s.block → IsSteady s
 steady_is seen s block h is =
-    let keyed : length s.blocks ≡ length s.names = ap length h.blocks ∙ length-map (groups bytes_eq (within_of seen)) (λ g. g.values) ∙ length-map _ _ ∙ sym (ap length h.names) in
+    let keyed : length s.blocks ≡ length s.topics = ap length h.blocks ∙ length-map (groups same_topic (spoken seen)) (λ g. g.values) ∙ length-map _ _ ∙ sym (ap length h.topics) in
     record { blocks = keyed; block = within_blocks s s.block block is keyed }
 
 more_by : (lines : List (List ℕ)) (count : ℕ) (s : Sketch) (kind : Kind) → count < length lines → (h : IsSoFar lines count s)
@@ -160,8 +148,8 @@ more_by lines count s kind some h role opens block =
     let r : Placed = record { line = count + 1; role = role_by kind (block_of h.earlier) } in
     let is_next : IsLine lines (count + 1) = (omega arith, omega arith) in
     let gathered : Sees (h.seen ++ r ∷ []) (stepped (count + 1) kind s) = sees_more h.seen s (count + 1) kind (block_of h.earlier) h.block h.gathered in
-    let in_block : IsBlock (stepped (count + 1) kind s).names (block_of (line ∷ h.earlier)) (stepped (count + 1) kind s).block =
-    subst (λ (b : Option (List ℕ)). IsBlock (stepped (count + 1) kind s).names b (stepped (count + 1) kind s).block) (sym block) (block_step (count + 1) kind s (block_of h.earlier) h.block) in
+    let in_block : IsBlock (stepped (count + 1) kind s).topics (block_of (line ∷ h.earlier)) (stepped (count + 1) kind s).block =
+    subst (λ (b : Option Topic). IsBlock (stepped (count + 1) kind s).topics b (stepped (count + 1) kind s).block) (sym block) (block_step (count + 1) kind s (block_of h.earlier) h.block) in
     record {
       earlier = line ∷ h.earlier;
       seen = h.seen ++ r ∷ [];
@@ -176,7 +164,6 @@ more_by lines count s kind some h role opens block =
       block = in_block;
       steady = steady_is (h.seen ++ r ∷ []) (stepped (count + 1) kind s) (block_of (line ∷ h.earlier)) gathered in_block;
       block_lines = blocks-lines (IsLine lines) (count + 1) kind s is_next h.block_lines;
-      lines_of_routes = routes-lines (IsLine lines) (count + 1) kind s is_next h.lines_of_routes;
     }
 
 pub one_more : (lines : List (List ℕ)) (count : ℕ) (s : Sketch) → count < length lines → IsSoFar lines count s → IsSoFar lines (count + 1) (stepped (count + 1) (kind_of s.in_banner (line_at (count + 1) lines) (drop (count + 1) lines)) s)
@@ -202,17 +189,15 @@ keys_are : {K V : Type 0} (f : K → List V) (keys : List K) → map (λ (g : Gr
 keys_are f [] = refl
 keys_are {K} f (key ∷ keys) = ap (λ (ks : List K). key ∷ ks) (keys_are f keys)
 
-pub all_gathered : (lines : List (List ℕ)) (count : ℕ) (d : Draft) (g : Gathered) → length lines ≤ count → IsSoFar lines count (sketch d) → g.name ≡ d.name → g.names ≡ d.names → g.interfaces ≡ d.blocks → g.routes ≡ d.routes → g.fault ≡ d.fault → Gathers lines g
-all_gathered lines count d g none h name names interfaces routes fault =
+pub all_gathered : (lines : List (List ℕ)) (count : ℕ) (d : Draft) (g : Gathered) → length lines ≤ count → IsSoFar lines count (sketch d) → g.name ≡ d.name → g.topics ≡ d.topics → g.blocks ≡ d.blocks → g.fault ≡ d.fault → Gathers lines g
+all_gathered lines count d g none h name topics blocks fault =
     let seen : h.seen ≡ roles_from [] lines =
     sym (append-nil h.seen) ∙ sym (ap (λ (rs : List Placed). h.seen ++ rs) (roles_end h.earlier)) ∙ sym (ap (λ (ls : List (List ℕ)). h.seen ++ roles_from h.earlier ls) (drop_all count lines none)) ∙ sym h.whole in
     let sees = subst (λ (rs : List Placed). Sees rs (sketch d)) seen h.gathered in
     record {
       name = name ∙ sees.name;
-      names = ap (λ ns. ns.keys) names ∙ sees.names ∙ sym (keys_are (λ (key : List ℕ). of_key bytes_eq key (within_of (roles_from [] lines))) (keys_of bytes_eq (within_of (roles_from [] lines))));
-      interfaces = ap (λ bs. lines_in bs.items) interfaces ∙ sees.blocks;
-      routes = ap (λ rs. rs.items) routes ∙ sees.routes;
+      topics = ap (λ ts. ts.keys) topics ∙ sees.topics ∙ sym (keys_are (λ (key : Topic). of_key same_topic key (spoken (roles_from [] lines))) (keys_of same_topic (spoken (roles_from [] lines))));
+      blocks = ap (λ bs. lines_in bs.items) blocks ∙ sees.blocks;
       fault = fault ∙ sees.fault;
-      block_lines = subst (λ bs. All (λ (b : Block). All (IsLine lines) b.lines.items) bs.items) (sym interfaces) (All-unmap (All (IsLine lines)) (λ (b : Block). b.lines.items) d.blocks.items h.block_lines);
-      lines_of_routes = subst (λ rs. All (IsLine lines) rs.items) (sym routes) h.lines_of_routes;
+      block_lines = subst (λ bs. All (λ (b : Block). All (IsLine lines) b.lines.items) bs.items) (sym blocks) (All-unmap (All (IsLine lines)) (λ (b : Block). b.lines.items) d.blocks.items h.block_lines);
     }

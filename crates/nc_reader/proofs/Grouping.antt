@@ -2,16 +2,28 @@
 use Rattle.std.proofs.Common.{◌≡◌, ℕ, Bool, false, cond, List, [], ◌∷◌, ◌++◌, map, refl, sym, ap, ◌∙◌, subst, inl, inr, filter}
 use Rattle.std.specs.Prelude.{◌⊎◌, ◌≢◌}
 use Rattle.std.specs.Bool.{Decides}
+use Rattle.std.specs.Cmp.{IsEquivalence}
 use Rattle.std.specs.List.{list_any}
 use Rattle.std.proofs.lemmas.Bool.{cases_Bool, cond_both, or_parts, both_ways}
 use Rattle.std.proofs.lemmas.List.{append-nil}
 use Rattle.std.proofs.lemmas.List.Folds.{list_any-append}
+use Rattle.nc_types.proofs.Members.{in_by_map, in_by_filter}
+use Rattle.nc_types.proofs.Truth.{same_truth}
 use Rattle.nc_reader.specs.Groups.{Keyed, Group, keys_from, of_key, groups}
 use Rattle.nc_reader.proofs.GroupLemmas.{passed_by, taken}
-use Rattle.nc_reader.proofs.Members.{Has, has_map, has_passed, Pairs, pairs_map, Ascends, ascends_map, ascends_filter, ascends_one}
+use Rattle.nc_reader.proofs.Members.{Has, Pairs, pairs_map, Ascends, ascends_map, ascends_filter, ascends_one}
 
 abbrev pub IsSame : {K : Type 0} → (K → K → Bool) → Type 0
 IsSame {K} same = (a b : K) → Decides (same a b) (a ≡ b)
+
+-- a test of sameness is an equivalence
+pub equiv_of : {K : Type 0} {same : K → K → Bool} → IsSame same → IsEquivalence same
+equiv_of {K} {same} is =
+    record {
+      refl = λ x. (is x x).1 refl;
+      symm = λ x y. same_truth (same x y) (same y x) (λ e. (is y x).1 (sym ((is x y).0 e))) (λ e. (is x y).1 (sym ((is y x).0 e)));
+      congr = λ x y z e. ap (λ (w : K). same w z) ((is x y).0 e);
+    }
 
 -- ---- keys
 
@@ -82,8 +94,8 @@ fresh_apart {K} same is known (x ∷ keys) =
 
 has_of_key : {K V : Type 0} (same : K → K → Bool) → IsSame same → (key : K) (ps : List (Keyed K V)) (v : V) → Has (of_key same key ps) v → (p : Keyed K V) × Has ps p × (p.key ≡ key) × (p.value ≡ v)
 has_of_key {K} {V} same is key ps v h =
-    let found = has_map (λ (p : Keyed K V). p.value) (filter (λ (p : Keyed K V). same key p.key) ps) v h in
-    let passed = has_passed (λ (p : Keyed K V). same key p.key) ps found.0 found.1 in
+    let found = in_by_map (λ (p : Keyed K V). p.value) (filter (λ (p : Keyed K V). same key p.key) ps) v h in
+    let passed = in_by_filter (λ (p : Keyed K V). same key p.key) ps found.0 found.1 in
     (found.0, passed.0, sym ((is key found.0.key).0 passed.1), found.2)
 
 some_of_key : {K V : Type 0} (same : K → K → Bool) → IsSame same → (key : K) (ps : List (Keyed K V)) → Has (map (λ p. p.key) ps) key → (v : V) × (vs : List V) × (of_key same key ps ≡ v ∷ vs)
@@ -107,7 +119,7 @@ groups_fresh {K} {V} same ps = ap (map (group_of same ps)) (keys_split same [] (
 pub grouped : {K V : Type 0} (same : K → K → Bool) → IsSame same → (ps : List (Keyed K V)) (g : Group K V) → Has (groups same ps) g → (g.values ≡ of_key same g.key ps) × ((v : V) × (vs : List V) × (g.values ≡ v ∷ vs))
 grouped {K} {V} same is ps g h =
     let keys = map (λ (p : Keyed K V). p.key) ps in
-    let found = has_map (group_of same ps) (fresh same [] keys) g (subst (λ (gs : List (Group K V)). Has gs g) (groups_fresh same ps) h) in
+    let found = in_by_map (group_of same ps) (fresh same [] keys) g (subst (λ (gs : List (Group K V)). Has gs g) (groups_fresh same ps) h) in
     let own : g.values ≡ of_key same g.key ps = subst (λ (g : Group K V). g.values ≡ of_key same g.key ps) found.2 refl in
     let key : found.0 ≡ g.key = ap (λ (g : Group K V). g.key) found.2 in
     let some = some_of_key same is g.key ps (subst (λ (k : K). Has keys k) key (fresh_mentioned same [] keys found.0 found.1)) in

@@ -6,11 +6,12 @@ use Rattle.nc_types.specs.declared.fault.Cause.{Cause}
 use Rattle.nc_types.specs.declared.fault.Cause.TheVariants.{Syntax, Unsupported}
 use Rattle.nc_lines.specs.Lines.{words_of, is_indented}
 use Rattle.nc_lines.specs.Blocks.{is_idle, begins_banner, has_mark, leaves_open, is_open, header_of}
+use Rattle.nc_reader.specs.declared.topic.Topic.{Topic}
 use Rattle.nc_reader.specs.Roles.{Role, Passed, Wrong, header_role, opened_by, block_of, member_role, banner_role, role_of}
 use Rattle.nc_reader.specs.Steps.{Kind, Banner, Idle, Member, Heads, banner_fault, kind_of}
 
 -- what a line of this kind is, in this block
-abbrev pub role_by : Kind → Option (List ℕ) → Role
+abbrev pub role_by : Kind → Option Topic → Role
 role_by (Banner in_banner None) block = Passed
 role_by (Banner in_banner (Some cause)) block = Wrong cause
 role_by Idle block = Passed
@@ -25,7 +26,7 @@ open_by Member before = before
 open_by (Heads role) before = before
 
 -- the block behind it
-abbrev pub block_by : Kind → Option (List ℕ) → Option (List ℕ)
+abbrev pub block_by : Kind → Option Topic → Option Topic
 block_by (Banner in_banner cause) block = block
 block_by Idle block = block
 block_by Member block = block
@@ -36,12 +37,12 @@ block_by (Heads role) block = opened_by role
 abbrev kind_by : Bool → Bool → Bool → Bool → Kind → Kind → Role → Kind
 kind_by o b i d text banner header = cond o text (cond b banner (cond i Idle (cond d Member (Heads header))))
 
-banner_by : (mark stays : Bool) (block : Option (List ℕ)) (in_banner : Bool) → cond (not mark) (Wrong Unsupported) (cond stays (Wrong Syntax) Passed) ≡ role_by (Banner in_banner (cond (not mark) (Some Unsupported) (cond stays (Some Syntax) None))) block
+banner_by : (mark stays : Bool) (block : Option Topic) (in_banner : Bool) → cond (not mark) (Wrong Unsupported) (cond stays (Wrong Syntax) Passed) ≡ role_by (Banner in_banner (cond (not mark) (Some Unsupported) (cond stays (Some Syntax) None))) block
 banner_by false stays block in_banner = refl
 banner_by true true block in_banner = refl
 banner_by true false block in_banner = refl
 
-role_kind : (o b i d : Bool) (mark : Bool) (banner : Kind) (first header : Role) (block : Option (List ℕ)) → first ≡ role_by banner block
+role_kind : (o b i d : Bool) (mark : Bool) (banner : Kind) (first header : Role) (block : Option Topic) → first ≡ role_by banner block
     → cond o Passed (cond b first (cond i Passed (cond d (member_role block) header))) ≡ role_by (kind_by o b i d (Banner mark None) banner header) block
 role_kind true b i d mark banner first header block e = refl
 role_kind false true i d mark banner first header block e = e
@@ -56,7 +57,7 @@ open_kind false false true d mark stays cause header = refl
 open_kind false false false true mark stays cause header = refl
 open_kind false false false false mark stays cause header = refl
 
-block_kind : (o b i d mark stays : Bool) (cause : Option Cause) (before : Option (List ℕ)) (line : List ℕ) (opens : List ℕ → Option (List ℕ)) (header : Role) → opens line ≡ opened_by header
+block_kind : (o b i d mark stays : Bool) (cause : Option Cause) (before : Option (List ℕ)) (line : List ℕ) (opens : List ℕ → Option Topic) (header : Role) → opens line ≡ opened_by header
     → option_and_then opens (cond (o || (b || (d || i))) before (Some line)) ≡ block_by (kind_by o b i d (Banner mark None) (Banner stays cause) header) (option_and_then opens before)
 block_kind true b i d mark stays cause before line opens header e = refl
 block_kind false true i d mark stays cause before line opens header e = refl

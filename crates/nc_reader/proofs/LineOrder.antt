@@ -1,18 +1,19 @@
--- The lines of a file are numbered in order, each is one thing, and the first line of an interface is a header.
-use Rattle.std.proofs.Common.{◌≡◌, ℕ, suc, ◌+◌, ◌-◌, ◌≤◌, Bool, false, cond, not, List, [], ◌∷◌, length, get_or, Option, Some, None, refl, sym, ap, ◌∙◌, subst, arith, inl, inr}
+-- The lines of a file are numbered in order, and the first line of a topic that has blocks is a header.
+use Rattle.std.proofs.Common.{◌≡◌, ℕ, suc, ◌+◌, ◌-◌, ◌≤◌, Bool, false, cond, not, List, [], ◌∷◌, length, get_or, Option, Some, None, sym, ap, ◌∙◌, subst, arith, inl, inr}
 use Rattle.std.specs.Prelude.{◌⊎◌}
-use Rattle.std.specs.List.{filter_map, cons_option}
-use Rattle.std.specs.Str.{bytes_eq}
+use Rattle.std.specs.List.{cons_option}
 use Rattle.std.proofs.lemmas.Bool.{cases_Bool, cond_both, or_parts, both_ways, cond-false}
-use Rattle.std.proofs.lemmas.Slice.Eq.{bytes_eq-Decides}
 use Rattle.nc_types.specs.declared.fault.Cause.TheVariants.{Syntax}
 use Rattle.nc_lines.specs.Lines.{words_of, is_indented, line_at}
 use Rattle.nc_lines.specs.Blocks.{is_idle, begins_banner, has_mark, is_open, is_passed, header_of}
+use Rattle.nc_reader.specs.declared.topic.Topic.{Topic}
 use Rattle.nc_reader.specs.Groups.{Keyed, of_key}
-use Rattle.nc_reader.specs.Roles.{Role, Passed, Wrong, Names, Within, Routes, Placed, header_role, opened_by, block_of, member_role, role_of, roles_from}
-use Rattle.nc_reader.specs.Configuration.{within_at, route_at, route_lines}
-use Rattle.nc_reader.proofs.Members.{Has, has_kept, Ascends, ascends_kept, ascends_one}
+use Rattle.nc_reader.specs.Roles.{Role, Passed, Wrong, Names, Within, Placed, header_role, opened_by, block_of, member_role, role_of, roles_from}
+use Rattle.nc_reader.specs.Topics.{same_topic, has_block}
+use Rattle.nc_reader.specs.Configuration.{spoken_at, spoken}
+use Rattle.nc_reader.proofs.Members.{Ascends, ascends_kept}
 use Rattle.nc_reader.proofs.GroupLemmas.{passed_by, taken}
+use Rattle.nc_reader.proofs.TopicLemmas.{topics_same}
 
 -- ---- numbers
 
@@ -26,67 +27,48 @@ roles_ascend earlier (line ∷ lines) high le =
       subst (λ (k : ℕ). Ascends (λ (r : Placed). r.line) k high (roles_from (line ∷ earlier) lines)) e (roles_ascend (line ∷ earlier) lines high (omega (arith, le))),
     )
 
--- the lines of interfaces
-abbrev pub withins : List Placed → List (Keyed (List ℕ) ℕ)
-withins rs = filter_map (λ r. within_at r.line r.role) rs
+spoken_line : (line : ℕ) (role : Role) (p : Keyed Topic ℕ) → spoken_at line role ≡ Some p → p.value ≡ line
+spoken_line line Passed p e = absurd cc
+spoken_line line (Wrong cause) p e = absurd cc
+spoken_line line (Names name) p e = absurd cc
+spoken_line line (Within topic) p e =
+    let same : record { key = topic; value = line } ≡ p = cc in
+    sym (ap (λ (p : Keyed Topic ℕ). p.value) same)
 
-within_says : (line : ℕ) (role : Role) (p : Keyed (List ℕ) ℕ) → within_at line role ≡ Some p → (p.value ≡ line) × (role ≡ Within p.key)
-within_says line Passed p e = absurd cc
-within_says line (Wrong cause) p e = absurd cc
-within_says line (Names name) p e = absurd cc
-within_says line (Within name) p e =
-    let same : record { key = name; value = line } ≡ p = cc in
-    (sym (ap (λ (p : Keyed (List ℕ) ℕ). p.value) same), ap (λ (p : Keyed (List ℕ) ℕ). Within p.key) same)
-within_says line Routes p e = absurd cc
-
-route_says : (line : ℕ) (role : Role) (k : ℕ) → route_at line role ≡ Some k → (k ≡ line) × (role ≡ Routes)
-route_says line Passed k e = absurd cc
-route_says line (Wrong cause) k e = absurd cc
-route_says line (Names name) k e = absurd cc
-route_says line (Within name) k e = absurd cc
-route_says line Routes k e = (cc, refl)
-
-pub withins_ascend : (low high : ℕ) (rs : List Placed) → Ascends (λ (r : Placed). r.line) low high rs → Ascends (λ (p : Keyed (List ℕ) ℕ). p.value) low high (withins rs)
-withins_ascend low high rs up =
-    ascends_kept (λ (r : Placed). within_at r.line r.role) (λ (r : Placed). r.line) (λ (p : Keyed (List ℕ) ℕ). p.value) (λ r p e. (within_says r.line r.role p e).0) low high rs up
-
-pub routes_ascend : (low high : ℕ) (rs : List Placed) → Ascends (λ (r : Placed). r.line) low high rs → Ascends (λ (k : ℕ). k) low high (route_lines rs)
-routes_ascend low high rs up = ascends_kept (λ (r : Placed). route_at r.line r.role) (λ (r : Placed). r.line) (λ (k : ℕ). k) (λ r k e. (route_says r.line r.role k e).0) low high rs up
-
--- no line is of an interface and of a static route
-pub one_thing : (low high : ℕ) (rs : List Placed) → Ascends (λ (r : Placed). r.line) low high rs → (p : Keyed (List ℕ) ℕ) (k : ℕ) → Has (withins rs) p → Has (route_lines rs) k → p.value ≡ k → ⊥
-one_thing low high rs up p k hp hk e =
-    let a = has_kept (λ (r : Placed). within_at r.line r.role) rs p hp in
-    let b = has_kept (λ (r : Placed). route_at r.line r.role) rs k hk in
-    let within = within_says a.0.line a.0.role p a.2 in
-    let route = route_says b.0.line b.0.role k b.2 in
-    let one : a.0 ≡ b.0 = ascends_one (λ (r : Placed). r.line) low high rs up a.0 b.0 a.1 b.1 (sym within.0 ∙ e ∙ route.0) in
-    let both : Within p.key ≡ Routes = sym within.1 ∙ ap (λ (r : Placed). r.role) one ∙ route.1 in
-    absurd cc
+-- so are the lines that speak of topics
+pub spoken_ascend : (lines : List (List ℕ)) → Ascends (λ (p : Keyed Topic ℕ). p.value) 0 (length lines) (spoken (roles_from [] lines))
+spoken_ascend lines =
+    ascends_kept (λ (r : Placed). spoken_at r.line r.role) (λ (r : Placed). r.line) (λ (p : Keyed Topic ℕ). p.value) (λ r p e. spoken_line r.line r.role p e) 0 (length lines) (roles_from [] lines) (roles_ascend [] lines (length lines) (omega arith))
 
 -- ---- headers
 
-member_of : (o : Option (List ℕ)) (name : List ℕ) → member_role o ≡ Within name → o ≡ Some name
-member_of None name e = absurd cc
-member_of (Some a) name e = let same : a ≡ name = cc in ap (λ (n : List ℕ). Some n) same
+member_of : (o : Option Topic) (topic : Topic) → member_role o ≡ Within topic → o ≡ Some topic
+member_of None topic e = absurd cc
+member_of (Some t) topic e = let same : t ≡ topic = cc in ap (λ (t : Topic). Some t) same
 
-opener_of : (r : Role) (name : List ℕ) → opened_by r ≡ Some name → r ≡ Within name
-opener_of Passed name e = absurd cc
-opener_of (Wrong cause) name e = absurd cc
-opener_of (Names a) name e = absurd cc
-opener_of (Within a) name e = let same : a ≡ name = cc in ap Within same
-opener_of Routes name e = absurd cc
+opener_of : (r : Role) (topic : Topic) → opened_by r ≡ Some topic → r ≡ Within topic
+opener_of Passed topic e = absurd cc
+opener_of (Wrong cause) topic e = absurd cc
+opener_of (Names a) topic e = absurd cc
+opener_of (Within t) topic e =
+    cond_both (has_block t) (Some t) None (λ (o : Option Topic). o ≡ Some topic → Within t ≡ Within topic) (λ _ e. let same : t ≡ topic = cc in ap Within same) (λ _ e. absurd cc) e
 
--- an unindented line, or an indented one in the block of the interface
-within_cases : (earlier : List (List ℕ)) (line : List ℕ) (later : List (List ℕ)) (name : List ℕ) → role_of earlier line later ≡ Within name → (is_indented line ≡ false) ⊎ (block_of earlier ≡ Some name)
+-- what a line is that opens a block
+abbrev pub IsHeader : List ℕ → Topic → Type 0
+IsHeader line topic = (is_indented line ≡ false) × (header_role (words_of line) ≡ Within topic)
+
+-- a line on a topic is a statement, or an indented one in a block of the topic
+abbrev Stands : List (List ℕ) → List ℕ → Topic → Role → Type 0
+Stands earlier line topic r = r ≡ Within topic → IsHeader line topic ⊎ (block_of earlier ≡ Some topic)
+
+within_cases : (earlier : List (List ℕ)) (line : List ℕ) (later : List (List ℕ)) (topic : Topic) → Stands earlier line topic (role_of earlier line later)
 unfolding role_of
-within_cases earlier line later name =
-    cond_both (is_open earlier) _ _ (λ (r : Role). r ≡ Within name → (is_indented line ≡ false) ⊎ (block_of earlier ≡ Some name)) (λ _ e. absurd cc)
-    (λ _. cond_both (begins_banner line) _ _ (λ (r : Role). r ≡ Within name → (is_indented line ≡ false) ⊎ (block_of earlier ≡ Some name))
-    (λ _. cond_both (not (has_mark line)) _ _ (λ (r : Role). r ≡ Within name → (is_indented line ≡ false) ⊎ (block_of earlier ≡ Some name)) (λ _ e. absurd cc)
-    (λ _. cond_both _ (Wrong Syntax) Passed (λ (r : Role). r ≡ Within name → (is_indented line ≡ false) ⊎ (block_of earlier ≡ Some name)) (λ _ e. absurd cc) (λ _ e. absurd cc)))
-    (λ _. cond_both (is_idle (words_of line)) _ _ (λ (r : Role). r ≡ Within name → (is_indented line ≡ false) ⊎ (block_of earlier ≡ Some name)) (λ _ e. absurd cc)
-    (λ _. cond_both (is_indented line) _ _ (λ (r : Role). r ≡ Within name → (is_indented line ≡ false) ⊎ (block_of earlier ≡ Some name)) (λ _ e. inr (member_of (block_of earlier) name e)) (λ outer e. inl outer))))
+within_cases earlier line later topic =
+    cond_both (is_open earlier) _ _ (Stands earlier line topic) (λ _ e. absurd cc)
+    (λ _. cond_both (begins_banner line) _ _ (Stands earlier line topic)
+    (λ _. cond_both (not (has_mark line)) _ _ (Stands earlier line topic) (λ _ e. absurd cc) (λ _. cond_both _ (Wrong Syntax) Passed (Stands earlier line topic) (λ _ e. absurd cc) (λ _ e. absurd cc)))
+    (λ _. cond_both (is_idle (words_of line)) _ _ (Stands earlier line topic) (λ _ e. absurd cc)
+    (λ _. cond_both (is_indented line) _ _ (Stands earlier line topic) (λ _ e. inr (member_of (block_of earlier) topic e)) (λ outer e. inl (outer, e)))))
 
 header_plain : (earlier : List (List ℕ)) (line : List ℕ) (later : List (List ℕ)) → is_passed earlier line ≡ false → role_of earlier line later ≡ header_role (words_of line)
 unfolding role_of
@@ -96,58 +78,57 @@ header_plain earlier line later e =
     let third = or_parts (is_indented line) _ second.1 in
     cond-false (is_open earlier) _ _ first.0 ∙ cond-false (begins_banner line) _ _ second.0 ∙ cond-false (is_idle (words_of line)) _ _ third.1 ∙ cond-false (is_indented line) _ _ third.0
 
-block_next : (earlier : List (List ℕ)) (line : List ℕ) (later : List (List ℕ)) (name : List ℕ) → block_of (line ∷ earlier) ≡ Some name → (block_of earlier ≡ Some name) ⊎ (role_of earlier line later ≡ Within name)
+block_next : (earlier : List (List ℕ)) (line : List ℕ) (later : List (List ℕ)) (topic : Topic) → block_of (line ∷ earlier) ≡ Some topic → (block_of earlier ≡ Some topic) ⊎ (role_of earlier line later ≡ Within topic)
 unfolding header_of
-block_next earlier line later name e =
+block_next earlier line later topic e =
     elim (cases_Bool (is_passed earlier line)) [
       | inl passed ↦ inl (sym (ap (λ (b : Bool). opened (cond b (header_of earlier) (Some line))) passed) ∙ e)
-      | inr header ↦ inr (header_plain earlier line later header ∙ opener_of (header_role (words_of line)) name (sym (ap (λ (b : Bool). opened (cond b (header_of earlier) (Some line))) header) ∙ e))
+      | inr header ↦ inr (header_plain earlier line later header ∙ opener_of (header_role (words_of line)) topic (sym (ap (λ (b : Bool). opened (cond b (header_of earlier) (Some line))) header) ∙ e))
     ]
   where
-    opened : Option (List ℕ) → Option (List ℕ)
+    opened : Option (List ℕ) → Option Topic
     opened None = None
     opened (Some header) = opened_by (header_role (words_of header))
 
--- the first of these lines, if there is one, isn't indented
-abbrev pub Starts : List (List ℕ) → List ℕ → Type 0
-Starts lines [] = Unit {0}
-Starts lines (k ∷ ks) = is_indented (line_at k lines) ≡ false
+-- the first of these lines, if there is one, is a header of the topic
+abbrev pub Starts : List (List ℕ) → Topic → List ℕ → Type 0
+Starts lines topic [] = Unit {0}
+Starts lines topic (k ∷ ks) = IsHeader (line_at k lines) topic
 
-starts_more : (whole : List (List ℕ)) (name : List ℕ) (n : ℕ) (role : Role) (rest : List (Keyed (List ℕ) ℕ))
-    → (role ≡ Within name → is_indented (line_at n whole) ≡ false) → ((role ≡ Within name → ⊥) → Starts whole (of_key bytes_eq name rest)) → Starts whole (of_key bytes_eq name (cons_option (within_at n role) rest))
-starts_more whole name n Passed rest first later = later (λ e. absurd cc)
-starts_more whole name n (Wrong cause) rest first later = later (λ e. absurd cc)
-starts_more whole name n (Names a) rest first later = later (λ e. absurd cc)
-starts_more whole name n (Within a) rest first later =
-    let p : Keyed (List ℕ) ℕ = record { key = a; value = n } in
-    elim (cases_Bool (bytes_eq name a)) [
-      | inl same ↦ subst (Starts whole) (sym (taken bytes_eq name p rest same)) (first (ap Within (sym ((bytes_eq-Decides name a).0 same))))
+starts_more : (whole : List (List ℕ)) (topic : Topic) (n : ℕ) (role : Role) (rest : List (Keyed Topic ℕ))
+    → (role ≡ Within topic → IsHeader (line_at n whole) topic) → ((role ≡ Within topic → ⊥) → Starts whole topic (of_key same_topic topic rest)) → Starts whole topic (of_key same_topic topic (cons_option (spoken_at n role) rest))
+starts_more whole topic n Passed rest first later = later (λ e. absurd cc)
+starts_more whole topic n (Wrong cause) rest first later = later (λ e. absurd cc)
+starts_more whole topic n (Names a) rest first later = later (λ e. absurd cc)
+starts_more whole topic n (Within t) rest first later =
+    let p : Keyed Topic ℕ = record { key = t; value = n } in
+    elim (cases_Bool (same_topic topic t)) [
+      | inl same ↦ subst (Starts whole topic) (sym (taken same_topic topic p rest same)) (first (ap Within (sym ((topics_same topic t).0 same))))
       | inr other ↦
-          subst (Starts whole) (sym (passed_by bytes_eq name p rest other))
-          (later (λ (e : Within a ≡ Within name). both_ways (bytes_eq name a) other ((bytes_eq-Decides name a).1 (let same : a ≡ name = cc in sym same))))
+          subst (Starts whole topic) (sym (passed_by same_topic topic p rest other))
+          (later (λ (e : Within t ≡ Within topic). both_ways (same_topic topic t) other ((topics_same topic t).1 (let same : t ≡ topic = cc in sym same))))
     ]
-starts_more whole name n Routes rest first later = later (λ e. absurd cc)
 
--- outside a block of the interface its next line is a header
-starts : (whole earlier lines : List (List ℕ)) (name : List ℕ) → ((k : ℕ) → get_or whole (length earlier + k) [] ≡ get_or lines k []) → (block_of earlier ≡ Some name → ⊥)
-    → Starts whole (of_key bytes_eq name (withins (roles_from earlier lines)))
+-- outside a block of the topic its next line is a header
+starts : (whole earlier lines : List (List ℕ)) (topic : Topic) → ((k : ℕ) → get_or whole (length earlier + k) [] ≡ get_or lines k []) → (block_of earlier ≡ Some topic → ⊥)
+    → Starts whole topic (of_key same_topic topic (spoken (roles_from earlier lines)))
 unfolding roles_from
-starts whole earlier [] name at outside = tt
-starts whole earlier (line ∷ later) name at outside =
+starts whole earlier [] topic at outside = tt
+starts whole earlier (line ∷ later) topic at outside =
     let text : line_at (length earlier + 1) whole ≡ line = (let e : length earlier + 1 - 1 ≡ length earlier + 0 = omega arith in ap (λ (k : ℕ). get_or whole k []) e ∙ at 0) in
-    starts_more whole name (length earlier + 1) (role_of earlier line later) (withins (roles_from (line ∷ earlier) later))
-    (λ is. elim (within_cases earlier line later name is) [
-      | inl opens ↦ subst (λ (text : List ℕ). is_indented text ≡ false) (sym text) opens
+    starts_more whole topic (length earlier + 1) (role_of earlier line later) (spoken (roles_from (line ∷ earlier) later))
+    (λ is. elim (within_cases earlier line later topic is) [
+      | inl opens ↦ subst (λ (text : List ℕ). IsHeader text topic) (sym text) opens
       | inr inside ↦ absurd (outside inside)
     ])
-    (λ other. starts whole (line ∷ earlier) later name
+    (λ other. starts whole (line ∷ earlier) later topic
     (λ k. let e : length (line ∷ earlier) + k ≡ length earlier + suc k = omega arith in ap (λ (k : ℕ). get_or whole k []) e ∙ at (suc k))
-    (λ still. elim (block_next earlier line later name still) [
+    (λ still. elim (block_next earlier line later topic still) [
       | inl before ↦ outside before
       | inr within ↦ other within
     ]))
 
--- the first line of an interface is a header
-pub begun : (lines : List (List ℕ)) (name : List ℕ) → Starts lines (of_key bytes_eq name (withins (roles_from [] lines)))
+-- the first line of a topic is a header
+pub begun : (lines : List (List ℕ)) (topic : Topic) → Starts lines topic (of_key same_topic topic (spoken (roles_from [] lines)))
 unfolding header_of
-begun lines name = starts lines [] lines name (λ k. let e : 0 + k ≡ k = omega arith in ap (λ (k : ℕ). get_or lines k []) e) (λ e. absurd cc)
+begun lines topic = starts lines [] lines topic (λ k. let e : 0 + k ≡ k = omega arith in ap (λ (k : ℕ). get_or lines k []) e) (λ e. absurd cc)

@@ -1,74 +1,16 @@
 -- The elements of a list, and what holds of each of them and each later one.
-use Rattle.std.proofs.Common.{◌≡◌, ℕ, zero, suc, ◌+◌, ◌<◌, ◌≤◌, Bool, true, false, cond, List, [], ◌∷◌, ◌++◌, length, map, get_or, Option, Some, None, refl, sym, ap, ◌∙◌, subst, arith, inl, inr, filter}
-use Rattle.std.specs.Prelude.{◌⊎◌, All, Contains, slice_get}
-use Rattle.std.specs.List.{filter_map, cons_option, AllPairs}
+use Rattle.std.proofs.Common.{◌≡◌, ℕ, zero, suc, ◌+◌, ◌<◌, ◌≤◌, Bool, List, [], ◌∷◌, ◌++◌, length, map, get_or, Option, Some, None, refl, sym, ap, ◌∙◌, subst, arith, inl, inr, filter}
+use Rattle.std.specs.Prelude.{◌⊎◌}
+use Rattle.std.specs.List.{filter_map, flat_map, cons_option, AllPairs}
 use Rattle.std.specs.List.Sorted.{IsStrictlyIncreasing}
 use Rattle.std.proofs.lemmas.Bool.{cond_both}
-use Rattle.std.proofs.lemmas.List.Elements.{All-nil, All-cons}
 use Rattle.std.proofs.lemmas.List.Kept.{AllPairs-cons}
+use Rattle.nc_types.proofs.Members.{In, in_by_map, in_by_filter_map, in_either, in_by_flat_map, all_by_in, contains_by_in}
 
 -- ---- elements
 
 abbrev pub Has : {A : Type 0} → List A → A → Type 0
-Has [] x = ⊥
-Has (y ∷ ys) x = (y ≡ x) ⊎ Has ys x
-
-has_place : {A : Type 0} (xs : List A) (x : A) (k : ℕ) → k < length xs → get_or xs k x ≡ x → Has xs x
-has_place [] x k below is = absurd (omega (arith, below))
-has_place (y ∷ ys) x zero below is = inl is
-has_place (y ∷ ys) x (suc k) below is = inr (has_place ys x k (omega (arith, below)) is)
-
-pub has_contained : {A : Type 0} (xs : List A) (x : A) → Contains xs x → Has xs x
-has_contained xs x c = has_place xs x c.0 c.1 c.2
-
-pub all_had : {A : Type 0} (P : A → Type 0) (xs : List A) → ((x : A) → Has xs x → P x) → All P xs
-all_had P [] each = All-nil P
-all_had P (x ∷ xs) each = All-cons P x xs (each x (inl refl)) (all_had P xs (λ y h. each y (inr h)))
-
-pub has_at : {A : Type 0} (xs : List A) (k : ℕ) (x : A) → slice_get xs k ≡ Some x → Has xs x
-has_at [] k x e = absurd cc
-has_at (y ∷ ys) zero x e = inl cc
-has_at (y ∷ ys) (suc k) x e = inr (has_at ys k x e)
-
-pub has_map : {A B : Type 0} (f : A → B) (xs : List A) (y : B) → Has (map f xs) y → (x : A) × Has xs x × (f x ≡ y)
-has_map f [] y h = absurd h
-has_map {A} {B} f (x ∷ xs) y (inl e) = (x, inl refl, e)
-has_map {A} {B} f (x ∷ xs) y (inr h) = let found = has_map f xs y h in (found.0, inr found.1, found.2)
-
-has_more : {A : Type 0} (o : Option A) (xs : List A) (x : A) → Has (cons_option o xs) x → (o ≡ Some x) ⊎ Has xs x
-has_more None xs x h = inr h
-has_more {A} (Some y) xs x (inl e) = inl (ap (λ (z : A). Some z) e)
-has_more (Some y) xs x (inr h) = inr h
-
-pub has_kept : {A B : Type 0} (f : A → Option B) (xs : List A) (y : B) → Has (filter_map f xs) y → (x : A) × Has xs x × (f x ≡ Some y)
-has_kept f [] y h = absurd h
-has_kept {A} {B} f (x ∷ xs) y h =
-    elim (has_more (f x) (filter_map f xs) y h) [
-      | inl e ↦ (x, inl refl, e)
-      | inr later ↦ let found = has_kept f xs y later in (found.0, inr found.1, found.2)
-    ]
-
-first_passed : {A : Type 0} (y : A) (ys : List A) (x : A) (b : Bool) → Has (cond b (y ∷ ys) ys) x → ((y ≡ x) × (b ≡ true)) ⊎ Has ys x
-first_passed y ys x true (inl same) = inl (same, refl)
-first_passed y ys x true (inr later) = inr later
-first_passed y ys x false later = inr later
-
-pub has_passed : {A : Type 0} (p : A → Bool) (xs : List A) (x : A) → Has (filter p xs) x → Has xs x × (p x ≡ true)
-has_passed p [] x h = absurd h
-has_passed {A} p (y ∷ ys) x h =
-    elim (first_passed y (filter p ys) x (p y) h) [
-      | inl here ↦ (inl here.0, ap p (sym here.0) ∙ here.1)
-      | inr later ↦ let found = has_passed p ys x later in (inr found.0, found.1)
-    ]
-
-pub has_either : {A : Type 0} (xs ys : List A) (x : A) → Has (xs ++ ys) x → Has xs x ⊎ Has ys x
-has_either [] ys x h = inr h
-has_either (a ∷ xs) ys x (inl e) = inl (inl e)
-has_either (a ∷ xs) ys x (inr h) =
-    elim (has_either xs ys x h) [
-      | inl left ↦ inl (inr left)
-      | inr right ↦ inr right
-    ]
+Has xs x = In x xs
 
 -- ---- pairs
 
@@ -79,7 +21,7 @@ Pairs {A} R (x ∷ xs) = ((y : A) → Has xs y → R x y) × Pairs R xs
 
 pub all_pairs : {A : Type 0} (R : A → A → Type 0) (xs : List A) → Pairs R xs → AllPairs R xs
 all_pairs R [] pairs = λ i j d less below. absurd (omega (arith, less, below))
-all_pairs R (x ∷ xs) pairs = AllPairs-cons R x xs (all_had (R x) xs pairs.0) (all_pairs R xs pairs.1)
+all_pairs R (x ∷ xs) pairs = AllPairs-cons R x xs (all_by_in (R x) xs pairs.0) (all_pairs R xs pairs.1)
 
 pub pairs_weaker : {A : Type 0} (R S : A → A → Type 0) (xs : List A) → ((x y : A) → Has xs x → Has xs y → R x y → S x y) → Pairs R xs → Pairs S xs
 pairs_weaker R S [] to pairs = tt
@@ -88,7 +30,7 @@ pairs_weaker R S (x ∷ xs) to pairs = (λ y h. to x y (inl refl) (inr h) (pairs
 pub pairs_map : {A B : Type 0} (f : A → B) (R : A → A → Type 0) (S : B → B → Type 0) (xs : List A) → ((x y : A) → Has xs x → Has xs y → R x y → S (f x) (f y)) → Pairs R xs → Pairs S (map f xs)
 pairs_map f R S [] to pairs = tt
 pairs_map {A} {B} f R S (x ∷ xs) to pairs =
-    (λ y h. let found = has_map f xs y h in subst (S (f x)) found.2 (to x found.0 (inl refl) (inr found.1) (pairs.0 found.0 found.1)), pairs_map f R S xs (λ a b ha hb. to a b (inr ha) (inr hb)) pairs.1)
+    (λ y h. let found = in_by_map f xs y h in subst (S (f x)) found.2 (to x found.0 (inl refl) (inr found.1) (pairs.0 found.0 found.1)), pairs_map f R S xs (λ a b ha hb. to a b (inr ha) (inr hb)) pairs.1)
 
 pairs_more : {B : Type 0} (S : B → B → Type 0) (o : Option B) (ys : List B) → ((u : B) → o ≡ Some u → (v : B) → Has ys v → S u v) → Pairs S ys → Pairs S (cons_option o ys)
 pairs_more S None ys first rest = rest
@@ -99,13 +41,13 @@ pub pairs_kept : {A B : Type 0} (f : A → Option B) (R : A → A → Type 0) (S
 pairs_kept f R S [] to pairs = tt
 pairs_kept {A} {B} f R S (x ∷ xs) to pairs =
     pairs_more S (f x) (filter_map f xs)
-    (λ u e v h. let found = has_kept f xs v h in to x found.0 u v (inl refl) (inr found.1) (pairs.0 found.0 found.1) e found.2)
+    (λ u e v h. let found = in_by_filter_map f xs v h in to x found.0 u v (inl refl) (inr found.1) (pairs.0 found.0 found.1) e found.2)
     (pairs_kept f R S xs (λ a b u v ha hb. to a b u v (inr ha) (inr hb)) pairs.1)
 
 pub pairs_append : {A : Type 0} (R : A → A → Type 0) (xs ys : List A) → Pairs R xs → Pairs R ys → ((x y : A) → Has xs x → Has ys y → R x y) → Pairs R (xs ++ ys)
 pairs_append R [] ys left right cross = right
 pairs_append {A} R (x ∷ xs) ys left right cross = (
-  λ y h. elim (has_either xs ys y h) [
+  λ y h. elim (in_either xs ys y h) [
     | inl first ↦ left.0 y first
     | inr second ↦ cross x y (inl refl) second
   ],
@@ -175,6 +117,30 @@ increasing low high (x ∷ y ∷ xs) up zero below = up.2.0
 increasing low high (x ∷ y ∷ xs) up (suc k) below =
     let e : suc (k + 1) ≡ suc k + 1 = omega arith in
     subst (λ (j : ℕ). get_or (y ∷ xs) k 0 < get_or (x ∷ y ∷ xs) j 0) e (increasing x high (y ∷ xs) up.2 k (omega (arith, below)))
+
+-- numbers that increase, from above one bound up to another
+pub ascends_from : (low high : ℕ) (xs : List ℕ) → IsStrictlyIncreasing xs → ((k : ℕ) → Has xs k → (low < k) × (k ≤ high)) → Ascends (λ k. k) low high xs
+ascends_from low high [] up within = tt
+ascends_from low high (x ∷ []) up within = ((within x (inl refl)).0, (within x (inl refl)).1, tt)
+ascends_from low high (x ∷ y ∷ xs) up within =
+    let rest : Ascends (λ (k : ℕ). k) low high (y ∷ xs) = ascends_from low high (y ∷ xs) (λ k lt. let e : suc k + 1 ≡ suc (k + 1) = omega arith in subst (λ (j : ℕ). get_or (y ∷ xs) k 0 < get_or (x ∷ y ∷ xs) j 0) e (up (suc k) (omega (arith, lt)))) (λ k h. within k (inr h)) in
+    ((within x (inl refl)).0, (within x (inl refl)).1, (up 0 (omega arith), rest.1, rest.2))
+
+-- ---- pairs by places, and of parts of parts
+
+pub pairs_all : {A : Type 0} (R : A → A → Type 0) (xs : List A) → AllPairs R xs → Pairs R xs
+pairs_all R [] all = tt
+pairs_all {A} R (x ∷ xs) all = (
+  λ y h. let at = contains_by_in xs y h in subst (R x) at.2 (all 0 (suc at.0) y (omega arith) (let lt : at.0 < length xs = at.1 in omega arith)),
+  pairs_all R xs (λ i j d less below. all (suc i) (suc j) d (omega (arith, less)) (omega (arith, below))),
+)
+
+pub pairs_flat : {A B : Type 0} (f : A → List B) (R : A → A → Type 0) (S : B → B → Type 0) (xs : List A)
+    → ((x : A) → Has xs x → Pairs S (f x)) → ((x y : A) → Has xs x → Has xs y → R x y → (u v : B) → Has (f x) u → Has (f y) v → S u v) → Pairs R xs → Pairs S (flat_map f xs)
+pairs_flat f R S [] own to pairs = tt
+pairs_flat {A} {B} f R S (x ∷ xs) own to pairs =
+    pairs_append S (f x) (flat_map f xs) (own x (inl refl)) (pairs_flat f R S xs (λ y h. own y (inr h)) (λ y z hy hz. to y z (inr hy) (inr hz)) pairs.1)
+    (λ u v hu hv. let at = in_by_flat_map f xs v hv in to x at.0 (inl refl) (inr at.1) (pairs.0 at.0 at.1) u v hu at.2)
 
 -- ---- maps
 

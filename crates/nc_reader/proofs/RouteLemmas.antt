@@ -1,24 +1,18 @@
 -- The static routes with one more statement.
-use Rattle.std.proofs.Common.{◌≡◌, ℕ, ◌+◌, Bool, true, false, not, cond, ◌||◌, List, [], ◌∷◌, ◌++◌, map, Option, Some, None, Result, refl, sym, ap, ◌∙◌}
-use Rattle.std.specs.Cmp.{IsEquivalence}
+use Rattle.std.proofs.Common.{◌≡◌, ℕ, ◌+◌, Bool, true, false, not, cond, ◌||◌, List, [], ◌∷◌, ◌++◌, map, Option, Some, None, refl, sym, ap, ◌∙◌}
 use Rattle.std.specs.List.{list_any, position_or_len, last_or, filter_map, cons_option}
-use Rattle.std.specs.Option.{option_eq, option_map, option_map_or}
-use Rattle.std.proofs.lemmas.Cmp.{nat_eq_equiv, nat_list_eq_equiv, on_equiv, and_equiv}
+use Rattle.std.specs.Option.{option_map, option_map_or}
 use Rattle.std.proofs.lemmas.List.{map_push}
 use Rattle.nc_types.specs.Cidr.{Cidr}
 use Rattle.nc_types.specs.declared.addr.Addr.{Addr}
-use Rattle.nc_types.specs.declared.config.StaticRoute.{StaticRoute}
-use Rattle.nc_types.specs.declared.fault.Fault.{Fault}
-use Rattle.nc_types.specs.declared.fault.ConfigFault.{ConfigFault}
-use Rattle.nc_types.specs.declared.fault.ConfigFault.TheVariants.{Bad, Memory}
-use Rattle.nc_lines.specs.Outcomes.{IsFault}
 use Rattle.nc_reader.specs.declared.routes.RouteKey.{RouteKey}
 use Rattle.nc_reader.specs.contracts.routes.RouteKeyPartialEq.TheImpl.{eq-value}
 use Rattle.nc_reader.specs.Groups.{Keyed, Group, with_key, keys_from, groups}
-use Rattle.nc_reader.specs.Configuration.{Routed, RoutePart, RouteKeyView, key_of, same_key, route_part, routed, statics_of}
+use Rattle.nc_reader.specs.Things.{Routed, RoutePart, RouteKeyView, key_of, same_key, route_part, statics_of}
 use Rattle.nc_reader.specs.Parts.{key_view, keyed, with_statement}
 use Rattle.nc_reader.specs.Steps.{changed_at}
 use Rattle.nc_reader.proofs.PushLemmas.{last_or-push}
+use Rattle.nc_reader.proofs.RouteKeys.{same_key_equiv}
 use Rattle.nc_reader.proofs.GroupLemmas.{groups-new, groups-known, keys_of, keys_of-push, with_key-known, with_key-new, grown, map-changed_at}
 
 -- ---- keys
@@ -47,31 +41,6 @@ list_any-view k (x ∷ keys) = ap (λ (b : Bool). b || list_any ((eq-value).it k
 position-view : (k : RouteKey) (keys : List RouteKey) → position_or_len ((eq-value).it k) keys ≡ position_or_len (same_key (key_view k)) (map key_view keys)
 position-view k [] = refl
 position-view k (x ∷ keys) = ap (λ (b : Bool). cond (not b) (1 + position_or_len ((eq-value).it k) keys) 0) (eq_same k x) ∙ ap (λ (n : ℕ). cond (not (same_key (key_view k) (key_view x))) (1 + n) 0) (position-view k keys)
-
-own : {K : Type 0} {same : K → K → Bool} → IsEquivalence same → (x : Option K) → option_eq same x x ≡ true
-own law None = refl
-own law (Some x) = law.refl x
-
-turned : {K : Type 0} {same : K → K → Bool} → IsEquivalence same → (x y : Option K) → option_eq same x y ≡ option_eq same y x
-turned law None None = refl
-turned law None (Some y) = refl
-turned law (Some x) None = refl
-turned law (Some x) (Some y) = law.symm x y
-
-joined : {K : Type 0} {same : K → K → Bool} → IsEquivalence same → (x y z : Option K) → option_eq same x y ≡ true → option_eq same x z ≡ option_eq same y z
-joined law None None z e = refl
-joined law None (Some y) z e = absurd cc
-joined law (Some x) None z e = absurd cc
-joined law (Some x) (Some y) None e = refl
-joined law (Some x) (Some y) (Some z) e = law.congr x y z e
-
-option_equiv : {K : Type 0} {same : K → K → Bool} → IsEquivalence same → IsEquivalence (option_eq same)
-option_equiv {K} {same} law = record { refl = own law; symm = turned law; congr = joined law }
-
-same_key_equiv : IsEquivalence same_key
-same_key_equiv =
-    and_equiv (and_equiv (on_equiv (λ (k : RouteKeyView). k.prefix.base) nat_eq_equiv) (on_equiv (λ (k : RouteKeyView). k.prefix.len) nat_eq_equiv))
-    (and_equiv (on_equiv (λ (k : RouteKeyView). k.interface) (option_equiv nat_list_eq_equiv)) (on_equiv (λ (k : RouteKeyView). k.hop) (option_equiv nat_eq_equiv)))
 
 -- ---- what the statements of a route make
 
@@ -148,8 +117,3 @@ some-parts {X} {Y} f (x ∷ xs) (y ∷ ys) e =
 
 pub statics-made : (parts : List RoutePart) (rs : List Routed) → map (λ p. Some p) parts ≡ made_in rs → parts ≡ statics_of rs
 statics-made parts rs made = sym (some-parts (λ g. route_part g.values) (groups same_key (map keyed rs)) parts made)
-
--- the fault of a statement is that of its line
-pub routed-err : (fault : ConfigFault) (line : ℕ) (r : Result StaticRoute Fault) → IsFault fault r → IsFault fault (routed line r)
-routed-err (Bad number cause) line r is = ap (routed line) is
-routed-err Memory line r is = tt

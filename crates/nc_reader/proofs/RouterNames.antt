@@ -3,22 +3,27 @@ use Rattle.std.proofs.Common.{◌≡◌, ℕ, true, not, ◌&&◌, List, [], ◌
 use Rattle.std.specs.List.{filter_map, list_any}
 use Rattle.std.specs.Option.{option_map_or}
 use Rattle.std.proofs.lemmas.Bool.{cond_both}
+use Rattle.nc_types.proofs.Members.{in_by_filter_map}
 use Rattle.nc_types.specs.WellFormed.{is_name}
 use Rattle.nc_types.specs.declared.fault.Cause.TheVariants.{Syntax, Unsupported}
 use Rattle.nc_lines.specs.Lines.{words_of, is_indented}
 use Rattle.nc_lines.specs.Blocks.{is_idle, begins_banner, has_mark, leaves_open, is_open}
-use Rattle.nc_lines.specs.Statements.{after}
-use Rattle.nc_reader.specs.Roles.{Role, Passed, Wrong, Names, Within, Routes, Placed, hostname_role, interface_role, is_unsupported, read_role, block_of, member_role, role_of, roles_from}
+use Rattle.nc_lines.specs.Statements.{Reading, Outside, Faulty, Says, after}
+use Rattle.nc_read_policy.specs.Clauses.{header_says}
+use Rattle.nc_read_policy.specs.Lists.{list_name_says}
+use Rattle.nc_read_policy.specs.CommunityEntries.{community_name_says}
+use Rattle.nc_reader.specs.declared.topic.Topic.{Topic}
+use Rattle.nc_reader.specs.declared.topic.Topic.TheVariants as topics
+use Rattle.nc_reader.specs.Roles.{Role, Passed, Wrong, Names, Within, Placed, hostname_role, interface_role, said_role, is_unsupported, read_role, block_of, member_role, role_of, roles_from}
 use Rattle.nc_reader.specs.Configuration.{name_at, name_of}
-use Rattle.nc_reader.proofs.Members.{Has, has_kept}
+use Rattle.nc_reader.proofs.Members.{Has}
 use Rattle.nc_reader.proofs.Addresses.{last_has}
 
 abbrev IsNamed : Role → Type 0
 IsNamed Passed = Unit {0}
 IsNamed (Wrong cause) = Unit {0}
 IsNamed (Names name) = is_name name ≡ true
-IsNamed (Within name) = Unit {0}
-IsNamed Routes = Unit {0}
+IsNamed (Within topic) = Unit {0}
 
 hostname_named : (words : List (List ℕ)) → IsNamed (hostname_role words)
 hostname_named [] = tt
@@ -29,6 +34,11 @@ interface_named : (words : List (List ℕ)) → IsNamed (interface_role words)
 interface_named [] = tt
 interface_named (a ∷ words) = tt
 
+said_named : {S : Type 0} (topic : S → Topic) (r : Reading S) → IsNamed (said_role topic r)
+said_named topic Outside = tt
+said_named topic (Faulty cause) = tt
+said_named topic (Says s) = tt
+
 either_named : (role : List (List ℕ) → Role) (o : Option (List (List ℕ))) (other : Role) → ((words : List (List ℕ)) → IsNamed (role words)) → IsNamed other → IsNamed (option_map_or role o other)
 either_named role None other here there = there
 either_named role (Some words) other here there = here words
@@ -38,11 +48,14 @@ unfolding read_role
 read_named words =
     either_named hostname_role (after (codes "hostname" ∷ []) words) _ hostname_named
     (either_named interface_role (after (codes "interface" ∷ []) words) _ interface_named
-    (either_named (λ rest. Routes) (after (codes "ip" ∷ codes "route" ∷ []) words) Passed (λ _. tt) tt))
+    (either_named (λ rest. Within topics.Statics) (after (codes "ip" ∷ codes "route" ∷ []) words) _ (λ _. tt)
+    (either_named (λ rest. said_role topics.List (list_name_says rest)) (after (codes "ip" ∷ codes "prefix-list" ∷ []) words) _ (λ rest. said_named topics.List (list_name_says rest))
+    (either_named (λ rest. said_role topics.Communities (community_name_says rest)) (after (codes "ip" ∷ codes "community-list" ∷ []) words) _ (λ rest. said_named topics.Communities (community_name_says rest))
+    (said_named (λ h. topics.Clause h.map_name h.number) (header_says words))))))
 
-member_named : (o : Option (List ℕ)) → IsNamed (member_role o)
+member_named : (o : Option Topic) → IsNamed (member_role o)
 member_named None = tt
-member_named (Some name) = tt
+member_named (Some topic) = tt
 
 role_named : (earlier : List (List ℕ)) (line : List ℕ) (later : List (List ℕ)) → IsNamed (role_of earlier line later)
 unfolding role_of
@@ -68,7 +81,6 @@ name_is line (Names a) name is e =
     let same : (line, a) ≡ name = cc in
     subst (λ (n : ℕ × List ℕ). is_name n.1 ≡ true) same is
 name_is line (Within a) name is e = absurd cc
-name_is line Routes name is e = absurd cc
 
 pub router_named : (lines : List (List ℕ)) (name : ℕ × List ℕ) → name_of (roles_from [] lines) ≡ Some name → is_name name.1 ≡ true
 router_named lines name e =
@@ -76,6 +88,6 @@ router_named lines name e =
     elim (last_has None (filter_map (λ (r : Placed). name_at r.line r.role) rs) name e) [
       | inl never ↦ absurd cc
       | inr h ↦
-          let at = has_kept (λ (r : Placed). name_at r.line r.role) rs name h in
+          let at = in_by_filter_map (λ (r : Placed). name_at r.line r.role) rs name h in
           name_is at.0.line at.0.role name (roles_named [] lines at.0 at.1) at.2
     ]

@@ -1,30 +1,28 @@
 -- Each configuration that a file's lines make is well formed.
-use Rattle.std.proofs.Common.{◌≡◌, ℕ, ◌<◌, ◌≤◌, true, List, [], ◌∷◌, ◌++◌, length, map, Option, Some, None, Result, Ok, Err, refl, sym, ap, ◌∙◌, subst, arith, inl, inr}
+use Rattle.std.proofs.Common.{◌≡◌, ℕ, ◌<◌, ◌≤◌, true, List, [], ◌∷◌, length, map, Option, Some, None, Result, Ok, Err, refl, sym, ap, subst, arith, inl, inr}
 use Rattle.std.specs.Prelude.{◌≢◌, ◌⊎◌, All, Contains, IfSome, slice_index_or}
-use Rattle.std.specs.List.{AllPairs}
+use Rattle.std.specs.List.{AllPairs, flat_map}
+use Rattle.std.specs.List.Sorted.{IsStrictlyIncreasing}
 use Rattle.std.specs.Option.{option_map_or}
 use Rattle.std.proofs.lemmas.Bool.{cases_order}
-use Rattle.std.proofs.lemmas.List.{append-nil, map-append}
-use Rattle.nc_types.specs.Config.{ElementView, ClauseView, PrefixListView, ConfigView}
+use Rattle.nc_types.proofs.Members.{in_by_contains, all_by_in, in_by_map, in_by_flat_map}
+use Rattle.nc_types.specs.Config.{ElementView, ClauseView, PrefixListView, CommunityListView, ConfigView}
 use Rattle.nc_types.specs.WellFormed.{is_name, places_of, IsElement, first_line, IsWellFormed}
 use Rattle.nc_types.specs.Faults.{lowest}
 use Rattle.nc_types.specs.declared.fault.Fault.{Fault}
 use Rattle.nc_types.specs.declared.fault.Cause.TheVariants.{NoName}
-use Rattle.nc_types.specs.declared.config.Kind.TheVariants.{Interface as InterfaceKind, Static as StaticKind}
 use Rattle.nc_types.specs.declared.config.Interface.{Interface}
-use Rattle.nc_types.specs.declared.config.StaticRoute.{StaticRoute}
-use Rattle.nc_lines.specs.Parts.{numbered}
-use Rattle.nc_read_link.specs.Interfaces.{InterfacePart}
 use Rattle.nc_reader.specs.Roles.{roles_from}
-use Rattle.nc_reader.specs.Configuration.{RoutePart, name_of, faults_of, pieces_of, in_order, place_of, first_in, with_place, route_with_place, config_of, configuration}
-use Rattle.nc_reader.proofs.Members.{Has, has_contained, all_had, has_map, has_either, Pairs, all_pairs, pairs_weaker, pairs_map, pairs_append, pairs_either, Ascends, ascends_within, increasing}
-use Rattle.nc_reader.proofs.Grouping.{has_grouped, groups_apart}
-use Rattle.nc_reader.proofs.LineOrder.{withins, roles_ascend, one_thing}
-use Rattle.nc_reader.proofs.Elements.{has_in_order, in_order_ascends, length_in_order, place_below, place_less, first_same}
-use Rattle.nc_reader.proofs.InterfaceParts.{bytes_same, pairs_ascend, part_of, is_part, parts_of, has_part, parts_pairs}
-use Rattle.nc_reader.proofs.RouteParts.{route_parts, route_whole, route_line_of, routes_apart}
-use Rattle.nc_reader.proofs.Addresses.{IsCovered, block_covered}
+use Rattle.nc_reader.specs.Configuration.{name_of, faults_of, pieces_of, in_order, place_of, interfaces_in, lists_in, community_lists_in, config_of, configuration}
+use Rattle.nc_reader.specs.Things.{Part, pieces_in}
+use Rattle.nc_reader.proofs.Members.{Has, Pairs, all_pairs, pairs_weaker, pairs_map, pairs_either, ascends_within, increasing}
+use Rattle.nc_reader.proofs.Elements.{has_in_order, in_order_ascends, length_in_order, few_in_order, place_below, place_less}
+use Rattle.nc_reader.proofs.PieceLemmas.{Apart, IsWhole}
+use Rattle.nc_reader.proofs.Addresses.{IsCovered}
 use Rattle.nc_reader.proofs.RouterNames.{router_named}
+use Rattle.nc_reader.proofs.ListParts.{EntryLaws}
+use Rattle.nc_reader.proofs.TopicParts.{IsSound, AreTwo, parts_in, part_from, parts_two}
+use Rattle.nc_reader.proofs.KindParts.{AreApart, all_kinds, kinds_differ, by_ranks, ranks_among, pieces_apart, ranks_apart, interfaces_differ, clauses_differ, lists_differ, community_lists_differ, interface_sound, list_sound, community_sound, all_places}
 
 -- ---- what is no fault
 
@@ -38,80 +36,12 @@ clean_ok (Some fault) rest c e = absurd cc
 
 -- what is no fault is the configuration of the name in force
 configured : (lines : List (List ℕ)) (c : ConfigView) → configuration lines ≡ Ok c
-    → (name : ℕ × List ℕ) × (config_of (length lines) name (parts_of lines) (route_parts lines) ≡ c) × (name_of (roles_from [] lines) ≡ Some name)
+    → (name : ℕ × List ℕ) × (config_of (length lines) name (parts_in lines) ≡ c) × (name_of (roles_from [] lines) ≡ Some name)
 unfolding configuration
 configured lines c e =
-    named_ok (λ name. config_of (length lines) name (parts_of lines) (route_parts lines)) c (record { line = 0; cause = NoName }) (name_of (roles_from [] lines))
-    (clean_ok (lowest (faults_of lines (roles_from [] lines))) _ c e)
+    named_ok (λ name. config_of (length lines) name (parts_in lines)) c (record { line = 0; cause = NoName }) (name_of (roles_from [] lines)) (clean_ok (lowest (faults_of lines (roles_from [] lines))) _ c e)
 
-abbrev piece : InterfacePart → ElementView
-piece p = record { kind = InterfaceKind; lines = p.lines }
-
--- ---- lines of things
-
--- no line stands in both
-abbrev Apart : List ℕ → List ℕ → Type 0
-Apart xs ys = (k : ℕ) → Has xs k → Has ys k → ⊥
-
-abbrev IsWhole : ℕ → List ℕ → Type 0
-IsWhole count xs = (0 < length xs) × Ascends (λ (k : ℕ). k) 0 count xs
-
-abbrev route_piece : RoutePart → ElementView
-route_piece p = record { kind = StaticKind; lines = p.lines }
-
--- ---- the elements of a file
-
-part_apart : (lines : List (List ℕ)) → Pairs (λ p q. Apart p.lines q.lines) (parts_of lines)
-part_apart lines =
-    parts_pairs lines (λ (p q : InterfacePart). Apart p.lines q.lines)
-    (λ g h p q hg hh differ a b k hp hq.
-    groups_apart _ bytes_same (λ (k : ℕ). k) 0 (length lines) (withins (roles_from [] lines)) (pairs_ascend lines) g h hg hh differ k k (a.own k hp) (b.own k hq) refl)
-
-part_route_apart : (lines : List (List ℕ)) (p : InterfacePart) (q : RoutePart) → Has (parts_of lines) p → Has (route_parts lines) q → Apart p.lines q.lines
-part_route_apart lines p q hp hq k in_p in_q =
-    let at = has_part lines p hp in
-    let is = is_part lines at.0 p at.1 at.2 in
-    let rs = roles_from [] lines in
-    let w = has_grouped _ bytes_same (withins rs) at.0 k at.1 (is.own k in_p) in
-    one_thing 0 (length lines) rs (roles_ascend [] lines (length lines) (omega arith)) w.0 k w.1 (route_line_of lines q k hq in_q) w.3
-
-abbrev pieces_in : List (List ℕ) → List ElementView
-pieces_in lines = pieces_of (parts_of lines) (route_parts lines)
-
-pieces_apart : (lines : List (List ℕ)) → Pairs (λ e f. Apart e.lines f.lines) (pieces_in lines)
-pieces_apart lines =
-    pairs_append (λ (e f : ElementView). Apart e.lines f.lines) (map piece (parts_of lines)) (map route_piece (route_parts lines))
-    (pairs_map piece (λ (p q : InterfacePart). Apart p.lines q.lines) (λ (e f : ElementView). Apart e.lines f.lines) (parts_of lines) (λ p q hp hq apart. apart) (part_apart lines))
-    (pairs_map route_piece (λ (p q : RoutePart). Apart p.lines q.lines) (λ (e f : ElementView). Apart e.lines f.lines) (route_parts lines) (λ p q hp hq apart. apart) (routes_apart lines))
-    (λ e f he hf k in_e in_f.
-    let p = has_map piece (parts_of lines) e he in
-    let q = has_map route_piece (route_parts lines) f hf in
-    part_route_apart lines p.0 q.0 p.1 q.1 k (subst (λ (e : ElementView). Has e.lines k) (sym p.2) in_e) (subst (λ (e : ElementView). Has e.lines k) (sym q.2) in_f))
-
-pieces_whole : (lines : List (List ℕ)) (e : ElementView) → Has (pieces_in lines) e → IsWhole (length lines) e.lines
-pieces_whole lines e h =
-    elim (has_either (map piece (parts_of lines)) (map route_piece (route_parts lines)) e h) [
-      | inl first ↦
-          let p = has_map piece (parts_of lines) e first in
-          let at = has_part lines p.0 p.1 in
-          let is = is_part lines at.0 p.0 at.1 at.2 in
-          subst (λ (e : ElementView). IsWhole (length lines) e.lines) p.2 (is.some, is.ascend)
-      | inr second ↦
-          let p = has_map route_piece (route_parts lines) e second in
-          subst (λ (e : ElementView). IsWhole (length lines) e.lines) p.2 (route_whole lines p.0 p.1)
-    ]
-
-names_apart : (lines : List (List ℕ)) → Pairs (λ p q. p.interface.name ≢ q.interface.name) (parts_of lines)
-names_apart lines =
-    parts_pairs lines (λ (p q : InterfacePart). p.interface.name ≢ q.interface.name) (λ g h p q hg hh differ a b same. differ (sym a.named ∙ same ∙ b.named))
-
-parts_covered : (lines : List (List ℕ)) (p : InterfacePart) → Has (parts_of lines) p → IfSome p.interface.address IsCovered
-parts_covered lines p h =
-    let at = has_part lines p h in
-    let block = numbered lines at.0.values in
-    subst (λ (p : InterfacePart). IfSome p.interface.address IsCovered) (part_of at.0.key block p at.2) (block_covered block)
-
--- ---- a configuration of such elements
+-- ---- elements
 
 has_first : (xs : List ℕ) → 0 < length xs → Has xs (slice_index_or xs 0 0)
 has_first [] some = absurd (omega (arith, some))
@@ -125,78 +55,111 @@ is_element count e whole =
     record {
       some = whole.0;
       ascend = increasing 0 count e.lines whole.1;
-      within = all_had (λ line. (0 < line) × (line ≤ count)) e.lines (ascends_within (λ (k : ℕ). k) 0 count e.lines whole.1);
+      within = all_by_in (λ line. (0 < line) × (line ≤ count)) e.lines (ascends_within (λ (k : ℕ). k) 0 count e.lines whole.1);
     }
 
-same_map : {A B C D : Type 0} (f : B → D) (g : A → B) (h : C → D) (k : A → C) → ((x : A) → f (g x) ≡ h (k x)) → (xs : List A) → map f (map g xs) ≡ map h (map k xs)
-same_map f g h k same [] = refl
-same_map {A} {B} {C} {D} f g h k same (x ∷ xs) = ap (λ (y : D). y ∷ map f (map g xs)) (same x) ∙ ap (λ (ys : List D). h (k x) ∷ ys) (same_map f g h k same xs)
+-- elements of which no two have a line in common, each within the file
+module _ (count : ℕ) (pieces : List ElementView) (apart : Pairs (λ e f. Apart e.lines f.lines) pieces) (whole : (e : ElementView) → Has pieces e → IsWhole count e.lines) where
+  begin_apart : (es : List ElementView) → ((e : ElementView) → Has es e → IsWhole count e.lines) → Pairs (λ e f. Apart e.lines f.lines) es → Pairs (λ e f. first_line e ≢ first_line f) es
+  begin_apart es each pairs =
+      pairs_weaker (λ (e f : ElementView). Apart e.lines f.lines) (λ (e f : ElementView). first_line e ≢ first_line f) es
+      (λ e f he hf no_line same. no_line (first_line e) (has_first e.lines (each e he).0) (subst (Has f.lines) (sym same) (has_first f.lines (each f hf).0))) pairs
 
--- the place of each element
-abbrev place_in : List ElementView → ElementView → ℕ
-place_in pieces e = place_of pieces (first_line e)
+  pub all_stand : length (in_order count pieces) ≡ length pieces
+  all_stand = length_in_order count pieces (begin_apart pieces whole apart) (λ e h. first_in_file count e (whole e h))
 
-config_places : (count : ℕ) (name : ℕ × List ℕ) (ps : List InterfacePart) (qs : List RoutePart) → places_of (config_of count name ps qs) ≡ map (place_in (pieces_of ps qs)) (pieces_of ps qs)
-config_places count name ps qs =
-    let pieces : List ElementView = pieces_of ps qs in
-    let own : InterfacePart → Interface = λ p. with_place (place_of pieces (first_in p.lines)) p.interface in
-    let own_route : RoutePart → StaticRoute = λ p. route_with_place (place_of pieces (first_in p.lines)) p.route in
-    let first : map (λ (i : Interface). i.element) (map own ps) ≡ map (place_in pieces) (map piece ps) =
-    same_map (λ (i : Interface). i.element) own (place_in pieces) piece (λ p. ap (place_of pieces) (sym (first_same (piece p)))) ps in
-    let second : map (λ (s : StaticRoute). s.element) (map own_route qs) ≡ map (place_in pieces) (map route_piece qs) =
-    same_map (λ (s : StaticRoute). s.element) own_route (place_in pieces) route_piece (λ p. ap (place_of pieces) (sym (first_same (route_piece p)))) qs in
-    ap (λ (ks : List ℕ). map (λ (i : Interface). i.element) (map own ps) ++ ks) (append-nil (map (λ (s : StaticRoute). s.element) (map own_route qs)))
-    ∙ ap (λ (ks : List ℕ). ks ++ map (λ (s : StaticRoute). s.element) (map own_route qs)) first
-    ∙ ap (λ (ks : List ℕ). map (place_in pieces) (map piece ps) ++ ks) second
-    ∙ sym (map-append (place_in pieces) (map piece ps) (map route_piece qs))
+  pub alone : Pairs (λ e f. (line : ℕ) → Contains e.lines line → Contains f.lines line → ⊥) (in_order count pieces)
+  alone =
+      pairs_weaker (λ (e f : ElementView). first_line e < first_line f) (λ (e f : ElementView). (line : ℕ) → Contains e.lines line → Contains f.lines line → ⊥) (in_order count pieces)
+      (λ e f he hf less line in_e in_f. elim (pairs_either (λ (e f : ElementView). Apart e.lines f.lines) pieces (λ x y no_line k hy hx. no_line k hx hy) apart e f (has_in_order count pieces e he) (has_in_order count pieces f hf)) [
+        | inl same ↦ let is = ap first_line same in absurd (omega (arith, less, is))
+        | inr no_line ↦ no_line line (in_by_contains e.lines line in_e) (in_by_contains f.lines line in_f)
+      ]) (in_order_ascends count pieces)
 
-formed : (count : ℕ) (name : ℕ × List ℕ) (ps : List InterfacePart) (qs : List RoutePart) → is_name name.1 ≡ true
-    → Pairs (λ e f. Apart e.lines f.lines) (pieces_of ps qs) → ((e : ElementView) → Has (pieces_of ps qs) e → IsWhole count e.lines) → Pairs (λ p q. p.interface.name ≢ q.interface.name) ps
-    → ((p : InterfacePart) → Has ps p → IfSome p.interface.address IsCovered) → IsWellFormed (config_of count name ps qs)
-formed count name ps qs named apart whole names_differ addresses =
-    let pieces : List ElementView = pieces_of ps qs in
-    let own : InterfacePart → Interface = λ p. with_place (place_of pieces (first_in p.lines)) p.interface in
-    let differ : Pairs (λ (e f : ElementView). first_line e ≢ first_line f) pieces =
-    pairs_weaker (λ (e f : ElementView). Apart e.lines f.lines) (λ (e f : ElementView). first_line e ≢ first_line f) pieces
-    (λ e f he hf no_line same. no_line (first_line e) (has_first e.lines (whole e he).0) (subst (Has f.lines) (sym same) (has_first f.lines (whole f hf).0))) apart in
-    let all : length (in_order count pieces) ≡ length pieces = length_in_order count pieces differ (λ e h. first_in_file count e (whole e h)) in
-    let below : (place : ℕ) → Has (map (place_in pieces) pieces) place → place < length (in_order count pieces) =
-    (λ place h. let e = has_map (place_in pieces) pieces place h in let less = place_below pieces e.0 e.1 in omega (arith, less, all, e.2)) in
-    let one_each : Pairs (λ (p q : ℕ). p ≢ q) (map (place_in pieces) pieces) =
-    pairs_map (place_in pieces) (λ (e f : ElementView). first_line e ≢ first_line f) (λ (p q : ℕ). p ≢ q) pieces
-    (λ e f he hf other same. elim (cases_order (first_line e) (first_line f)) [
-      | inl equal ↦ other equal
-      | inr unequal ↦ elim unequal [
-        | inl less ↦ let places = place_less (first_line f) pieces e he less in absurd (omega (arith, places, same))
-        | inr more ↦ let places = place_less (first_line e) pieces f hf more in absurd (omega (arith, places, same))
-      ]
-    ]) differ in
-    let ascend : Pairs (λ (e f : ElementView). first_line e < first_line f) (in_order count pieces) = in_order_ascends count pieces in
-    let alone : Pairs (λ (e f : ElementView). (line : ℕ) → Contains e.lines line → Contains f.lines line → ⊥) (in_order count pieces) =
-    pairs_weaker (λ (e f : ElementView). first_line e < first_line f) (λ (e f : ElementView). (line : ℕ) → Contains e.lines line → Contains f.lines line → ⊥) (in_order count pieces)
-    (λ e f he hf less line in_e in_f. elim (pairs_either (λ (e f : ElementView). Apart e.lines f.lines) pieces (λ x y no_line k hy hx. no_line k hx hy) apart e f (has_in_order count pieces e he) (has_in_order count pieces f hf)) [
-      | inl same ↦ let is = ap first_line same in absurd (omega (arith, less, is))
-      | inr no_line ↦ no_line line (has_contained e.lines line in_e) (has_contained f.lines line in_f)
-    ]) ascend in
-    record {
-      name = named;
-      places = subst (All (λ (place : ℕ). place < length (in_order count pieces))) (sym (config_places count name ps qs)) (all_had (λ (place : ℕ). place < length (in_order count pieces)) (map (place_in pieces) pieces) below);
-      single = subst (AllPairs (λ (p q : ℕ). p ≢ q)) (sym (config_places count name ps qs)) (all_pairs (λ (p q : ℕ). p ≢ q) (map (place_in pieces) pieces) one_each);
-      elements = all_had (IsElement count) (in_order count pieces) (λ e h. is_element count e (whole e (has_in_order count pieces e h)));
-      ordered = all_pairs (λ (e f : ElementView). first_line e < first_line f) (in_order count pieces) ascend;
-      apart = all_pairs (λ (e f : ElementView). (line : ℕ) → Contains e.lines line → Contains f.lines line → ⊥) (in_order count pieces) alone;
-      interfaces = all_pairs (λ (i j : Interface). i.name ≢ j.name) (map own ps)
-          (pairs_map own (λ (p q : InterfacePart). p.interface.name ≢ q.interface.name) (λ (i j : Interface). i.name ≢ j.name) ps (λ p q hp hq other. other) names_differ);
-      clauses = all_pairs (λ (a b : ClauseView). (a.map_name ≢ b.map_name) ⊎ (a.number ≢ b.number)) [] tt;
-      lists = all_pairs (λ (a b : PrefixListView). a.name ≢ b.name) [] tt;
-      covered = all_had (λ (i : Interface). IfSome i.address IsCovered) (map own ps)
-          (λ i h. let p = has_map own ps i h in subst (λ (i : Interface). IfSome i.address IsCovered) p.2 (addresses p.0 p.1));
-      process = tt;
-      entries = all_had _ [] (λ l h. absurd h);
-    }
+  pub each_stands : (e : ElementView) → Has (in_order count pieces) e → IsElement count e
+  each_stands e h = is_element count e (whole e (has_in_order count pieces e h))
 
-pub well_formed : (lines : List (List ℕ)) (c : ConfigView) → configuration lines ≡ Ok c → IsWellFormed c
-well_formed lines c e =
+  -- the places of such elements are two where the elements are
+  pub one_each : (es : List ElementView) → ((e : ElementView) → Has es e → Has pieces e) → Pairs (λ e f. Apart e.lines f.lines) es → Pairs (λ p q. p ≢ q) (map (λ e. place_of pieces (first_line e)) es)
+  one_each es among pairs =
+      pairs_map (λ e. place_of pieces (first_line e)) (λ (e f : ElementView). first_line e ≢ first_line f) (λ (p q : ℕ). p ≢ q) es
+      (λ e f he hf other same. elim (cases_order (first_line e) (first_line f)) [
+        | inl equal ↦ other equal
+        | inr unequal ↦ elim unequal [
+          | inl less ↦ let places = place_less (first_line f) pieces e (among e he) less in absurd (omega (arith, places, same))
+          | inr more ↦ let places = place_less (first_line e) pieces f (among f hf) more in absurd (omega (arith, places, same))
+        ]
+      ]) (begin_apart es (λ e h. whole e (among e h)) pairs)
+
+-- ---- the configuration of a file
+
+module _ (laws : EntryLaws) (lines : List (List ℕ)) where
+  abbrev count : ℕ
+  count = length lines
+
+  abbrev parts : List Part
+  parts = parts_in lines
+
+  abbrev pieces : List ElementView
+  pieces = pieces_of parts
+
+  abbrev place : ℕ → ℕ
+  place = place_of pieces
+
+  two : Pairs AreTwo parts
+  two = parts_two laws lines
+
+  own : (p : Part) → Has parts p → Pairs AreApart (pieces_in p)
+  own p h = (part_from laws lines p h).2.elements.apart
+
+  sound : (p : Part) → Has parts p → IsSound p
+  sound p h = (part_from laws lines p h).2.sound
+
+  pub apart : Pairs AreApart pieces
+  apart = pieces_apart parts two own
+
+  pub whole : (e : ElementView) → Has pieces e → IsWhole count e.lines
+  whole e h = let at = in_by_flat_map pieces_in parts e h in (part_from laws lines at.0 at.1).2.elements.whole e at.2
+
+  -- no more elements than lines
+  pub few : length pieces ≤ count
+  few = omega (arith, all_stand count pieces apart whole, few_in_order count pieces)
+
+  places_are : (name : ℕ × List ℕ) → places_of (config_of count name parts) ≡ map (λ e. place (first_line e)) (by_ranks parts all_kinds)
+  places_are name = all_places place parts
+
+  below : (k : ℕ) → Has (map (λ e. place (first_line e)) (by_ranks parts all_kinds)) k → k < length (in_order count pieces)
+  below k h =
+      let e = in_by_map (λ e. place (first_line e)) (by_ranks parts all_kinds) k h in
+      let less = place_below pieces e.0 (ranks_among parts all_kinds e.0 e.1) in
+      omega (arith, less, all_stand count pieces apart whole, e.2)
+
+  -- what holds of each thing of a kind
+  of_each : {A : Type 0} (f : Part → List A) (P : A → Type 0) → ((p : Part) (x : A) → IsSound p → Has (f p) x → P x) → All P (flat_map f parts)
+  of_each {A} f P to = all_by_in P (flat_map f parts) (λ x h. let at = in_by_flat_map f parts x h in to at.0 x (sound at.0 at.1) at.2)
+
+  pub formed : (name : ℕ × List ℕ) → is_name name.1 ≡ true → IsWellFormed (config_of count name parts)
+  formed name named =
+      record {
+        name = named;
+        places = subst (All (λ (k : ℕ). k < length (in_order count pieces))) (sym (places_are name)) (all_by_in (λ (k : ℕ). k < length (in_order count pieces)) _ below);
+        single = subst (AllPairs (λ (p q : ℕ). p ≢ q)) (sym (places_are name))
+            (all_pairs (λ (p q : ℕ). p ≢ q) _ (one_each count pieces apart whole (by_ranks parts all_kinds) (ranks_among parts all_kinds) (ranks_apart parts two own all_kinds kinds_differ)));
+        elements = all_by_in (IsElement count) (in_order count pieces) (each_stands count pieces apart whole);
+        ordered = all_pairs (λ (e f : ElementView). first_line e < first_line f) (in_order count pieces) (in_order_ascends count pieces);
+        apart = all_pairs (λ (e f : ElementView). (line : ℕ) → Contains e.lines line → Contains f.lines line → ⊥) (in_order count pieces) (alone count pieces apart whole);
+        interfaces = all_pairs (λ (i j : Interface). i.name ≢ j.name) _ (interfaces_differ parts two place);
+        clauses = all_pairs (λ (a b : ClauseView). (a.map_name ≢ b.map_name) ⊎ (a.number ≢ b.number)) _ (clauses_differ parts two place);
+        lists = all_pairs (λ (a b : PrefixListView). a.name ≢ b.name) _ (lists_differ parts two place);
+        community_lists = all_pairs (λ (a b : CommunityListView). a.name ≢ b.name) _ (community_lists_differ parts two place);
+        covered = of_each (interfaces_in place) (λ (i : Interface). IfSome i.address IsCovered) (interface_sound place);
+        process = tt;
+        filled = of_each (lists_in place) (λ (l : PrefixListView). 0 < length l.entries) (λ p l s h. (list_sound place p l s h).0);
+        entries = of_each (lists_in place) (λ (l : PrefixListView). IsStrictlyIncreasing (map (λ e. e.seq) l.entries)) (λ p l s h. (list_sound place p l s h).1);
+        community_filled = of_each (community_lists_in place) (λ (l : CommunityListView). 0 < length l.entries) (community_sound place);
+      }
+
+pub well_formed : EntryLaws → (lines : List (List ℕ)) (c : ConfigView) → configuration lines ≡ Ok c → IsWellFormed c
+well_formed laws lines c e =
     let found = configured lines c e in
-    subst IsWellFormed found.1
-    (formed (length lines) found.0 (parts_of lines) (route_parts lines) (router_named lines found.0 found.2) (pieces_apart lines) (pieces_whole lines) (names_apart lines) (parts_covered lines))
+    subst IsWellFormed found.1 (formed laws lines found.0 (router_named lines found.0 found.2))

@@ -17,11 +17,12 @@ use Rattle.nc_lines.specs.Parts.{numbered, first_of}
 use Rattle.nc_read_link.specs.Interfaces.{InterfacePart, interface_in}
 use Rattle.nc_read_link.specs.Statics.{static_at}
 use Rattle.nc_read_policy.specs.Clauses.{ClausePart, clause_in}
-use Rattle.nc_read_policy.specs.Lists.{EntryPart, list_in, ok_map}
+use Rattle.nc_read_policy.specs.Lists.{EntryPart, list_in}
+use Rattle.nc_read_policy.specs.Results.{ok_map}
 use Rattle.nc_read_policy.specs.CommunityEntries.{community_entry_at}
 use Rattle.nc_reader.specs.declared.topic.Topic.{Topic}
 use Rattle.nc_reader.specs.declared.topic.Topic.TheVariants as topics
-use Rattle.nc_reader.specs.Groups.{Keyed, groups}
+use Rattle.nc_reader.specs.Groups.{groups}
 
 -- ---- readings
 

@@ -7,7 +7,7 @@ ghost use Rattle.nc_reader.specs.Configuration.{configuration};
 ghost use Rattle.nc_reader.specs.Outcome.{IsConfiguration};
 ghost use Rattle.nc_reader.specs.Whole.{AreParts};
 
-use crate::laws::configurations_are_well_formed;
+use crate::laws::{configurations_are_well_formed, elements_are_few};
 use crate::order::arrange;
 use crate::parts::{Parts, read_parts};
 use nc_lines::Lines;
@@ -21,6 +21,7 @@ fn finish(alloc: Global, lines: &Lines, parts: Parts) -> Result<RouterConfig, Co
     ensures well_formed { IfOk result (λ c. IsWellFormed (config_view c)) }
 {
     configurations_are_well_formed();
+    elements_are_few();
     let Parts { name, made, fault } = parts;
     if let Some(fault) = fault {
         return Err(ConfigFault::Bad {

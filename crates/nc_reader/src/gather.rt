@@ -46,7 +46,7 @@ fn with_fault(known: Option<Fault>, line: u32, cause: Option<Cause>) -> Option<F
 
 // Whether the indented lines behind a statement speak of its topic.
 fn has_block(subject: Subject<'_>) -> bool
-    ensures { result ≡ has_block (topic_of subject) }
+    ensures { result ≡ has_block (topic_of subject.entry) }
 {
     match subject {
         Subject::Interface(_) | Subject::Clause(_, _) => true,

@@ -1,6 +1,6 @@
 //! The lines that speak of each topic.
 
-ghost use Rattle.std.specs.Prelude.{◌≡◌, ◌<◌, ◌∷◌, ◌++◌, [], length, vec_len, OnOk, IfOk};
+ghost use Rattle.std.specs.Prelude.{◌≡◌, ◌<◌, ◌∷◌, ◌++◌, [], not, length, vec_len, OnOk, IfOk};
 ghost use Rattle.std.specs.List.{list_any, position_or_len};
 ghost use Rattle.nc_reader.specs.Groups.{with_key};
 ghost use Rattle.nc_reader.specs.Readings.{lines_in, topic_of};
@@ -42,6 +42,21 @@ fn begin(alloc: Global, blocks: &mut Vec<Block>, line: u32) -> Result<(), AllocE
     Ok(())
 }
 
+// Adds a topic where it is new, and tells its place and whether it is.
+fn enter(
+    alloc: Global,
+    topics: &mut IndexSet<Topic>,
+    subject: Subject<'_>,
+) -> Result<(usize, bool), AllocError>
+    ensures topics { OnOk result (topics.new.keys ≡ with_key same_topic topics.old.keys (topic_of subject.entry)) }
+    ensures place { IfOk result (λ r. r.0 ≡ position_or_len (same_topic (topic_of subject.entry)) topics.old.keys) }
+    ensures new { IfOk result (λ r. r.1 ≡ not (list_any (same_topic (topic_of subject.entry)) topics.old.keys)) }
+{
+    let topic = Topic::new(alloc, subject)?;
+    let entered = topics.insert_full(topic)?;
+    Ok(entered)
+}
+
 /// Adds a line to the block of a topic, which is made where the topic has none, and tells the topic's place.
 pub(crate) fn put(
     alloc: Global,
@@ -51,12 +66,12 @@ pub(crate) fn put(
     line: u32,
 ) -> Result<usize, AllocError>
     requires { vec_len blocks.old ≡ length topics.old.keys }
-    ensures topics { OnOk result (topics.new.keys ≡ with_key same_topic topics.old.keys (topic_of subject)) }
+    ensures topics { OnOk result (topics.new.keys ≡ with_key same_topic topics.old.keys (topic_of subject.entry)) }
     ensures blocks { OnOk result (lines_in blocks.new.items
-        ≡ put_at (list_any (same_topic (topic_of subject)) topics.old.keys) line (position_or_len (same_topic (topic_of subject)) topics.old.keys) (lines_in blocks.old.items)) }
-    ensures place { IfOk result (λ place. place ≡ position_or_len (same_topic (topic_of subject)) topics.old.keys) }
+        ≡ put_at (list_any (same_topic (topic_of subject.entry)) topics.old.keys) line (position_or_len (same_topic (topic_of subject.entry)) topics.old.keys) (lines_in blocks.old.items)) }
+    ensures place { IfOk result (λ place. place ≡ position_or_len (same_topic (topic_of subject.entry)) topics.old.keys) }
 {
-    let (place, is_new) = topics.insert_full(Topic::new(alloc, subject)?)?;
+    let (place, is_new) = enter(alloc, topics, subject)?;
     if is_new {
         begin(alloc, blocks, line)?;
     } else {

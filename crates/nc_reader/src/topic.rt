@@ -34,7 +34,7 @@ pub(crate) enum Subject<'a> {
 impl Topic {
     /// The topic of a statement.
     pub(crate) fn new(alloc: Global, subject: Subject<'_>) -> Result<Topic, AllocError>
-        ensures { IfOk result (λ topic. topic ≡ topic_of subject) }
+        ensures { IfOk result (λ topic. topic ≡ topic_of subject.entry) }
     {
         Ok(match subject {
             Subject::Interface(name) => Topic::Interface(Text::new(alloc, name)?),

@@ -14,4 +14,4 @@ loop-above-preserved c =
 pub returns : goal.returns
 returns c =
     let none : length c.args.lines.now ≤ c.loop-above.above = omega (arith, c.count-above-end.ensures, c.loop-above-test.false) in
-    all_gathered c.args.lines.now c.loop-above.above c.loop-above.draft _ none c.loop-above.invariant refl refl refl refl refl
+    all_gathered c.args.lines.now c.loop-above.above c.loop-above.draft _ none c.loop-above.invariant refl refl refl refl

@@ -1,16 +1,15 @@
-use Rattle.std.proofs.Common.{◌≡◌, ◌<◌, true, List, ℕ, length, sym, ap, ◌∙◌, arith}
+use Rattle.std.proofs.Common.{◌≡◌, ◌<◌, true, length, sym, ◌∙◌, arith}
 use Rattle.std.specs.List.{list_any, position_or_len}
-use Rattle.std.specs.Str.{bytes_eq}
 use Rattle.std.proofs.lemmas.Bool.{not-false}
+use Rattle.nc_reader.specs.Readings.{topic_of}
+use Rattle.nc_reader.specs.Topics.{same_topic}
 use Rattle.nc_reader.proofs.GroupLemmas.{place_known}
 use Rattle.nc_reader.proofs.groups.put.Goals as goal
 
 pub add-requires : goal.add-requires
 add-requires c =
-    let name = c.args.name.now in
-    let names : List (List ℕ) = c.args.names.now.keys in
-    let is_name = c.in_ok-new.ensures in
-    let known : list_any (bytes_eq name) names ≡ true = ap (λ (n : List ℕ). list_any (bytes_eq n) names) (sym is_name) ∙ not-false _ (sym c.in_ok-place.ensures.added ∙ c.if-is_new.false) in
-    let place : c.in_ok-place.place ≡ position_or_len (bytes_eq name) names = c.in_ok-place.ensures.index ∙ ap (λ (n : List ℕ). position_or_len (bytes_eq n) names) is_name in
-    let within : position_or_len (bytes_eq name) names < length names = place_known bytes_eq names name known in
-    omega (arith, c.requires)
+    let topic = topic_of c.args.subject in
+    let topics = c.args.topics.now.keys in
+    let known : list_any (same_topic topic) topics ≡ true = not-false _ (sym c.in_ok-place.ensures.new ∙ c.if-is_new.false) in
+    let within : position_or_len (same_topic topic) topics < length topics = place_known same_topic topics topic known in
+    omega (arith, c.in_ok-place.ensures.place, c.requires)

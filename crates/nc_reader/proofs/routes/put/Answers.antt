@@ -3,7 +3,7 @@ use Rattle.std.specs.List.{list_any}
 use Rattle.std.proofs.lemmas.List.{length-map}
 use Rattle.std.proofs.lemmas.Bool.{not-false, not-true}
 use Rattle.nc_reader.specs.contracts.routes.RouteKeyPartialEq.TheImpl.{eq-value}
-use Rattle.nc_reader.specs.Configuration.{Routed}
+use Rattle.nc_reader.specs.Things.{Routed}
 use Rattle.nc_reader.specs.Parts.{static_part, key_view, with_statement}
 use Rattle.nc_reader.specs.Steps.{changed_at}
 use Rattle.nc_reader.proofs.GroupLemmas.{length-changed_at}

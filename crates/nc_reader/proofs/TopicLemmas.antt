@@ -1,0 +1,86 @@
+-- Topics are one where the test says so.
+use Rattle.std.proofs.Common.{◌≡◌, ℕ, true, eqb, List, refl, ap, ◌∙◌, subst}
+use Rattle.std.specs.Cmp.{IsEquivalence}
+use Rattle.std.specs.Str.{bytes_eq}
+use Rattle.std.proofs.lemmas.Bool.{and_parts, and_from, eqb-true, eq-eqb}
+use Rattle.std.proofs.lemmas.Slice.Eq.{bytes_eq-Decides}
+use Rattle.nc_reader.specs.contracts.topic.TopicPartialEq.TheImpl.{eq-value}
+use Rattle.nc_reader.specs.declared.topic.Topic.{Topic}
+use Rattle.nc_reader.specs.declared.topic.Topic.TheVariants as topics
+use Rattle.nc_reader.specs.Topics.{same_topic}
+use Rattle.nc_reader.proofs.Grouping.{IsSame, equiv_of}
+
+-- the equality of the code is that of the definitions
+pub eq_same : (s t : Topic) → (eq-value).it s t ≡ same_topic s t
+eq_same (topics.Interface a) (topics.Interface b) = refl
+eq_same (topics.Interface a) topics.Statics = refl
+eq_same (topics.Interface a) (topics.Clause b n) = refl
+eq_same (topics.Interface a) (topics.List b) = refl
+eq_same (topics.Interface a) (topics.Communities b) = refl
+eq_same topics.Statics (topics.Interface b) = refl
+eq_same topics.Statics topics.Statics = refl
+eq_same topics.Statics (topics.Clause b n) = refl
+eq_same topics.Statics (topics.List b) = refl
+eq_same topics.Statics (topics.Communities b) = refl
+eq_same (topics.Clause a m) (topics.Interface b) = refl
+eq_same (topics.Clause a m) topics.Statics = refl
+eq_same (topics.Clause a m) (topics.Clause b n) = refl
+eq_same (topics.Clause a m) (topics.List b) = refl
+eq_same (topics.Clause a m) (topics.Communities b) = refl
+eq_same (topics.List a) (topics.Interface b) = refl
+eq_same (topics.List a) topics.Statics = refl
+eq_same (topics.List a) (topics.Clause b n) = refl
+eq_same (topics.List a) (topics.List b) = refl
+eq_same (topics.List a) (topics.Communities b) = refl
+eq_same (topics.Communities a) (topics.Interface b) = refl
+eq_same (topics.Communities a) topics.Statics = refl
+eq_same (topics.Communities a) (topics.Clause b n) = refl
+eq_same (topics.Communities a) (topics.List b) = refl
+eq_same (topics.Communities a) (topics.Communities b) = refl
+
+named_one : (topic : List ℕ → Topic) (a b : List ℕ) → bytes_eq a b ≡ true → topic a ≡ topic b
+named_one topic a b e = ap topic ((bytes_eq-Decides a b).0 e)
+
+topics_one : (s t : Topic) → same_topic s t ≡ true → s ≡ t
+topics_one (topics.Interface a) (topics.Interface b) e = named_one topics.Interface a b e
+topics_one (topics.Interface a) topics.Statics e = absurd cc
+topics_one (topics.Interface a) (topics.Clause b n) e = absurd cc
+topics_one (topics.Interface a) (topics.List b) e = absurd cc
+topics_one (topics.Interface a) (topics.Communities b) e = absurd cc
+topics_one topics.Statics (topics.Interface b) e = absurd cc
+topics_one topics.Statics topics.Statics e = refl
+topics_one topics.Statics (topics.Clause b n) e = absurd cc
+topics_one topics.Statics (topics.List b) e = absurd cc
+topics_one topics.Statics (topics.Communities b) e = absurd cc
+topics_one (topics.Clause a m) (topics.Interface b) e = absurd cc
+topics_one (topics.Clause a m) topics.Statics e = absurd cc
+topics_one (topics.Clause a m) (topics.Clause b n) e = let parts = and_parts (bytes_eq a b) (eqb m n) e in named_one (λ name. topics.Clause name m) a b parts.0 ∙ ap (topics.Clause b) (eqb-true m n parts.1)
+topics_one (topics.Clause a m) (topics.List b) e = absurd cc
+topics_one (topics.Clause a m) (topics.Communities b) e = absurd cc
+topics_one (topics.List a) (topics.Interface b) e = absurd cc
+topics_one (topics.List a) topics.Statics e = absurd cc
+topics_one (topics.List a) (topics.Clause b n) e = absurd cc
+topics_one (topics.List a) (topics.List b) e = named_one topics.List a b e
+topics_one (topics.List a) (topics.Communities b) e = absurd cc
+topics_one (topics.Communities a) (topics.Interface b) e = absurd cc
+topics_one (topics.Communities a) topics.Statics e = absurd cc
+topics_one (topics.Communities a) (topics.Clause b n) e = absurd cc
+topics_one (topics.Communities a) (topics.List b) e = absurd cc
+topics_one (topics.Communities a) (topics.Communities b) e = named_one topics.Communities a b e
+
+topic_own : (t : Topic) → same_topic t t ≡ true
+topic_own (topics.Interface a) = (bytes_eq-Decides a a).1 refl
+topic_own topics.Statics = refl
+topic_own (topics.Clause a m) = and_from (bytes_eq a a) (eqb m m) ((bytes_eq-Decides a a).1 refl) (eq-eqb m m refl)
+topic_own (topics.List a) = (bytes_eq-Decides a a).1 refl
+topic_own (topics.Communities a) = (bytes_eq-Decides a a).1 refl
+
+pub topics_same : IsSame same_topic
+topics_same s t = (topics_one s t, (λ e. subst (λ (t : Topic). same_topic s t ≡ true) e (topic_own s)))
+
+pub same_topic_equiv : IsEquivalence same_topic
+same_topic_equiv = equiv_of topics_same
+
+-- the two are one function
+pub eq_is : (λ s t. (eq-value).it s t) ≡ same_topic
+eq_is = λ i s t. eq_same s t i

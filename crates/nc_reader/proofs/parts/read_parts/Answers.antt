@@ -1,0 +1,24 @@
+use Rattle.std.proofs.Common.{◌≡◌, List, [], ◌++◌, Result, ap, ◌∙◌}
+use Rattle.std.specs.List.{filter_map}
+use Rattle.nc_types.specs.Faults.{lowest}
+use Rattle.nc_types.specs.declared.fault.Fault.{Fault}
+use Rattle.nc_reader.specs.Roles.{roles_from}
+use Rattle.nc_reader.specs.Configuration.{wrong_at, topics_of, parts_of}
+use Rattle.nc_reader.specs.Parts.{parts_by}
+use Rattle.nc_reader.specs.Things.{Part, ok_of, err_of}
+use Rattle.nc_reader.proofs.ConfigLemmas.{read-blocks}
+use Rattle.nc_reader.proofs.parts.read_parts.Goals as goal
+
+pub returns : goal.returns
+returns c =
+    let lines = c.args.lines.now in
+    let seen = c.in_ok-gathered.ensures in
+    let read : parts_by lines c.as_slice-topics.result.now c.deref.result.now ≡ parts_of lines (roles_from [] lines) =
+    ap (parts_by lines c.as_slice-topics.result.now) c.deref.ensures.value
+    ∙ read-blocks lines c.as_slice-topics.result.now c.in_ok-gathered.gathered.blocks.items (topics_of (roles_from [] lines)) (c.as_slice-topics.ensures.keys ∙ seen.topics) seen.blocks in
+    let wrongs = filter_map (λ r. wrong_at r.line r.role) (roles_from [] lines) in
+    record {
+      name = seen.name;
+      made = c.in_ok-read.ensures.parts ∙ ap (filter_map ok_of) read;
+      fault = c.in_ok-read.ensures.told wrongs seen.fault ∙ ap (λ (rs : List (Result Part Fault)). lowest (wrongs ++ filter_map err_of rs)) read;
+    }
