@@ -1,12 +1,17 @@
 -- The deciding clause, found by going over the clauses once.
-use Rattle.std.proofs.Common.{◌≡◌, ℕ, ◌+◌, ◌<◌, Bool, true, false, cond, nat_lt, ◌&&◌, List, ◌∷◌, length, map, get_or, drop, filter, Option, Some, None, refl, sym, ap, ◌∙◌, arith}
-use Rattle.std.specs.Option.{is_some, option_map_or}
+use Rattle.std.proofs.Common.{◌≡◌, ℕ, zero, suc, ◌+◌, ◌-◌, ◌<◌, ◌≤◌, Bool, true, false, cond, nat_lt, ◌&&◌, List, [], ◌∷◌, length, map, get_or, drop, filter, Option, Some, None, refl, sym, ap, subst, ◌∙◌, arith}
+use Rattle.std.specs.Prelude.{slice_get}
+use Rattle.std.specs.List.{position_from}
+use Rattle.std.specs.Option.{option_map_or}
+use Rattle.std.specs.Str.{bytes_eq}
 use Rattle.std.proofs.lemmas.Bool.{ltb-true, ltb-false}
-use Rattle.std.proofs.lemmas.List.{length-map, get_or-map, at_drop_more}
-use Rattle.nc_types.specs.declared.config.Clause.{Clause}
-use Rattle.nc_types.specs.Config.{ClauseView, clause_view}
+use Rattle.std.proofs.lemmas.List.{drop_more, drop_all, drop-drop, drop-map}
+use Rattle.std.proofs.lemmas.Option.{slice_get-get_or, slice_get_within}
+use Rattle.nc_types.specs.Config.{ClauseView}
+use Rattle.nc_types.proofs.Sameness.{same_bytes_is}
 use Rattle.nc_tables.specs.Policy.{Placed, placed_from, least}
 use Rattle.nc_policy.specs.Views.{is_lower}
+use Rattle.nc_policy.specs.Indexes.{place_from}
 
 -- of two clauses the second, if its number is lower
 abbrev pub lower_of : Option Placed → Option Placed → Option Placed
@@ -63,33 +68,78 @@ joined test best k = on (is_lower k.clause best) (test k)
     on false true = refl
     on false false = refl
 
-module _ (test : Placed → Bool) (clauses : List Clause) (place : ℕ) (k : Clause) (is : k ≡ get_or clauses place k) (lt : place < length clauses) where
+-- the clauses from the next one of a map on
+abbrev pub rest_of : (Placed → Bool) → List ClauseView → Option ℕ → Option Placed
+rest_of test all next = option_map_or (λ (place : ℕ). least (filter test (placed_from place (drop place all)))) next None
+
+module _ (test : Placed → Bool) (all : List ClauseView) (place : ℕ) (k : ClauseView) (at : slice_get all place ≡ Some k) where
   abbrev pub here : Placed
-  here = record { place = place; clause = clause_view k }
+  here = record { place = place; clause = k }
 
-  abbrev pub rest_from : ℕ → Option Placed
-  rest_from i = least (filter test (placed_from i (drop i (map clause_view clauses))))
-
-  next : placed_from place (drop place (map clause_view clauses)) ≡ here ∷ placed_from (place + 1) (drop (place + 1) (map clause_view clauses))
+  next : drop place all ≡ k ∷ drop (place + 1) all
   next =
-      let many : place < length (map clause_view clauses) = omega (arith, length-map clauses clause_view) in
-      at_drop_more (placed_from place) (map clause_view clauses) place (clause_view k) many
-      ∙ ap (λ (x : ClauseView). record { place = place; clause = x } ∷ placed_from (place + 1) (drop (place + 1) (map clause_view clauses))) (get_or-map clause_view clauses place k (clause_view k) lt ∙ ap clause_view (sym is))
+      let lt : place < length all = slice_get_within all place k at in
+      let read : Some (get_or all place k) ≡ Some k = sym (slice_get-get_or all place k lt) ∙ at in
+      let same : get_or all place k ≡ k = cc in
+      drop_more all place k lt ∙ ap (λ (x : ClauseView). x ∷ drop (place + 1) all) same
 
   -- the best clause so far, one further
-  pub one_more : (best : Option Placed) → lower_of best (rest_from place) ≡ lower_of (cond (is_lower here.clause best && test here) (Some here) best) (rest_from (place + 1))
+  pub one_more : (best : Option Placed)
+      → lower_of best (rest_of test all (Some place)) ≡ lower_of (cond (is_lower k best && test here) (Some here) best) (least (filter test (placed_from (place + 1) (drop (place + 1) all))))
   one_more best =
-      ap (λ (ks : List Placed). lower_of best (least (filter test ks))) next
-      ∙ passed test best here (placed_from (place + 1) (drop (place + 1) (map clause_view clauses)))
-      ∙ ap (λ (o : Option Placed). lower_of o (rest_from (place + 1))) (joined test best here)
+      ap (λ (ks : List ClauseView). lower_of best (least (filter test (placed_from place ks)))) next
+      ∙ passed test best here (placed_from (place + 1) (drop (place + 1) all))
+      ∙ ap (λ (o : Option Placed). lower_of o (least (filter test (placed_from (place + 1) (drop (place + 1) all))))) (joined test best here)
 
--- a clause whose entries are taken has a lower number, is one of the map and matches by them; one that is passed over isn't all that
-pub taken : {N : Type 0} (low named : Bool) (o : Option N) (n : N) → Some n ≡ cond (low && named) o None → ((low && (named && is_some o)) ≡ true) × (Some n ≡ o)
-taken true true o n e = (ap is_some (sym e), e)
-taken true false o n e = absurd cc
-taken false named o n e = absurd cc
+-- ---- from one clause of a map to the next
 
-pub passed_over : {N : Type 0} (low named : Bool) (o : Option N) → None ≡ cond (low && named) o None → (low && (named && is_some o)) ≡ false
-passed_over true true o e = ap is_some (sym e)
-passed_over true false o e = refl
-passed_over false named o e = refl
+abbrev pub of_map : List ℕ → (Placed → Bool) → Placed → Bool
+of_map name matches k = bytes_eq name k.clause.map_name && matches k
+
+-- the clauses before the next one of the map are passed over
+skip : (name : List ℕ) (matches : Placed → Bool) (all : List ClauseView) (from : ℕ) (ks : List ClauseView) → ks ≡ drop from all
+    → rest_of (of_map name matches) all (position_from (bytes_eq name) from (map (λ k. k.map_name) ks)) ≡ least (filter (of_map name matches) (placed_from from ks))
+skip name matches all from [] e = refl
+skip name matches all from (k ∷ ks) e = on (bytes_eq name k.map_name) refl (skip name matches all (from + 1) ks (ap (drop 1) e ∙ drop-drop 1 from all))
+  where
+    on : (b : Bool) → bytes_eq name k.map_name ≡ b → rest_of (of_map name matches) all (position_from (bytes_eq name) (from + 1) (map (λ k. k.map_name) ks)) ≡ least (filter (of_map name matches) (placed_from (from + 1) ks))
+        → rest_of (of_map name matches) all (cond b (Some from) (position_from (bytes_eq name) (from + 1) (map (λ k. k.map_name) ks))) ≡ least (filter (of_map name matches) (placed_from from (k ∷ ks)))
+    on true is rest = ap (λ (ys : List ClauseView). least (filter (of_map name matches) (placed_from from ys))) (sym e)
+    on false is rest =
+        let one : Placed = record { place = from; clause = k } in
+        let more = filter (of_map name matches) (placed_from (from + 1) ks) in
+        rest ∙ sym (ap (λ (b : Bool). least (cond (b && matches one) (one ∷ more) more)) is)
+
+pub skip_from : (name : List ℕ) (matches : Placed → Bool) (all : List ClauseView) (from : ℕ)
+    → rest_of (of_map name matches) all (place_from name from (map (λ k. k.map_name) all)) ≡ least (filter (of_map name matches) (placed_from from (drop from all)))
+skip_from name matches all from =
+    ap (λ (ns : List (List ℕ)). rest_of (of_map name matches) all (position_from (bytes_eq name) from ns)) (drop-map (λ (k : ClauseView). k.map_name) from all)
+    ∙ skip name matches all from (drop from all) refl
+
+first_left : {X : Type 0} (all : List X) (from : ℕ) (x : X) (xs : List X) → x ∷ xs ≡ drop from all → slice_get all from ≡ Some x
+first_left [] from x xs e = absurd (let none : x ∷ xs ≡ [] = e ∙ drop_all from [] (omega arith) in cc)
+first_left (y ∷ ys) zero x xs e = let same : y ≡ x = cc in ap (λ z. Some z) same
+first_left (y ∷ ys) (suc from) x xs e = first_left ys from x xs e
+
+found_at : (q : List ℕ) (all : List (List ℕ)) (from : ℕ) (ns : List (List ℕ)) → ns ≡ drop from all → (j : ℕ) → position_from (bytes_eq q) from ns ≡ Some j → slice_get all j ≡ Some q
+found_at q all from [] e j is = absurd (cc)
+found_at q all from (n ∷ ns) e j is = on (bytes_eq q n) refl (found_at q all (from + 1) ns (ap (drop 1) e ∙ drop-drop 1 from all) j) is
+  where
+    on : (b : Bool) → bytes_eq q n ≡ b → (position_from (bytes_eq q) (from + 1) ns ≡ Some j → slice_get all j ≡ Some q) → cond b (Some from) (position_from (bytes_eq q) (from + 1) ns) ≡ Some j → slice_get all j ≡ Some q
+    on true same rest found =
+        let place : from ≡ j = cc in
+        ap (slice_get all) (sym place) ∙ first_left all from n ns e ∙ ap (λ (z : List ℕ). Some z) (sym (same_bytes_is q n same))
+    on false same rest found = rest found
+
+-- each step of the walk leaves fewer clauses
+pub fewer : (n place : ℕ) (next later : Option ℕ) → next ≡ Some place → place < n → ((j : ℕ) → later ≡ Some j → place + 1 ≤ j)
+    → option_map_or (λ (k : ℕ). n - k) later 0 < option_map_or (λ (k : ℕ). n - k) next 0
+fewer n place next later is lt behind = subst (λ (o : Option ℕ). option_map_or (λ (k : ℕ). n - k) later 0 < option_map_or (λ (k : ℕ). n - k) o 0) (sym is) (on later behind)
+  where
+    on : (o : Option ℕ) → ((j : ℕ) → o ≡ Some j → place + 1 ≤ j) → option_map_or (λ (k : ℕ). n - k) o 0 < n - place
+    on None behind = omega arith
+    on (Some j) behind = let past : place + 1 ≤ j = behind j refl in omega arith
+
+-- the place that is found of a name has it
+pub named_at : (q : List ℕ) (names : List (List ℕ)) (from j : ℕ) → place_from q from names ≡ Some j → slice_get names j ≡ Some q
+named_at q names from j is = found_at q names from (drop from names) refl j is

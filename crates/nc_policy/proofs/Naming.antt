@@ -1,16 +1,20 @@
 -- The table of names.
-use Rattle.std.proofs.Common.{◌≡◌, ℕ, ◌+◌, ◌<◌, Bool, true, false, cond, List, length, map, drop, get_or, Some, refl, sym, ap, subst, ◌∙◌}
+use Rattle.std.proofs.Common.{◌≡◌, ℕ, ◌+◌, ◌<◌, ◌≤◌, Bool, true, false, cond, List, length, map, drop, set, get_or, Option, Some, None, refl, sym, ap, subst, ◌∙◌, arith, inl, inr}
 use Rattle.std.specs.Global.{Vec}
 use Rattle.std.specs.HashMap.{HashMap, Updates}
+use Rattle.std.specs.Prelude.{slice_get}
 use Rattle.std.specs.List.{position_from}
 use Rattle.std.specs.Map.{KeepsOthers}
 use Rattle.std.specs.Str.{bytes_eq}
+use Rattle.std.proofs.lemmas.Bool.{cases_eq}
+use Rattle.std.proofs.lemmas.List.{length-set, get_or-set_same, get_or-set_other}
+use Rattle.std.proofs.lemmas.Option.{slice_get-get_or, slice_get_within}
 use Rattle.std.proofs.lemmas.Cmp.{nat_list_eq_equiv}
 use Rattle.std.proofs.lemmas.Simd.{map-map}
 use Rattle.nc_types.proofs.Sameness.{same_bytes_is}
-use Rattle.nc_types.proofs.Walks.{drop_view}
+use Rattle.nc_types.proofs.Walks.{drop_view, drop_views}
 use Rattle.nc_policy.specs.declared.names.NameIndex.{NameIndex}
-use Rattle.nc_policy.specs.Indexes.{place_named, IsNameIndex}
+use Rattle.nc_policy.specs.Indexes.{place_from, place_named, IsNameIndex}
 
 -- how a table tells names apart
 abbrev same_name : Vec ℕ → Vec ℕ → Bool
@@ -46,3 +50,30 @@ pub names_seen : {A B : Type 0} (name : B → List ℕ) (view : A → B) (xs ite
     → IsNameIndex (map name (map view items)) index
 names_seen {A} name view xs items same index is =
     subst (λ (ns : List (List ℕ)). IsNameIndex ns index) (ap (λ (ys : List A). map (λ x. name (view x)) ys) same ∙ sym (map-map name view items)) is
+
+-- the same through a view
+pub views_back : {X Y : Type 0} (name : Y → List ℕ) (view : X → Y) (xs : List X) (k : ℕ) (x : X) → x ≡ get_or xs k x → k < length xs → (q : List ℕ)
+    → place_from q k (map name (map view xs)) ≡ cond (bytes_eq q (name (view x))) (Some k) (place_from q (k + 1) (map name (map view xs)))
+views_back name view xs k x read lt q = ap (position_from (bytes_eq q) k) (drop_views name view xs k x read lt)
+
+-- what stands at one place more knows the next one of its name
+pub behind_more : (names : List (List ℕ)) (next : List (Option ℕ)) (place : ℕ) (later : Option ℕ) (mine : List ℕ) → length next ≡ length names → slice_get names place ≡ Some mine
+    → later ≡ place_from mine (place + 1) names → ((k : ℕ) (name : List ℕ) → place + 1 ≤ k → slice_get names k ≡ Some name → slice_get next k ≡ Some (place_from name (k + 1) names))
+    → (k : ℕ) (name : List ℕ) → place ≤ k → slice_get names k ≡ Some name → slice_get (set next place later) k ≡ Some (place_from name (k + 1) names)
+behind_more names next place later mine count own is before k name least at =
+    let lt : k < length names = slice_get_within names k name at in
+    let here : k < length (set next place later) = omega (arith, length-set next place later) in
+    elim (cases_eq k place) [
+      | inl same ↦
+          let one : Some mine ≡ Some name = sym own ∙ ap (slice_get names) (sym same) ∙ at in
+          let same_name : mine ≡ name = cc in
+          let within : place < length next = omega arith in
+          slice_get-get_or (set next place later) k None here
+          ∙ ap (λ (n : ℕ). Some (get_or (set next place later) n None)) same ∙ ap (λ (o : Option ℕ). Some o) (get_or-set_same next place later None within ∙ is)
+          ∙ ap (λ (n : ℕ). Some (place_from mine (n + 1) names)) (sym same) ∙ ap (λ (q : List ℕ). Some (place_from q (k + 1) names)) same_name
+      | inr other ↦
+          let inside : k < length next = omega arith in
+          slice_get-get_or (set next place later) k None here
+          ∙ ap (λ (o : Option ℕ). Some o) (get_or-set_other next place k later None other)
+          ∙ sym (slice_get-get_or next k None inside) ∙ before k name (omega arith) at
+    ]

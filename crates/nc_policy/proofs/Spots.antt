@@ -33,7 +33,7 @@ more_lengths false len n place old = grind (arith, nat_tests)
 -- ---- the lowest of two places
 
 -- what is found from a place on isn't before it
-not_before : {X : Type 0} (f : X → Bool) (k : ℕ) (xs : List X) (j : ℕ) → position_from f k xs ≡ Some j → k ≤ j
+pub not_before : {X : Type 0} (f : X → Bool) (k : ℕ) (xs : List X) (j : ℕ) → position_from f k xs ≡ Some j → k ≤ j
 not_before f k [] j e = absurd (cc)
 not_before f k (x ∷ xs) j e = on (f x) (not_before f (k + 1) xs j) e
   where

@@ -1,7 +1,8 @@
 -- What the tables of a router's lists answer.
-use Rattle.std.specs.Prelude.{◌≡◌, ℕ, ◌<◌, Bool, ◌&&◌, nat_eq, nat_le, nat_lt, List, length, map, position, slice_get, All, Option, Some, None, if◌then◌else◌}
+use Rattle.std.specs.Prelude.{◌≡◌, ℕ, ◌+◌, ◌<◌, Bool, ◌&&◌, nat_eq, nat_le, nat_lt, List, length, map, drop, position, slice_get, All, Option, Some, None, if◌then◌else◌}
 use Rattle.std.specs.Global.{Vec}
 use Rattle.std.specs.HashMap.{HashMap, get, get_by}
+use Rattle.std.specs.List.{position_from}
 use Rattle.std.specs.Str.{bytes_eq}
 use Rattle.nc_types.specs.Cidr.{Cidr, IsCidr, same_prefix}
 use Rattle.nc_types.specs.Config.{ConfigView, PrefixListView}
@@ -55,9 +56,14 @@ place_named first q = get_by (λ k. bytes_eq q k.items) first
 abbrev pub named_in : NameIndex → List ℕ → Option ℕ
 named_in index q = place_named index.first q
 
--- a table has the place of the first of each of these names
+-- the place of the first of a name from a place on
+abbrev pub place_from : List ℕ → ℕ → List (List ℕ) → Option ℕ
+place_from name from names = position_from (bytes_eq name) from (drop from names)
+
+-- a table has the place of the first of each of these names, and of each the place of the next one of its name
 pub record IsNameIndex (names : List (List ℕ)) (index : NameIndex) : Type 0 where
   pub first : (q : List ℕ) → named_in index q ≡ position (bytes_eq q) names
+  pub behind : (k : ℕ) (name : List ℕ) → slice_get names k ≡ Some name → slice_get index.next.items k ≡ Some (place_from name (k + 1) names)
 
 -- ---- the tables of a router's lists
 
@@ -69,6 +75,7 @@ pub record AreIndexes (lists : List PrefixListView) (indexes : List ListIndex) :
 pub record IsIndexed (c : ConfigView) (index : RouterIndex) : Type 0 where
   pub names : IsNameIndex (map (λ l. l.name) c.lists) index.names
   pub community_names : IsNameIndex (map (λ l. l.name) c.community_lists) index.community_names
+  pub maps : IsNameIndex (map (λ k. k.map_name) c.clauses) index.maps
   pub lists : AreIndexes c.lists index.lists.items
 
 -- ---- the tables of a network

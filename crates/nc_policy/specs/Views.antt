@@ -1,8 +1,9 @@
 -- A candidate and a verdict of the code as those of the definition.
-use Rattle.std.specs.Prelude.{ℕ, Bool, true, nat_lt, List, Option, position}
+use Rattle.std.specs.Prelude.{◌≡◌, ℕ, ◌<◌, Bool, true, nat_lt, List, length, map, Option, Some, position}
 use Rattle.std.specs.Option.{option_map_or}
 use Rattle.std.specs.Str.{bytes_eq}
 use Rattle.nc_types.specs.Config.{ClauseView, CommunityListView, ConfigView, PrefixListView, clause_view}
+use Rattle.nc_tables.specs.declared.bgp.Route.{Route}
 use Rattle.nc_tables.specs.Policy as policy
 use Rattle.nc_policy.specs.declared.clauses.Candidate.{Candidate}
 use Rattle.nc_policy.specs.declared.route_map.Verdict.{Verdict}
@@ -21,9 +22,18 @@ community_place_of name lists = position (λ l. bytes_eq name l.name) lists
 abbrev pub named_community_list : ConfigView → List ℕ → Option ℕ
 named_community_list c name = community_place_of name c.community_lists
 
+-- the names of the maps of a router's clauses
+abbrev pub map_names : ConfigView → List (List ℕ)
+map_names c = map (λ k. k.map_name) c.clauses
+
 -- a clause with its place
 abbrev pub candidate_view : Candidate → policy.Placed
 candidate_view k = record { place = k.place; clause = clause_view k.clause.now }
+
+-- a clause of a router that matches a route, and the entries by which it does
+pub record IsCandidate (c : ConfigView) (r : Route) (k : Candidate) : Type 0 where
+  pub within : k.place < length c.clauses
+  pub names : Some k.names ≡ policy.names_of c r (clause_view k.clause.now)
 
 -- a clause has a lower number than another one, or there is no other
 abbrev pub is_lower : ClauseView → Option policy.Placed → Bool

@@ -1,14 +1,14 @@
 //! Which clause of a route map decides, and by which entries it matches.
 
-ghost use Rattle.std.specs.Prelude.{◌≡◌, ◌<◌, ◌&&◌, length, IfSome, None, Some, if◌then◌else◌};
+ghost use Rattle.std.specs.Prelude.{◌≡◌, ◌<◌, ◌+◌, ◌&&◌, length, map, slice_get};
+ghost use Rattle.std.specs.Prelude.{IfSome, Some, if◌then◌else◌};
 ghost use Rattle.std.specs.Option.{option_map};
-ghost use Rattle.std.specs.Str.{bytes_eq};
-ghost use Rattle.nc_types.specs.Config.{config_view, clause_view};
+ghost use Rattle.nc_types.specs.Config.{ClauseView, config_view, clause_view};
 ghost use Rattle.nc_types.specs.WellFormed.{IsWellFormed};
 ghost use Rattle.nc_tables.specs.Policy.{prefix_place, community_place, first_place, met};
-ghost use Rattle.nc_tables.specs.Policy.{names_of, deciding};
-ghost use Rattle.nc_policy.specs.Views.{candidate_view, is_lower};
-ghost use Rattle.nc_policy.specs.Indexes.{IsIndexed};
+ghost use Rattle.nc_tables.specs.Policy.{names_of, is_matching, deciding};
+ghost use Rattle.nc_policy.specs.Views.{candidate_view, is_lower, map_names, IsCandidate};
+ghost use Rattle.nc_policy.specs.Indexes.{place_from, IsIndexed};
 
 use crate::lists::{community_place, prefix_place};
 use crate::router_index::RouterIndex;
@@ -126,26 +126,79 @@ fn is_lower(clause: &Clause, best: Option<Candidate<'_>>) -> bool
     clause.number < best.clause.number
 }
 
-// The entries by which a clause matches, where it is one of the map and has a lower number than the
-// best one so far. Its lists are asked last.
-fn better_names(
+// The better one of the clause at a place and the best one so far: the clause, where it has a lower
+// number and matches. Its lists are asked last.
+fn better<'a>(
+    config: &'a RouterConfig,
+    index: Option<&RouterIndex>,
+    route: &Route,
+    place: usize,
+    best: Option<Candidate<'a>>,
+) -> Option<Candidate<'a>>
+    requires indexed { IfSome index (λ x. IsIndexed (config_view config.now) x.now) }
+    requires formed { IsWellFormed (config_view config.now) }
+    requires place { place < length config.now.clauses.items }
+    requires best { IfSome best (IsCandidate (config_view config.now) route.now) }
+    ensures better { (k : ClauseView) → slice_get (config_view config.now).clauses place ≡ Some k
+        → option_map candidate_view result
+        ≡ (if is_lower k (option_map candidate_view best.entry)
+        && is_matching (config_view config.now) route.now k
+        then Some (record { place = place; clause = k })
+        else option_map candidate_view best.entry) }
+    ensures candidate { IfSome result (IsCandidate (config_view config.now) route.now) }
+{
+    let clause = &config.clauses[place];
+    if !is_lower(clause, best) {
+        return best;
+    }
+    match names_of(config, index, route, clause) {
+        None => best,
+        Some(names) => Some(Candidate {
+            place,
+            clause,
+            names,
+        }),
+    }
+}
+
+// The place of the first clause of a map from a place on.
+fn clause_from(clauses: &[Clause], name: &[u8], from: usize) -> Option<usize>
+    ensures { result
+        ≡ place_from name.now from (map (λ k. k.map_name) (map clause_view clauses.now)) }
+{
+    'clauses: for place in from..clauses.len() {
+        if name == clauses[place].map.bytes() {
+            return Some(place);
+        }
+    }
+    None
+}
+
+// The place of the first clause of a map: by the router's table, if there is one.
+fn first_clause(config: &RouterConfig, index: Option<&RouterIndex>, map: &[u8]) -> Option<usize>
+    requires indexed { IfSome index (λ x. IsIndexed (config_view config.now) x.now) }
+    ensures { result ≡ place_from map.now 0 (map_names (config_view config.now)) }
+{
+    match index {
+        Some(index) => index.maps.place(map),
+        None => clause_from(&config.clauses, map, 0),
+    }
+}
+
+// The place of the next clause of a map behind one of it.
+fn clause_behind(
     config: &RouterConfig,
     index: Option<&RouterIndex>,
     map: &[u8],
-    route: &Route,
-    clause: &Clause,
-    best: Option<Candidate<'_>>,
-) -> Option<Names>
+    place: usize,
+) -> Option<usize>
     requires indexed { IfSome index (λ x. IsIndexed (config_view config.now) x.now) }
-    requires formed { IsWellFormed (config_view config.now) }
-    ensures { result ≡ (if is_lower (clause_view clause.now) (option_map candidate_view best.entry)
-        && bytes_eq map.now clause.now.map
-        then names_of (config_view config.now) route.now (clause_view clause.now) else None) }
+    requires named { slice_get (map_names (config_view config.now)) place ≡ Some map.now }
+    ensures { result ≡ place_from map.now (place + 1) (map_names (config_view config.now)) }
 {
-    if is_lower(clause, best) && map == clause.map.bytes() {
-        names_of(config, index, route, clause)
-    } else {
-        None
+    match index {
+        Some(index) => index.maps.behind(place),
+        None => clause_from(&config.clauses, map, place + 1),
     }
 }
 
@@ -161,19 +214,13 @@ pub(crate) fn deciding<'a>(
     requires formed { IsWellFormed (config_view config.now) }
     ensures deciding { option_map candidate_view result
         ≡ deciding (config_view config.now) map.now route.now }
-    ensures within { IfSome result (λ found. found.place < length config.now.clauses.items) }
-    ensures names { IfSome result (λ found. Some found.names
-        ≡ names_of (config_view config.now) route.now (clause_view found.clause.now)) }
+    ensures candidate { IfSome result (IsCandidate (config_view config.now) route.now) }
 {
     let mut best = None;
-    'clauses: for (place, clause) in config.clauses.iter().enumerate() {
-        if let Some(names) = better_names(config, index, map, route, clause, best) {
-            best = Some(Candidate {
-                place,
-                clause,
-                names,
-            });
-        }
+    let mut next = first_clause(config, index, map);
+    'clauses: while let Some(place) = next {
+        best = better(config, index, route, place, best);
+        next = clause_behind(config, index, map, place);
     }
     best
 }

@@ -2,9 +2,9 @@
 //!
 //! The clauses of a map are gone over once; only a clause that can still decide has its lists
 //! asked, and a match carries the entries by which it came, so that no list is asked again.
-//! [`apply`] scans the lists. [`Policies`] has tables of them, made once for a network: a list is
-//! found by its name at one look-up, and the entry of a prefix list that decides at 33, however
-//! long the list is.
+//! [`apply`] scans clauses and lists. [`Policies`] has tables of them, made once for a network: the
+//! clauses of a map are found one behind the other, a list by its name at one look-up, and the
+//! entry of a prefix list that decides at 33, however long the list is.
 //!
 //! The crate stands on `nc_types` for the configuration of a router, on `nc_tables` for routes and
 //! for the definition of what a map makes of one, and on `nc_community` for sets of communities.

@@ -1,10 +1,11 @@
 //! Where the first of each name stands, by a table.
 
-ghost use Rattle.std.specs.Prelude.{◌≡◌, ℕ, List, Some, if◌then◌else◌, map, IfOk, OnOk};
+ghost use Rattle.std.specs.Prelude.{◌≡◌, ◌+◌, ℕ, List, Some, if◌then◌else◌, map, slice_get};
+ghost use Rattle.std.specs.Prelude.{IfOk, OnOk};
 ghost use Rattle.std.specs.Str.{bytes_eq};
-ghost use Rattle.nc_policy.specs.Indexes.{named_in, place_named, IsNameIndex};
+ghost use Rattle.nc_policy.specs.Indexes.{named_in, place_from, place_named, IsNameIndex};
 
-use nc_types::{CommunityList, PrefixList};
+use nc_types::{Clause, CommunityList, PrefixList};
 use std::alloc::{AllocError, Global};
 use std::collections::HashMap;
 
@@ -32,25 +33,36 @@ impl Named for CommunityList {
     }
 }
 
-/// A table of names.
+impl Named for Clause {
+    ghost name_of = { λ clause. clause.map };
+
+    fn name(&self) -> &[u8] {
+        self.map.bytes()
+    }
+}
+
+/// A table of names, by which those of one name are found one behind the other.
 #[derive(Drop)]
 pub(crate) struct NameIndex {
     /// The place of the first that has a name.
     first: HashMap<Vec<u8>, usize>,
+    /// Of each, the place of the next one that has its name.
+    next: Vec<Option<usize>>,
 }
 
-// Puts a place to a name, in the stead of a later one.
+// Puts a place to a name, and hands out the later one that the name had.
 fn put(
     alloc: Global,
     first: &mut HashMap<Vec<u8>, usize>,
     name: &[u8],
     place: usize,
-) -> Result<(), AllocError>
-    ensures { OnOk result ((q : List ℕ) → place_named first.new q
+) -> Result<Option<usize>, AllocError>
+    ensures later { IfOk result (λ later. later ≡ place_named first.old name.now) }
+    ensures put { OnOk result ((q : List ℕ) → place_named first.new q
         ≡ (if bytes_eq q name.now then Some place else place_named first.old q)) }
 {
-    first.insert(Vec::from_slice(alloc, name)?, place)?;
-    Ok(())
+    let later = first.insert(Vec::from_slice(alloc, name)?, place)?;
+    Ok(later)
 }
 
 impl NameIndex {
@@ -59,12 +71,13 @@ impl NameIndex {
         ensures { IfOk result (IsNameIndex (map T.name_of items.now)) }
     {
         let mut first = HashMap::new(alloc);
+        let mut next = vec![in alloc; None; items.len()]?;
         let mut place = items.len();
         'items: while place > 0 {
             place -= 1;
-            put(alloc, &mut first, items[place].name(), place)?;
+            next[place] = put(alloc, &mut first, items[place].name(), place)?;
         }
-        Ok(NameIndex { first })
+        Ok(NameIndex { first, next })
     }
 
     /// The place of the first that has a name. Takes no memory.
@@ -72,5 +85,14 @@ impl NameIndex {
         ensures { result ≡ named_in self.now name.now }
     {
         self.first.get(name).copied()
+    }
+
+    /// The place of the next one that has the name of the one at a place. Takes no memory.
+    pub(crate) fn behind(&self, place: usize) -> Option<usize>
+        ensures { (names : List (List ℕ)) (name : List ℕ) → IsNameIndex names self.now
+            → slice_get names place ≡ Some name → result ≡ place_from name (place + 1) names }
+    {
+        let next = self.next.get(place)?;
+        *next
     }
 }

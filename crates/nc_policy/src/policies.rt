@@ -12,8 +12,9 @@ use nc_tables::Route;
 use nc_types::{Network, RouterId};
 use std::alloc::{AllocError, Global};
 
-/// The tables of the lists of a network's routers. They are made once, and by them a list is found
-/// by its name at one look-up, and what a prefix list says of a prefix at 33.
+/// The tables of the maps and lists of a network's routers. They are made once, and by them the
+/// clauses of a map are found one behind the other, a list by its name at one look-up, and what a
+/// prefix list says of a prefix at 33.
 #[derive(Drop)]
 pub struct Policies {
     routers: Vec<RouterIndex>,

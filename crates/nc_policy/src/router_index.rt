@@ -9,11 +9,13 @@ use crate::names::NameIndex;
 use nc_types::{PrefixList, RouterConfig};
 use std::alloc::{AllocError, Global};
 
-/// The tables of a router's lists: their places by name, and of each prefix list what it says.
+/// The tables of a router's lists and maps: their places by name, and of each prefix list what it
+/// says.
 #[derive(Drop)]
 pub(crate) struct RouterIndex {
     pub(crate) names: NameIndex,
     pub(crate) community_names: NameIndex,
+    pub(crate) maps: NameIndex,
     lists: Vec<ListIndex>,
 }
 
@@ -35,10 +37,12 @@ impl RouterIndex {
     {
         let names = NameIndex::new(alloc, &config.lists)?;
         let community_names = NameIndex::new(alloc, &config.community_lists)?;
+        let maps = NameIndex::new(alloc, &config.clauses)?;
         let lists = list_indexes(alloc, &config.lists)?;
         Ok(RouterIndex {
             names,
             community_names,
+            maps,
             lists,
         })
     }

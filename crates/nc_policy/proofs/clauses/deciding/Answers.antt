@@ -1,44 +1,83 @@
-use Rattle.std.proofs.Common.{◌≡◌, ◌+◌, ◌<◌, Bool, true, false, cond, ◌&&◌, List, length, get_or, Option, Some, IfSome, sym, ap, subst, ◌∙◌, arith}
-use Rattle.std.specs.Option.{is_some, option_map}
+use Rattle.std.proofs.Common.{◌≡◌, ◌+◌, ◌<◌, ℕ, Bool, true, cond, ◌&&◌, List, Option, Some, length, map, drop, sym, ap, ◌∙◌, arith, inl, inr}
+use Rattle.std.specs.Prelude.{slice_get}
+use Rattle.std.specs.Option.{option_map}
 use Rattle.std.specs.Str.{bytes_eq}
-use Rattle.nc_types.specs.declared.config.Clause.{Clause}
-use Rattle.nc_types.specs.Config.{clause_view, config_view}
-use Rattle.nc_tables.specs.Policy.{Placed, names_of, is_matching, deciding}
-use Rattle.nc_policy.specs.declared.clauses.Candidate.{Candidate}
-use Rattle.nc_policy.specs.Views.{candidate_view, is_lower}
-use Rattle.nc_policy.proofs.Deciding.{one_more, lower_of, rest_from, here, taken, passed_over}
+use Rattle.std.proofs.lemmas.Cmp.{nat_list_eq_equiv}
+use Rattle.std.proofs.lemmas.List.{length-map}
+use Rattle.std.proofs.lemmas.Option.{slice_get-map, slice_get_cases, slice_get_within}
+use Rattle.nc_types.specs.Config.{ClauseView, clause_view, config_view}
+use Rattle.nc_types.specs.declared.config.RouterConfig.{RouterConfig}
+use Rattle.nc_tables.specs.Policy.{Placed, is_matching, deciding}
+use Rattle.nc_policy.specs.Views.{candidate_view, is_lower, map_names}
+use Rattle.nc_policy.proofs.Deciding.{lower_of, rest_of, of_map, one_more, skip_from, named_at, fewer}
+use Rattle.nc_policy.proofs.Spots.{not_before}
 use Rattle.nc_policy.proofs.clauses.deciding.Goals as goal
-use Rattle.nc_policy.proofs.clauses.deciding.Goals.{in-Some, in_default}
+
+-- a place that has a name is that of a clause
+within : (config : RouterConfig) (place : ℕ) (name : List ℕ) → slice_get (map_names (config_view config)) place ≡ Some name → place < length config.clauses.items
+within config place name at =
+    let all = map clause_view config.clauses.items in
+    omega (arith, slice_get_within (map_names (config_view config)) place name at, length-map all (λ (k : ClauseView). k.map_name), length-map config.clauses.items clause_view)
+
+-- and the clause has it
+has_name : (all : List ClauseView) (place : ℕ) (k : ClauseView) (name : List ℕ) → slice_get all place ≡ Some k → slice_get (map (λ k. k.map_name) all) place ≡ Some name → bytes_eq name k.map_name ≡ true
+has_name all place k name at own =
+    let one : Some k.map_name ≡ Some name = sym (slice_get-map (λ (k : ClauseView). k.map_name) all place ∙ ap (option_map (λ (k : ClauseView). k.map_name)) at) ∙ own in
+    let same : k.map_name ≡ name = cc in
+    ap (bytes_eq name) same ∙ nat_list_eq_equiv.refl name
+
+pub clauses-init : goal.clauses-init
+clauses-init c =
+    let config = config_view c.args.config.now in
+    let name = c.args.map.now in
+    let matches = λ (k : Placed). is_matching config c.args.route.now k.clause in
+    record {
+      deciding = ap (rest_of (of_map name matches) config.clauses) c.first_clause-next.ensures ∙ skip_from name matches config.clauses 0;
+      named = λ k e. named_at name (map_names config) 0 k (sym c.first_clause-next.ensures ∙ e);
+      best = tt;
+    }
+
+pub better-best-requires-clause-place : goal.better-best-requires-clause-place
+better-best-requires-clause-place c = within c.args.config.now c.in-Some.place c.args.map.now (c.clauses.invariant.named c.in-Some.place c.in-Some.is)
 
 pub clauses-preserved : goal.clauses-preserved
 clauses-preserved c =
     let config = config_view c.args.config.now in
-    let clauses = c.args.config.now.clauses.items in
-    let place = c.clauses.place in
-    let k = c.clause-item.result in
-    let test : Placed → Bool = λ (k : Placed). bytes_eq c.args.map.now k.clause.map_name && is_matching config c.args.route.now k.clause in
-    let is : k ≡ get_or clauses place k = c.clause-item.is ∙ ap (λ (ks : List Clause). get_or ks place k) c.deref-clause-items.ensures.value in
-    let lt : place < length clauses = omega (arith, ap (length {A = Clause}) c.deref-clause-items.ensures.value) in
+    let name = c.args.map.now in
+    let all = config.clauses in
+    let names = map_names config in
+    let place = c.in-Some.place in
+    let own : slice_get names place ≡ Some name = c.clauses.invariant.named place c.in-Some.is in
+    let matches = λ (k : Placed). is_matching config c.args.route.now k.clause in
+    let test = of_map name matches in
     let best = option_map candidate_view c.clauses.best in
-    let this = here test clauses place k is lt in
-    let rest = rest_from test clauses place k is lt (place + 1) in
-    let more = one_more test clauses place k is lt best in
-    let low = is_lower (clause_view k) best in
-    let named = bytes_eq c.args.map.now k.map in
-    let names = names_of config c.args.route.now (clause_view k) in
-    let after : (t : Bool) → (low && (named && is_some names)) ≡ t → lower_of (cond t (Some this) best) rest ≡ deciding config c.args.map.now c.args.route.now =
-    λ t e. ap (λ (b : Bool). lower_of (cond b (Some this) best) rest) (sym e) ∙ sym more ∙ c.clauses.invariant.deciding in
-    elim c.match-better_names.branch [
-      | in-Some w ↦
-          let here = taken low named names w.in-Some.names (sym w.in-Some.is ∙ c.better_names.ensures) in
-          record {
-            deciding = ap (λ (o : Option Candidate). lower_of (option_map candidate_view o) rest) w.best-is ∙ after true here.0;
-            within = subst (λ (o : Option Candidate). IfSome o (λ b. b.place < length clauses)) (sym w.best-is) lt;
-            names = subst (λ (o : Option Candidate). IfSome o (λ b. Some b.names ≡ names_of config c.args.route.now (clause_view b.clause.now))) (sym w.best-is) here.1;
-          }
-      | in_default w ↦ record {
-        deciding = ap (λ (o : Option Candidate). lower_of (option_map candidate_view o) rest) w.best-is ∙ after false (passed_over low named names (sym w.in_default.is ∙ c.better_names.ensures));
-        within = subst (λ (o : Option Candidate). IfSome o (λ b. b.place < length clauses)) (sym w.best-is) c.clauses.invariant.within;
-        names = subst (λ (o : Option Candidate). IfSome o (λ b. Some b.names ≡ names_of config c.args.route.now (clause_view b.clause.now))) (sym w.best-is) c.clauses.invariant.names;
-      }
-    ]
+    let behind = rest_of test all c.clause_behind-next.result in
+    let decided : (k : ClauseView) → slice_get all place ≡ Some k → lower_of (option_map candidate_view c.better-best.result) behind ≡ deciding config name c.args.route.now =
+    λ k at.
+    let this : Placed = record { place = place; clause = k } in
+    let low = is_lower k best in
+    let named : bytes_eq name k.map_name ≡ true = has_name all place k name at own in
+    ap (λ (o : Option Placed). lower_of o behind) (c.better-best.ensures.better k at)
+    ∙ ap (λ (b : Bool). lower_of (cond (low && (b && matches this)) (Some this) best) behind) (sym named)
+    ∙ ap (lower_of (cond (low && test this) (Some this) best)) (ap (rest_of test all) c.clause_behind-next.ensures ∙ skip_from name matches all (place + 1))
+    ∙ sym (one_more test all place k at best)
+    ∙ ap (λ (o : Option ℕ). lower_of best (rest_of test all o)) (sym c.in-Some.is)
+    ∙ c.clauses.invariant.deciding in
+    record {
+      deciding = elim (slice_get_cases all place).1 [
+        | inl r ↦ decided r.0 r.2
+        | inr r ↦
+            let inside : place < length names = slice_get_within names place name own in
+            absurd (omega (arith, r.0, length-map all (λ (k : ClauseView). k.map_name)))
+      ];
+      named = λ k e. named_at name names (place + 1) k (sym c.clause_behind-next.ensures ∙ e);
+      best = c.better-best.ensures.candidate;
+    }
+
+pub clauses-smaller : goal.clauses-smaller
+clauses-smaller c =
+    let place = c.in-Some.place in
+    let names = map_names (config_view c.args.config.now) in
+    let lt = within c.args.config.now place c.args.map.now (c.clauses.invariant.named place c.in-Some.is) in
+    fewer (length c.args.config.now.clauses.items) place c.clauses.next c.clause_behind-next.result c.in-Some.is lt
+    (λ j e. not_before (bytes_eq c.args.map.now) (place + 1) (drop (place + 1) names) j (sym c.clause_behind-next.ensures ∙ e))

@@ -1,5 +1,6 @@
 use Rattle.std.proofs.Common.{ℕ, ap, sym, ◌∙◌, arith, Some, None}
-use Rattle.nc_types.specs.Config.{config_view}
+use Rattle.std.proofs.lemmas.List.{length-map}
+use Rattle.nc_types.specs.Config.{clause_view, config_view}
 use Rattle.nc_tables.specs.Policy.{Permit}
 use Rattle.nc_policy.specs.Views.{candidate_view}
 use Rattle.nc_policy.proofs.Few.{few_clauses}
@@ -12,21 +13,21 @@ returns-in_default c = undecided (config_view c.args.config.now) c.args.map.now 
 pub returns-then-not-found : goal.returns-then-not-found
 returns-then-not-found c =
     let found = c.in-Some.found in
-    denied (config_view c.args.config.now) c.args.map.now c.args.route.now (candidate_view found) found.names c.in-Some.ensures.deciding c.in-Some.ensures.names c.if-not-found.true
+    denied (config_view c.args.config.now) c.args.map.now c.args.route.now (candidate_view found) found.names c.in-Some.ensures.deciding c.in-Some.ensures.candidate.names c.if-not-found.true
 
 pub returns-in_default-2 : goal.returns-in_default-2
 returns-in_default-2 c =
     let found = c.in-Some.found in
-    permitted (config_view c.args.config.now) c.args.map.now c.args.route.now (candidate_view found) found.names c.in-Some.ensures.deciding c.in-Some.ensures.names c.if-not-found.false None
+    permitted (config_view c.args.config.now) c.args.map.now c.args.route.now (candidate_view found) found.names c.in-Some.ensures.deciding c.in-Some.ensures.candidate.names c.if-not-found.false None
     (sym c.in_default-2.is ∙ c.in_ok-changed.ensures)
 
 pub place_number-requires : goal.place_number-requires
-place_number-requires c = let few = few_clauses c.args.config.now c.requires.formed in omega (arith, c.in-Some.ensures.within)
+place_number-requires c = let few = few_clauses c.args.config.now c.requires.formed in omega (arith, c.in-Some.ensures.candidate.within, length-map c.args.config.now.clauses.items clause_view)
 
 pub returns : goal.returns
 returns c =
     let found = c.in-Some.found in
     let changed = c.in-Some-2.changed in
     ap (λ (n : ℕ). Permit changed n found.names) c.place_number.ensures
-    ∙ permitted (config_view c.args.config.now) c.args.map.now c.args.route.now (candidate_view found) found.names c.in-Some.ensures.deciding c.in-Some.ensures.names c.if-not-found.false (Some changed)
+    ∙ permitted (config_view c.args.config.now) c.args.map.now c.args.route.now (candidate_view found) found.names c.in-Some.ensures.deciding c.in-Some.ensures.candidate.names c.if-not-found.false (Some changed)
     (sym c.in-Some-2.is ∙ c.in_ok-changed.ensures)

@@ -1,5 +1,5 @@
 use Rattle.std.proofs.Common.{List, map, subst}
-use Rattle.nc_types.specs.Config.{PrefixListView, CommunityListView, list_view, community_list_view}
+use Rattle.nc_types.specs.Config.{PrefixListView, CommunityListView, ClauseView, list_view, community_list_view, clause_view}
 use Rattle.nc_types.specs.declared.config.PrefixList.{PrefixList}
 use Rattle.nc_policy.specs.Indexes.{AreIndexes}
 use Rattle.nc_policy.proofs.Naming.{names_seen}
@@ -13,5 +13,6 @@ returns c =
       community_names =
           names_seen (λ (l : CommunityListView). l.name) community_list_view c.deref-2.result.now config.community_lists.items c.deref-2.ensures.value c.in_ok-community_names.community_names
           c.in_ok-community_names.ensures;
-      lists = subst (λ (ls : List PrefixList). AreIndexes (map list_view ls) c.in_ok-lists.lists.items) c.deref-3.ensures.value c.in_ok-lists.ensures;
+      maps = names_seen (λ (k : ClauseView). k.map_name) clause_view c.deref-3.result.now config.clauses.items c.deref-3.ensures.value c.in_ok-maps.maps c.in_ok-maps.ensures;
+      lists = subst (λ (ls : List PrefixList). AreIndexes (map list_view ls) c.in_ok-lists.lists.items) c.deref-4.ensures.value c.in_ok-lists.ensures;
     }
