@@ -1,4 +1,3 @@
-mod Walks
 mod Options
 mod EachFile
 mod Joined

@@ -30,8 +30,8 @@ returns-clause-turns c =
       answered = record {
         reply = a.reply;
         step = a.step;
-        text = c.in_ok-extend_from_slice.ensures.items
-            ∙ ap (λ (l : List ℕ). c.args.out.now.items ++ l) (c.deref.ensures.value ∙ a.text ∙ ap (λ (l : List ℕ). l ++ a.reply) c.new-reply.ensures.items);
+        text = c.in_ok-hand_on.ensures.appended
+            ∙ ap (λ (l : List ℕ). c.args.out.now.items ++ l) (a.text ∙ ap (λ (l : List ℕ). l ++ a.reply) c.new-reply.ensures.items);
         state = a.state;
         files = a.files;
         infers = a.infers;
