@@ -1,5 +1,6 @@
 pub mod DraftLemmas
 pub mod WordLemmas
+pub mod HeadLemmas
 pub mod RunLemmas
 pub mod EntryLaws
 pub mod LineLaws

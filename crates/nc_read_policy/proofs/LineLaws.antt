@@ -17,8 +17,8 @@ use Rattle.nc_lines.specs.Parts.{Numbered}
 use Rattle.nc_community.proofs.SetLemmas.{IsBelow, IsAscending, by_places, to_places}
 use Rattle.nc_read_policy.specs.Results.{on_ok, ok_map}
 use Rattle.nc_read_policy.specs.Clauses.{action_of}
-use Rattle.nc_read_policy.specs.Entries.{bounds_of, seq_of, counted_seq, entry_of, numbered_entry, any_entry, named_entry, entry_at}
-use Rattle.nc_read_policy.specs.Lists.{EntryPart, higher, of_seq, parts_of, statement_at, stated_from, list_in}
+use Rattle.nc_read_policy.specs.Entries.{bounds_of, seq_of, counted_seq, entry_of, numbered_entry, any_entry}
+use Rattle.nc_read_policy.specs.Lists.{EntryPart, higher, of_seq, parts_of, behind_name, statement_at, stated_from, list_in}
 use Rattle.nc_read_policy.specs.Laws.{lines_in, HasLines, AreApart}
 use Rattle.nc_read_policy.proofs.EntryLaws.{part_lines, part_some, own_part, ascend}
 
@@ -57,19 +57,13 @@ any_line line highest words = on (after (codes "seq" ∷ []) words)
     on None = if_then (IsAt line) _ (λ seq. entry_line line seq words) (counted_seq highest)
     on (Some rest) = numbered_line line rest
 
-named_line : (line highest : ℕ) (words : List (List ℕ)) → IfSome (named_entry line highest words) (λ named. named.1.line ≡ line)
-named_line line highest [] = tt
-named_line line highest (name ∷ words) = if_map (λ named. named.1.line ≡ line) _ (IsAt line) (λ e is. is) (any_entry line highest words) (any_line line highest words)
-
 statement_line : (highest : ℕ) (l : Numbered) → IfOk (statement_at highest l) (IsAt l.line)
-unfolding entry_at
 statement_line highest l =
-    on (option_and_then (named_entry l.line highest) (after (codes "ip" ∷ codes "prefix-list" ∷ []) (words_of l.text)))
-    (if_then (λ named. named.1.line ≡ l.line) _ (named_line l.line highest) (after (codes "ip" ∷ codes "prefix-list" ∷ []) (words_of l.text)))
+    on (option_and_then (any_entry l.line highest) (behind_name (words_of l.text))) (if_then (IsAt l.line) _ (any_line l.line highest) (behind_name (words_of l.text)))
   where
-    on : (o : Option (List ℕ × ListEntry)) → IfSome o (λ named. named.1.line ≡ l.line) → IfOk {E = Fault} (ok_map (λ (named : List ℕ × ListEntry). named.1) (option_map_or (λ named. Ok named) o (Err (record { line = l.line; cause = Syntax })))) (IsAt l.line)
+    on : (o : Option ListEntry) → IfSome o (IsAt l.line) → IfOk {E = Fault} (option_map_or (λ e. Ok e) o (Err (record { line = l.line; cause = Syntax }))) (IsAt l.line)
     on None is = tt
-    on (Some named) is = is
+    on (Some e) is = is
 
 -- the statements have the lines that they are read from
 pub stated_lines : (highest : ℕ) (block : List Numbered) (es : List ListEntry) → stated_from highest block ≡ Ok es → map (λ (e : ListEntry). e.line) es ≡ lines_in block

@@ -1,16 +1,17 @@
 -- The prefix list that its statements make.
-use Rattle.std.specs.Prelude.{ℕ, ◌==◌, nat_lt, List, [], ◌∷◌, map, filter, Option, None, Result, Ok, if◌then◌else◌, codes}
+use Rattle.std.specs.Prelude.{ℕ, ◌==◌, nat_lt, List, [], ◌∷◌, map, filter, Option, Some, None, Result, Ok, Err, option_and_then, if◌then◌else◌, codes}
 use Rattle.std.specs.List.{filter_map, last_or}
-use Rattle.std.specs.Option.{option_map}
+use Rattle.std.specs.Option.{option_map, option_map_or}
 use Rattle.std.specs.Str.{bytes_eq}
 use Rattle.nc_types.specs.Communities.{put_all}
 use Rattle.nc_types.specs.declared.fault.Fault.{Fault}
 use Rattle.nc_types.specs.declared.fault.Cause.TheVariants.{Syntax}
 use Rattle.nc_types.specs.declared.config.ListEntry.{ListEntry}
+use Rattle.nc_lines.specs.Lines.{words_of}
 use Rattle.nc_lines.specs.Parts.{Numbered}
-use Rattle.nc_lines.specs.Statements.{Reading, Outside, Faulty, Says}
+use Rattle.nc_lines.specs.Statements.{Reading, Outside, Faulty, Says, after}
 use Rattle.nc_read_policy.specs.Results.{on_ok, ok_map}
-use Rattle.nc_read_policy.specs.Entries.{entry_at}
+use Rattle.nc_read_policy.specs.Entries.{any_entry}
 
 -- what is behind `ip prefix-list`: the name of a list; a description, and that entries are shown with their numbers, are outside
 abbrev pub list_name_says : List (List ℕ) → Reading (List ℕ)
@@ -24,9 +25,18 @@ list_name_says (name ∷ word ∷ words) = if bytes_eq word (codes "description"
 abbrev pub higher : ℕ → ℕ → ℕ
 higher m n = if nat_lt m n then n else m
 
--- the entry that a line writes, given the highest number before it
+-- the words behind `ip prefix-list` and the name of a list
+abbrev pub behind_word : List (List ℕ) → Option (List (List ℕ))
+behind_word [] = None
+behind_word (word ∷ words) = Some words
+
+abbrev pub behind_name : List (List ℕ) → Option (List (List ℕ))
+behind_name words = option_and_then behind_word (after (codes "ip" ∷ codes "prefix-list" ∷ []) words)
+
+-- the entry that a line writes, given the highest number before it; any other form is a fault of syntax
 abbrev pub statement_at : ℕ → Numbered → Result ListEntry Fault
-statement_at highest l = ok_map (λ named. named.1) (entry_at l.line highest l.text)
+statement_at highest l =
+    option_map_or (λ e. Ok e) (option_and_then (any_entry l.line highest) (behind_name (words_of l.text))) (Err (record { line = l.line; cause = Syntax }))
 
 -- the entries that the lines of one list write, given the highest number before them, or the fault of the first faulty line
 abbrev pub stated_from : ℕ → List Numbered → Result (List ListEntry) Fault

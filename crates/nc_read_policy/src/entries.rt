@@ -68,8 +68,8 @@ fn numbered_entry(line: u32, text: &[u8]) -> Option<ListEntry>
     entry(line, number, rest)
 }
 
-// What follows the name of a list.
-fn any_entry(line: u32, highest: u32, text: &[u8]) -> Option<ListEntry>
+/// What follows the name of a list.
+pub(crate) fn any_entry(line: u32, highest: u32, text: &[u8]) -> Option<ListEntry>
     ensures { result ≡ any_entry line highest (words_of text.now) }
 {
     if let Some(rest) = after_one(text, "seq") {
@@ -89,8 +89,8 @@ fn named_entry(line: u32, highest: u32, text: &[u8]) -> Option<(&[u8], ListEntry
     Some((name, entry))
 }
 
-/// The name of a list and the entry of a line; `None` where it is in another form.
-pub(crate) fn line_entry(line: u32, highest: u32, text: &[u8]) -> Option<(&[u8], ListEntry)>
+// The name of a list and the entry of a line; `None` where it is in another form.
+fn line_entry(line: u32, highest: u32, text: &[u8]) -> Option<(&[u8], ListEntry)>
     ensures { option_map (λ named. (named.0.now, named.1)) result
         ≡ option_and_then (named_entry line highest)
         (after (codes "ip" ∷ codes "prefix-list" ∷ []) (words_of text.now)) }

@@ -18,6 +18,7 @@ mod communities;
 mod draft;
 mod entries;
 mod header;
+mod heads;
 pub mod laws;
 mod lists;
 mod parts;

@@ -1,15 +1,17 @@
 //! The prefix list that its statements make.
 
-ghost use Rattle.std.specs.Prelude.{◌≡◌, ◌<◌, ◌≤◌, All, length};
+ghost use Rattle.std.specs.Prelude.{◌≡◌, ◌<◌, ◌≤◌, All, length, IfSome};
 ghost use Rattle.nc_lines.specs.Readings.{reading_of};
 ghost use Rattle.nc_lines.specs.Lines.{words_of};
 ghost use Rattle.nc_lines.specs.Parts.{numbered};
 ghost use Rattle.nc_read_policy.specs.Lists.{list_name_says, list_in, higher, statement_at};
 ghost use Rattle.nc_read_policy.specs.Lists.{stated_from};
 ghost use Rattle.nc_read_policy.specs.Clauses.{said_as};
+ghost use Rattle.nc_read_policy.specs.Heads.{IsHead};
 ghost use Rattle.nc_read_policy.specs.Outcomes.{IsStatement, AreStatements, AreEntries};
 
-use crate::entries::line_entry;
+use crate::entries::any_entry;
+use crate::heads::{cut_behind, read_head};
 use crate::parts::{EntryLines, gather_entries};
 use nc_lines::cut::cut_word;
 use nc_lines::statement::{Reading, is_word};
@@ -37,17 +39,38 @@ pub fn read_list_name(rest: &[u8]) -> Reading<&[u8]>
     }
 }
 
-// The entry that a line writes.
-#[tactic(auto, unfolding(crate::specs::Entries::entry_at))]
-fn read_entry(line: u32, highest: u32, text: &[u8]) -> Result<ListEntry, ConfigFault>
-    ensures { IsStatement result (statement_at highest (record { line = line; text = text.now })) }
+// The entry that a line writes, given how the first line of its list begins.
+fn read_entry(
+    line: u32,
+    highest: u32,
+    text: &[u8],
+    head: Option<&[u8]>,
+) -> Result<ListEntry, ConfigFault>
+    requires { IfSome head (λ head. IsHead head.now) }
+    ensures { IsStatement result
+        (statement_at highest (record { line = line; text = text.now })) }
 {
-    match line_entry(line, highest, text) {
-        Some((_, entry)) => Ok(entry),
-        None => Err(ConfigFault::Bad {
-            line,
-            cause: Cause::Syntax,
-        }),
+    let syntax = ConfigFault::Bad {
+        line,
+        cause: Cause::Syntax,
+    };
+    let Some(rest) = cut_behind(text, head) else {
+        return Err(syntax);
+    };
+    match any_entry(line, highest, rest) {
+        None => Err(syntax),
+        Some(entry) => Ok(entry),
+    }
+}
+
+// How the first line of a list begins.
+fn first_head<'a>(lines: &'a Lines, block: &Block) -> Option<&'a [u8]>
+    requires { All (λ k. (0 < k) × (k ≤ length lines.now)) block.now.lines.items }
+    ensures { IfSome result (λ head. IsHead head.now) }
+{
+    match block.lines.first() {
+        None => None,
+        Some(first) => read_head(lines.line(*first)),
     }
 }
 
@@ -65,8 +88,9 @@ fn read_entries(alloc: Global, lines: &Lines, block: &Block) -> Result<Vec<ListE
 {
     let mut entries = Vec::with_capacity(alloc, block.lines.len())?;
     let mut highest = 0;
+    let head = first_head(lines, block);
     for line in &block.lines {
-        let entry = read_entry(*line, highest, lines.line(*line))?;
+        let entry = read_entry(*line, highest, lines.line(*line), head)?;
         highest = higher(highest, entry.seq);
         entries.push(entry)?;
     }

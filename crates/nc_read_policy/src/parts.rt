@@ -39,7 +39,7 @@ fn part(alloc: Global, first: ListEntry, run: &[ListEntry]) -> Result<EntryLines
     ensures { IfOk result (λ p. part_of (first ∷ run.now) ≡ Some (entry_part p)) }
 {
     let mut entry = first;
-    let mut lines = Vec::new(alloc);
+    let mut lines = Vec::with_capacity(alloc, run.len() + 1)?;
     lines.push(first.line)?;
     for statement in run {
         lines.push(statement.line)?;
