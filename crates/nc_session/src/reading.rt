@@ -80,6 +80,8 @@ pub(crate) fn read_file<F: Files>(alloc: Global, files: &mut F) -> Result<Vec<u8
     let mut bytes = Vec::new(alloc);
     'reading: while bytes.len() <= FILE_LIMIT {
         if read_piece(files, &mut bytes)? == 0 {
+            // a file is kept to the end of the run, but not the room that reading has left over
+            bytes.shrink_to_fit();
             return Ok(bytes);
         }
     }
