@@ -126,7 +126,7 @@ impl Shown {
         let Some((router, element)) = network.element(element) else {
             return;
         };
-        self.put_lines(network, marks, router, &element.lines);
+        self.put_lines(network, marks, router, element.lines.as_slice());
     }
 
     /// Makes the report that on new marks, where only the marks of touched elements are others than

@@ -7,6 +7,7 @@ use crate::addr::Addr;
 use crate::communities::{CommunityList, SetCommunity};
 use crate::prefix::Prefix;
 use crate::text::Text;
+use smallvec::SmallVec;
 
 /// A router: the place of its file among the files, from 0.
 #[derive(Clone, Copy, Debug, PartialEq, Eq, PartialOrd, Ord, Hash)]
@@ -45,11 +46,11 @@ pub enum Kind {
 }
 
 /// A thing that a configuration configures, with the lines of its statements.
-#[derive(Debug, Drop)]
+#[derive(Drop)]
 pub struct Element {
     pub kind: Kind,
-    /// The lines, ascending, from 1.
-    pub lines: Vec<u32>,
+    /// The lines, ascending, from 1. Up to four of them take no memory of their own.
+    pub lines: SmallVec<u32, 4>,
 }
 
 /// A name that a statement refers to, and the line of the statement.
@@ -255,7 +256,7 @@ pub struct PrefixList {
 }
 
 /// The configuration of one router, as its file has it.
-#[derive(Debug, Drop)]
+#[derive(Drop)]
 pub struct RouterConfig {
     pub name: Text,
     /// The line of the `hostname` statement in force, from 1.

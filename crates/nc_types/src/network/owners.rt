@@ -36,7 +36,7 @@ fn claim_all(owners: &mut [Option<u32>], elements: &[Element])
         → slice_get owners.new k ≡ Some (owner_in (map element_view elements.now) k) }
 {
     'elements: for (place, element) in elements.iter().enumerate() {
-        claim(owners, &element.lines, place as u32);
+        claim(owners, element.lines.as_slice(), place as u32);
     }
 }
 

@@ -17,4 +17,4 @@ elements-preserved c k lt =
     let here : length before ≡ place = omega (arith, length-map (take place es) element_view, length-take-le place es (omega arith)) in
     let owned : owner_in (before ++ element_view e ∷ []) k ≡ claimed place e.lines.items k (Some (owner_in before k)) =
     owner_in-push before (element_view e) k ∙ ap (λ (p : ℕ). claimed p e.lines.items k (Some (owner_in before k))) here in
-    rw (c.claim.ensures k (omega arith), c.deref.ensures.value, c.elements.invariant k lt, more, owned) refl
+    rw (c.claim.ensures k (omega arith), c.as_slice.ensures, c.elements.invariant k lt, more, owned) refl
