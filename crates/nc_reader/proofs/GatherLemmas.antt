@@ -189,7 +189,7 @@ keys_are : {K V : Type 0} (f : K → List V) (keys : List K) → map (λ (g : Gr
 keys_are f [] = refl
 keys_are {K} f (key ∷ keys) = ap (λ (ks : List K). key ∷ ks) (keys_are f keys)
 
-pub all_gathered : (lines : List (List ℕ)) (count : ℕ) (d : Draft) (g : Gathered) → length lines ≤ count → IsSoFar lines count (sketch d) → g.name ≡ d.name → g.topics ≡ d.topics → g.blocks ≡ d.blocks → g.fault ≡ d.fault → Gathers lines g
+pub all_gathered : (lines : List (List ℕ)) (count : ℕ) (d : Draft) (g : Gathered) → length lines ≤ count → IsSoFar lines count (sketch d) → g.name ≡ d.name → g.topics ≡ d.topics → g.lines ≡ d.blocks → g.fault ≡ d.fault → Gathers lines g
 all_gathered lines count d g none h name topics blocks fault =
     let seen : h.seen ≡ roles_from [] lines =
     sym (append-nil h.seen) ∙ sym (ap (λ (rs : List Placed). h.seen ++ rs) (roles_end h.earlier)) ∙ sym (ap (λ (ls : List (List ℕ)). h.seen ++ roles_from h.earlier ls) (drop_all count lines none)) ∙ sym h.whole in

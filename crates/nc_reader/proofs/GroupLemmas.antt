@@ -104,10 +104,10 @@ absent-keys_from {K} {same} law known (k ∷ keys) key e =
 
 -- ---- places
 
-place_here : {K : Type 0} (same : K → K → Bool) (key x : K) (xs : List K) → same key x ≡ true → position_or_len (same key) (x ∷ xs) ≡ 0
+pub place_here : {K : Type 0} (same : K → K → Bool) (key x : K) (xs : List K) → same key x ≡ true → position_or_len (same key) (x ∷ xs) ≡ 0
 place_here same key x xs here = ap (λ (b : Bool). cond (not b) (1 + position_or_len (same key) xs) 0) here
 
-place_later : {K : Type 0} (same : K → K → Bool) (key x : K) (xs : List K) → same key x ≡ false → position_or_len (same key) (x ∷ xs) ≡ suc (position_or_len (same key) xs)
+pub place_later : {K : Type 0} (same : K → K → Bool) (key x : K) (xs : List K) → same key x ≡ false → position_or_len (same key) (x ∷ xs) ≡ suc (position_or_len (same key) xs)
 place_later same key x xs other = ap (λ (b : Bool). cond (not b) (1 + position_or_len (same key) xs) 0) other ∙ omega arith
 
 pub place_known : {K : Type 0} (same : K → K → Bool) (keys : List K) (key : K) → list_any (same key) keys ≡ true → position_or_len (same key) keys < length keys

@@ -1,13 +1,16 @@
 -- Topics are one where the test says so.
-use Rattle.std.proofs.Common.{◌≡◌, ℕ, true, eqb, List, refl, ap, ◌∙◌, subst}
+use Rattle.std.proofs.Common.{◌≡◌, ◌≢◌, ℕ, zero, suc, ◌<◌, Bool, true, false, eqb, List, [], ◌∷◌, length, get_or, refl, sym, ap, ◌∙◌, subst, arith}
 use Rattle.std.specs.Cmp.{IsEquivalence}
 use Rattle.std.specs.Str.{bytes_eq}
-use Rattle.std.proofs.lemmas.Bool.{and_parts, and_from, eqb-true, eq-eqb}
+use Rattle.std.proofs.lemmas.Bool.{and_parts, and_from, eqb-true, eq-eqb, or_left, or_right}
+use Rattle.nc_types.proofs.Members.{In, in_at}
 use Rattle.std.proofs.lemmas.Slice.Eq.{bytes_eq-Decides}
 use Rattle.nc_reader.specs.contracts.topic.TopicPartialEq.TheImpl.{eq-value}
 use Rattle.nc_reader.specs.declared.topic.Topic.{Topic}
 use Rattle.nc_reader.specs.declared.topic.Topic.TheVariants as topics
-use Rattle.nc_reader.specs.Topics.{same_topic}
+use Rattle.nc_reader.specs.Topics.{same_topic, IsAt}
+use Rattle.nc_reader.proofs.GroupLemmas.{place_here, place_later}
+use Rattle.nc_reader.proofs.Members.{Pairs}
 use Rattle.nc_reader.proofs.Grouping.{IsSame, equiv_of}
 
 -- the equality of the code is that of the definitions
@@ -84,3 +87,19 @@ same_topic_equiv = equiv_of topics_same
 -- the two are one function
 pub eq_is : (λ s t. (eq-value).it s t) ≡ same_topic
 eq_is = λ i s t. eq_same s t i
+
+-- of topics of which no two are one, the topic at a place is first there
+pub place_of_topic : (topics : List Topic) → Pairs (λ s t. s ≢ t) topics → (place : ℕ) (topic : Topic) → place < length topics → topic ≡ get_or topics place topic → IsAt topic topics place
+place_of_topic [] apart place topic lt e = absurd (omega arith)
+place_of_topic (t ∷ topics) apart zero topic lt e =
+    let here : same_topic topic t ≡ true = (topics_same topic t).1 e in
+    (or_left (same_topic topic t) _ here, place_here same_topic topic t topics here)
+place_of_topic (t ∷ topics) apart (suc place) topic lt e =
+    let later = place_of_topic topics apart.1 place topic (omega arith) e in
+    let in_rest : In topic topics = subst (λ (s : Topic). In s topics) (sym e) (in_at topics place topic (omega arith)) in
+    let other : same_topic topic t ≡ false = not_from (same_topic topic t) (λ same. apart.0 topic in_rest (sym ((topics_same topic t).0 same))) in
+    (or_right (same_topic topic t) _ later.0, place_later same_topic topic t topics other ∙ ap suc later.1)
+  where
+    not_from : (b : Bool) → (b ≡ true → ⊥) → b ≡ false
+    not_from true none = absurd (none refl)
+    not_from false none = refl

@@ -71,6 +71,13 @@ IsPart (Err fault) read = IsFault fault read
 abbrev pub AreRead : List PartRead → List (Result Part Fault) → Type 0
 AreRead made read = map part_view made ≡ filter_map ok_of read
 
+-- one more part, which was read or is wrong
+abbrev pub Reads : Result Part Fault → List PartRead → List PartRead → Type 0
+Reads r old new = (rs : List (Result Part Fault)) → AreRead old rs → AreRead new (rs ++ r ∷ [])
+
+abbrev pub Tells : Result Part Fault → Option Fault → Option Fault → Type 0
+Tells r old new = (fs : List Fault) (rs : List (Result Part Fault)) → IsLowest fs old rs → IsLowest fs new (rs ++ r ∷ [])
+
 -- what topics make of their lines
 abbrev pub parts_by : List (List ℕ) → List Topic → List Block → List (Result Part Fault)
 parts_by lines [] blocks = []
@@ -104,6 +111,10 @@ keyed r = record { key = key_of r.route; value = r }
 pub record AreRoutes (keys : List RouteKey) (parts : List RouteLines) (rs : List Routed) : Type 0 where
   pub known : map key_view keys ≡ keys_from same_key [] (map (λ p. p.key) (map keyed rs))
   pub made : map (λ p. Some p) (map static_part parts) ≡ map (λ g. route_part g.values) (groups same_key (map keyed rs))
+
+-- one more statement
+abbrev pub Adds : Routed → List RouteKey → List RouteLines → List RouteKey → List RouteLines → Type 0
+Adds r keys parts more_keys more_parts = (rs : List Routed) → AreRoutes keys parts rs → AreRoutes more_keys more_parts (rs ++ r ∷ [])
 
 -- ---- the order of elements
 

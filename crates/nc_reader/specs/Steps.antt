@@ -74,6 +74,10 @@ abbrev pub put_at : {V : Type 0} → Bool → V → ℕ → List (List V) → Li
 put_at true value place groups = with_value value place groups
 put_at false value place groups = groups ++ (value ∷ []) ∷ []
 
+-- one more line that speaks of a topic, given the topics that have lines
+abbrev pub with_line : Topic → ℕ → List Topic → List (List ℕ) → List (List ℕ)
+with_line topic line topics blocks = put_at (list_any (same_topic topic) topics) line (position_or_len (same_topic topic) topics) blocks
+
 -- one more fault, of which the lower one is told
 abbrev pub with_fault : ℕ → Option Cause → Option Fault → Option Fault
 with_fault line None known = known
@@ -85,11 +89,10 @@ headed line Passed s = record s { block = None }
 headed line (Wrong cause) s = record s { fault = with_fault line (Some cause) s.fault; block = None }
 headed line (Names name) s = record s { name = Some (line, name); block = None }
 headed line (Within topic) s =
-    let place = position_or_len (same_topic topic) s.topics in
     record s {
       topics = with_key same_topic s.topics topic;
-      blocks = put_at (list_any (same_topic topic) s.topics) line place s.blocks;
-      block = if has_block topic then Some place else None;
+      blocks = with_line topic line s.topics s.blocks;
+      block = if has_block topic then Some (position_or_len (same_topic topic) s.topics) else None;
     }
 
 -- an indented line, in the block at this place or in none

@@ -1,5 +1,6 @@
 -- Of what the lines of a file speak.
-use Rattle.std.specs.Prelude.{Bool, true, false, ◌&&◌, ◌==◌}
+use Rattle.std.specs.Prelude.{◌≡◌, ℕ, Bool, true, false, ◌&&◌, ◌==◌, List}
+use Rattle.std.specs.List.{list_any, position_or_len}
 use Rattle.std.specs.Str.{bytes_eq}
 use Rattle.nc_reader.specs.declared.topic.Topic.{Topic}
 use Rattle.nc_reader.specs.declared.topic.Topic.TheVariants as topics
@@ -18,3 +19,7 @@ abbrev pub has_block : Topic → Bool
 has_block (topics.Interface name) = true
 has_block (topics.Clause name number) = true
 has_block topic = false
+
+-- a topic is among others, first at this place
+abbrev pub IsAt : Topic → List Topic → ℕ → Type 0
+IsAt topic topics place = (list_any (same_topic topic) topics ≡ true) × (position_or_len (same_topic topic) topics ≡ place)

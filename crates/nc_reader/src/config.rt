@@ -55,8 +55,8 @@ fn finish(alloc: Global, lines: &Lines, parts: Parts) -> Result<RouterConfig, Co
 ///
 /// # Errors
 ///
-/// The lowest faulty line with its cause, or line 0 where no line is faulty and none names the router; memory
-/// that runs out on the way to it.
+/// The lowest faulty line with its cause, or line 0 where no line is faulty and none names the
+/// router; memory that runs out on the way to it.
 pub fn read_config(alloc: Global, lines: &Lines) -> Result<RouterConfig, ConfigFault>
     ensures read { IsConfiguration result (configuration lines.now) }
     ensures well_formed { IfOk result (λ c. IsWellFormed (config_view c)) }

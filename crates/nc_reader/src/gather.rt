@@ -3,7 +3,8 @@
 ghost use Rattle.std.specs.Prelude.{◌≡◌, ◌<◌, ◌≤◌, drop, length, OnOk, IfOk};
 ghost use Rattle.nc_reader.specs.Gathering.{Gathers, sketch};
 ghost use Rattle.nc_reader.specs.Readings.{role_of_header, topic_of};
-ghost use Rattle.nc_reader.specs.Steps.{Banner, Member, IsSteady, blank, with_fault, headed, stepped, kind_of};
+ghost use Rattle.nc_reader.specs.Steps.{Banner, Member, IsSteady, blank, with_fault};
+ghost use Rattle.nc_reader.specs.Steps.{headed, stepped, kind_of};
 ghost use Rattle.nc_reader.specs.Topics.{has_block};
 ghost use Rattle.nc_lines.specs.Lines.{line_at};
 
@@ -24,7 +25,7 @@ pub(crate) struct Gathered {
     /// The topics, in order of first mention.
     pub(crate) topics: IndexSet<Topic>,
     /// The lines that speak of each topic.
-    pub(crate) blocks: Vec<Block>,
+    pub(crate) lines: Vec<Block>,
     /// The lowest line that is wrong by itself.
     pub(crate) fault: Option<Fault>,
 }
@@ -65,6 +66,8 @@ struct Draft {
     in_banner: bool,
     // The place of the topic in whose block an indented line would stand.
     block: Option<usize>,
+    // The place of the last topic that a statement was on, 0 before the first.
+    last: usize,
 }
 
 impl Draft {
@@ -79,6 +82,7 @@ impl Draft {
             fault: None,
             in_banner: false,
             block: None,
+            last: 0,
         }
     }
 
@@ -104,7 +108,8 @@ impl Draft {
     // An unindented statement.
     fn head(&mut self, alloc: Global, line: u32, header: Header<'_>) -> Result<(), AllocError>
         requires { IsSteady (sketch self.old) }
-        ensures { OnOk result (sketch self.new ≡ headed line (role_of_header header.entry) (sketch self.old)) }
+        ensures { OnOk result (sketch self.new
+            ≡ headed line (role_of_header header.entry) (sketch self.old)) }
     {
         match header {
             Header::Passed => self.block = None,
@@ -117,7 +122,16 @@ impl Draft {
                 self.block = None;
             }
             Header::Speaks(subject) => {
-                let place = put(alloc, &mut self.topics, &mut self.blocks, subject, line)?;
+                let last = self.last;
+                let place = put(
+                    alloc,
+                    &mut self.topics,
+                    &mut self.blocks,
+                    last,
+                    subject,
+                    line,
+                )?;
+                self.last = place;
                 self.block = if has_block(subject) {
                     Some(place)
                 } else {
@@ -133,7 +147,9 @@ impl Draft {
         requires steady { IsSteady (sketch self.old) }
         requires first { 0 < number }
         requires last { number ≤ length lines.now }
-        ensures { OnOk result (sketch self.new ≡ stepped number (kind_of (sketch self.old).in_banner (line_at number lines.now) (drop number lines.now)) (sketch self.old)) }
+        ensures { OnOk result (sketch self.new ≡ stepped number
+            (kind_of self.old.in_banner (line_at number lines.now) (drop number lines.now))
+            (sketch self.old)) }
     {
         match read_role(lines, number, self.in_banner) {
             Role::Banner(in_banner, cause) => {
@@ -158,7 +174,7 @@ pub(crate) fn gather(alloc: Global, lines: &Lines) -> Result<Gathered, AllocErro
     Ok(Gathered {
         name: draft.name,
         topics: draft.topics,
-        blocks: draft.blocks,
+        lines: draft.blocks,
         fault: draft.fault,
     })
 }

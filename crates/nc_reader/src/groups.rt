@@ -1,11 +1,12 @@
 //! The lines that speak of each topic.
 
-ghost use Rattle.std.specs.Prelude.{◌≡◌, ◌<◌, ◌∷◌, ◌++◌, [], not, length, vec_len, OnOk, IfOk};
+ghost use Rattle.std.specs.Prelude.{◌≡◌, ◌<◌, ◌∷◌, ◌++◌, [], true, not, length, vec_len};
+ghost use Rattle.std.specs.Prelude.{OnOk, IfOk};
 ghost use Rattle.std.specs.List.{list_any, position_or_len};
 ghost use Rattle.nc_reader.specs.Groups.{with_key};
 ghost use Rattle.nc_reader.specs.Readings.{lines_in, topic_of};
-ghost use Rattle.nc_reader.specs.Steps.{with_value, put_at};
-ghost use Rattle.nc_reader.specs.Topics.{same_topic};
+ghost use Rattle.nc_reader.specs.Steps.{with_value, with_line};
+ghost use Rattle.nc_reader.specs.Topics.{same_topic, IsAt};
 
 use crate::topic::{Subject, Topic};
 use indexmap::IndexSet;
@@ -27,7 +28,8 @@ fn make_block(alloc: Global, line: u32) -> Result<Block, AllocError>
 /// Adds a line to the block at a place.
 pub(crate) fn add(blocks: &mut Vec<Block>, place: usize, line: u32) -> Result<(), AllocError>
     requires { place < vec_len blocks.old }
-    ensures { OnOk result (lines_in blocks.new.items ≡ with_value line place (lines_in blocks.old.items)) }
+    ensures { OnOk result (lines_in blocks.new.items
+        ≡ with_value line place (lines_in blocks.old.items)) }
 {
     let block = &mut blocks[place];
     block.lines.push(line)?;
@@ -36,42 +38,65 @@ pub(crate) fn add(blocks: &mut Vec<Block>, place: usize, line: u32) -> Result<()
 
 // Adds a block of one line.
 fn begin(alloc: Global, blocks: &mut Vec<Block>, line: u32) -> Result<(), AllocError>
-    ensures { OnOk result (lines_in blocks.new.items ≡ lines_in blocks.old.items ++ (line ∷ []) ∷ []) }
+    ensures { OnOk result (lines_in blocks.new.items
+        ≡ lines_in blocks.old.items ++ (line ∷ []) ∷ []) }
 {
     blocks.push(make_block(alloc, line)?)?;
     Ok(())
 }
 
-// Adds a topic where it is new, and tells its place and whether it is.
+// Whether the topic at a place is that of a statement.
+fn is_at(topics: &IndexSet<Topic>, place: usize, subject: Subject<'_>) -> bool
+    ensures { result ≡ true → IsAt (topic_of subject.entry) topics.now.keys place }
+{
+    match topics.as_slice().get(place) {
+        None => false,
+        Some(topic) => topic.is(subject),
+    }
+}
+
+// Adds a topic where it is new, and tells its place and whether it is. The place that was told last
+// is looked at first, since statements on one thing mostly stand together.
 fn enter(
     alloc: Global,
     topics: &mut IndexSet<Topic>,
+    last: usize,
     subject: Subject<'_>,
 ) -> Result<(usize, bool), AllocError>
-    ensures topics { OnOk result (topics.new.keys ≡ with_key same_topic topics.old.keys (topic_of subject.entry)) }
-    ensures place { IfOk result (λ r. r.0 ≡ position_or_len (same_topic (topic_of subject.entry)) topics.old.keys) }
-    ensures new { IfOk result (λ r. r.1 ≡ not (list_any (same_topic (topic_of subject.entry)) topics.old.keys)) }
+    ensures topics { OnOk result (topics.new.keys
+        ≡ with_key same_topic topics.old.keys (topic_of subject.entry)) }
+    ensures place { IfOk result (λ r. r.0
+        ≡ position_or_len (same_topic (topic_of subject.entry)) topics.old.keys) }
+    ensures new { IfOk result (λ r. r.1
+        ≡ not (list_any (same_topic (topic_of subject.entry)) topics.old.keys)) }
 {
+    if is_at(topics, last, subject) {
+        return Ok((last, false));
+    }
     let topic = Topic::new(alloc, subject)?;
     let entered = topics.insert_full(topic)?;
     Ok(entered)
 }
 
-/// Adds a line to the block of a topic, which is made where the topic has none, and tells the topic's place.
+/// Adds a line to the block of a topic, which is made where the topic has none, and tells the
+/// topic's place. A place that was told before, or 0, makes it faster where it is the topic's.
 pub(crate) fn put(
     alloc: Global,
     topics: &mut IndexSet<Topic>,
     blocks: &mut Vec<Block>,
+    last: usize,
     subject: Subject<'_>,
     line: u32,
 ) -> Result<usize, AllocError>
     requires { vec_len blocks.old ≡ length topics.old.keys }
-    ensures topics { OnOk result (topics.new.keys ≡ with_key same_topic topics.old.keys (topic_of subject.entry)) }
+    ensures topics { OnOk result (topics.new.keys
+        ≡ with_key same_topic topics.old.keys (topic_of subject.entry)) }
     ensures blocks { OnOk result (lines_in blocks.new.items
-        ≡ put_at (list_any (same_topic (topic_of subject.entry)) topics.old.keys) line (position_or_len (same_topic (topic_of subject.entry)) topics.old.keys) (lines_in blocks.old.items)) }
-    ensures place { IfOk result (λ place. place ≡ position_or_len (same_topic (topic_of subject.entry)) topics.old.keys) }
+        ≡ with_line (topic_of subject.entry) line topics.old.keys (lines_in blocks.old.items)) }
+    ensures place { IfOk result (λ place. place
+        ≡ position_or_len (same_topic (topic_of subject.entry)) topics.old.keys) }
 {
-    let (place, is_new) = enter(alloc, topics, subject)?;
+    let (place, is_new) = enter(alloc, topics, last, subject)?;
     if is_new {
         begin(alloc, blocks, line)?;
     } else {

@@ -31,7 +31,8 @@ pub(crate) enum Header<'a> {
 
 // The one word of a line that has one.
 fn only_word(line: &[u8]) -> Option<&[u8]>
-    ensures { MatchOption result ((word : List ℕ) → words_of line.now ≡ word ∷ [] → ⊥) (λ word. words_of line.now ≡ word.now ∷ []) }
+    ensures { MatchOption result ((word : List ℕ) → words_of line.now ≡ word ∷ [] → ⊥)
+        (λ word. words_of line.now ≡ word.now ∷ []) }
 {
     let (word, rest) = cut_word(line)?;
     match cut_word(rest) {
@@ -135,7 +136,8 @@ fn prefix_list(rest: &[u8]) -> Header<'_>
 
 // What is behind `ip community-list`: an entry of a list.
 fn community_list(rest: &[u8]) -> Header<'_>
-    ensures { role_of_header result ≡ said_role topics.Communities (community_name_says (words_of rest.now)) }
+    ensures { role_of_header result
+        ≡ said_role topics.Communities (community_name_says (words_of rest.now)) }
 {
     match read_community_name(rest) {
         Reading::Outside => Header::Passed,

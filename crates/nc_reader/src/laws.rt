@@ -12,7 +12,8 @@ use nc_read_policy::laws::{entries_are_in_force, entries_have_lines};
 
 /// The law that every configuration which a file's lines make is well formed.
 pub fn configurations_are_well_formed()
-    ensures { (lines : List (List ℕ)) (c : ConfigView) → configuration lines ≡ Ok c → IsWellFormed c }
+    ensures { (lines : List (List ℕ)) (c : ConfigView)
+        → configuration lines ≡ Ok c → IsWellFormed c }
 {
     entries_are_in_force();
     entries_have_lines();
@@ -20,7 +21,9 @@ pub fn configurations_are_well_formed()
 
 /// The law that the parts of a file have no more elements than the file has lines.
 pub(crate) fn elements_are_few()
-    ensures { (lines : List (List ℕ)) → length (pieces_of (filter_map ok_of (parts_of lines (roles_from [] lines)))) ≤ length lines }
+    ensures { (lines : List (List ℕ))
+        → length (pieces_of (filter_map ok_of (parts_of lines (roles_from [] lines))))
+        ≤ length lines }
 {
     entries_are_in_force();
     entries_have_lines();

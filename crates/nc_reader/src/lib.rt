@@ -1,11 +1,13 @@
 //! From the lines of a configuration file to the configuration of its router.
 //!
-//! Each line is an unindented statement, a line of a block, or nothing that is read; the lines that speak of
-//! one thing are gathered and read together, and the things become elements in order of their first lines.
-//! The crate stands on `nc_lines` for lines and banners, on `nc_read_link` for the statements of interfaces and
-//! static routes, and on `indexmap` for keys in order of first mention. Its contract promises that
-//! [`read_config`] gives the configuration of the whole list of lines, or its one fault: that of the lowest
-//! faulty line. That every such configuration is well formed is a law in [`laws`].
+//! Each line is an unindented statement, a line of a block, or nothing that is read. The lines that
+//! speak of one topic, as an interface, a clause or a list, are gathered and read together, and the
+//! things that they make become elements in order of their first lines. The crate stands on
+//! `nc_lines` for lines and banners, on `nc_read_link` for the statements of interfaces and static
+//! routes, on `nc_read_policy` for those of route maps and lists, and on `indexmap` for topics in
+//! order of first mention. Its contract promises that [`read_config`] gives the configuration of
+//! the whole list of lines, or its one fault: that of the lowest faulty line. That every such
+//! configuration is well formed is a law in [`laws`].
 #![tactic(auto)]
 
 mod communities;
@@ -19,6 +21,7 @@ pub mod laws;
 mod order;
 mod parts;
 mod pieces;
+mod places;
 mod role;
 mod routes;
 mod things;

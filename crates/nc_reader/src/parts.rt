@@ -1,11 +1,11 @@
 //! The parts of a file: its name, and what each of its topics makes.
 
-ghost use Rattle.std.specs.Prelude.{◌≡◌, List, Result, ◌++◌, ◌∷◌, [], length, All, OnOk, IfOk};
+ghost use Rattle.std.specs.Prelude.{◌≡◌, List, length, All, OnOk, IfOk};
 ghost use Rattle.nc_types.specs.declared.fault.Fault.{Fault};
 ghost use Rattle.nc_types.specs.Faults.{lowest};
 ghost use Rattle.nc_reader.specs.Gathering.{IsLine};
-ghost use Rattle.nc_reader.specs.Parts.{IsLowest, AreRead, parts_by};
-ghost use Rattle.nc_reader.specs.Things.{Part as PartSpec, part_in};
+ghost use Rattle.nc_reader.specs.Parts.{IsLowest, AreRead, Reads, Tells, parts_by};
+ghost use Rattle.nc_reader.specs.Things.{part_in};
 ghost use Rattle.nc_reader.specs.Whole.{AreParts};
 
 use crate::faults::note;
@@ -45,8 +45,10 @@ fn read_one(
     told: &mut Option<Fault>,
 ) -> Result<(), AllocError>
     requires { All (IsLine lines.now) block.now.lines.items }
-    ensures parts { OnOk result ((rs : List (Result PartSpec Fault)) → AreRead parts.old.items rs → AreRead parts.new.items (rs ++ part_in lines.now topic.now block.now.lines.items ∷ [])) }
-    ensures told { OnOk result ((fs : List Fault) (rs : List (Result PartSpec Fault)) → IsLowest fs told.old rs → IsLowest fs told.new (rs ++ part_in lines.now topic.now block.now.lines.items ∷ [])) }
+    ensures parts { OnOk result (Reads (part_in lines.now topic.now block.now.lines.items)
+        parts.old.items parts.new.items) }
+    ensures told { OnOk result (Tells (part_in lines.now topic.now block.now.lines.items)
+        told.old told.new) }
 {
     match read_part(alloc, lines, topic, block) {
         Ok(part) => parts.push(part)?,
@@ -65,8 +67,10 @@ fn read_all(
 ) -> Result<Made, AllocError>
     requires lines { All (λ b. All (IsLine lines.now) b.lines.items) blocks.now }
     requires named { length topics.now ≡ length blocks.now }
-    ensures parts { IfOk result (λ r. AreRead r.parts.items (parts_by lines.now topics.now blocks.now)) }
-    ensures told { IfOk result (λ r. (fs : List Fault) → before ≡ lowest fs → IsLowest fs r.fault (parts_by lines.now topics.now blocks.now)) }
+    ensures parts { IfOk result (λ r. AreRead r.parts.items
+        (parts_by lines.now topics.now blocks.now)) }
+    ensures told { IfOk result (λ r. (fs : List Fault) → before ≡ lowest fs
+        → IsLowest fs r.fault (parts_by lines.now topics.now blocks.now)) }
 {
     let mut parts = Vec::with_capacity(alloc, blocks.len())?;
     let mut told = before;
@@ -82,7 +86,7 @@ pub(crate) fn read_parts(alloc: Global, lines: &Lines) -> Result<Parts, AllocErr
 {
     let gathered = gather(alloc, lines)?;
     let topics = gathered.topics.as_slice();
-    let read = read_all(alloc, lines, topics, &gathered.blocks, gathered.fault)?;
+    let read = read_all(alloc, lines, topics, &gathered.lines, gathered.fault)?;
     Ok(Parts {
         name: gathered.name,
         made: read.parts,

@@ -44,7 +44,8 @@ fn closes_later(lines: &Lines, number: u32) -> bool
 fn stays_open(lines: &Lines, number: u32) -> bool
     requires first { 0 < number }
     requires last { number ≤ length lines.now }
-    ensures { result ≡ (leaves_open (line_at number lines.now) && not (list_any has_mark (drop number lines.now))) }
+    ensures { result ≡ (leaves_open (line_at number lines.now)
+        && not (list_any has_mark (drop number lines.now))) }
 {
     leaves_open(lines.line(number)) && !closes_later(lines, number)
 }
@@ -69,7 +70,8 @@ fn banner_fault(lines: &Lines, number: u32) -> Option<Cause>
 pub(crate) fn read_role(lines: &Lines, number: u32, in_banner: bool) -> Role<'_>
     requires first { 0 < number }
     requires last { number ≤ length lines.now }
-    ensures { kind_of_role result ≡ kind_of in_banner (line_at number lines.now) (drop number lines.now) }
+    ensures { kind_of_role result
+        ≡ kind_of in_banner (line_at number lines.now) (drop number lines.now) }
 {
     let line = lines.line(number);
     if in_banner {

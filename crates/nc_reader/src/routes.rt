@@ -1,10 +1,11 @@
 //! The static routes of a file, each from its statements.
 
-ghost use Rattle.std.specs.Prelude.{◌≡◌, ◌<◌, vec_len, length, List, ◌++◌, ◌∷◌, [], map, All, OnOk, IfOk};
+ghost use Rattle.std.specs.Prelude.{◌≡◌, ◌<◌, vec_len, length, ◌++◌, ◌∷◌, [], map, All};
+ghost use Rattle.std.specs.Prelude.{OnOk, IfOk};
 ghost use Rattle.nc_reader.specs.Gathering.{IsLine};
-ghost use Rattle.nc_reader.specs.Parts.{AreStatics, AreRoutes, key_view, static_part, with_statement};
+ghost use Rattle.nc_reader.specs.Parts.{AreStatics, Adds, key_view, static_part, with_statement};
 ghost use Rattle.nc_reader.specs.Steps.{changed_at};
-ghost use Rattle.nc_reader.specs.Things.{Routed, key_of, routes_in};
+ghost use Rattle.nc_reader.specs.Things.{key_of, routes_in};
 
 use indexmap::IndexSet;
 use nc_lines::Lines;
@@ -53,7 +54,8 @@ fn add(
     line: u32,
     route: StaticRoute,
 ) -> Result<(), AllocError>
-    ensures { OnOk result (map static_part parts.new.items ≡ map static_part parts.old.items ++ record { route = route; lines = line ∷ [] } ∷ []) }
+    ensures { OnOk result (map static_part parts.new.items
+        ≡ map static_part parts.old.items ++ record { route = route; lines = line ∷ [] } ∷ []) }
 {
     let mut lines = Vec::new(alloc);
     lines.push(line)?;
@@ -69,7 +71,8 @@ fn renew(
     route: StaticRoute,
 ) -> Result<(), AllocError>
     requires { place < vec_len parts.old }
-    ensures { OnOk result (map static_part parts.new.items ≡ changed_at (with_statement line route) place (map static_part parts.old.items)) }
+    ensures { OnOk result (map static_part parts.new.items
+        ≡ changed_at (with_statement line route) place (map static_part parts.old.items)) }
 {
     let part = &mut parts[place];
     part.lines.push(line)?;
@@ -87,7 +90,8 @@ fn put(
 ) -> Result<(), AllocError>
     requires { length keys.old.keys ≡ length parts.old.items }
     ensures same { OnOk result (length keys.new.keys ≡ length parts.new.items) }
-    ensures more { OnOk result ((rs : List Routed) → AreRoutes keys.old.keys parts.old.items rs → AreRoutes keys.new.keys parts.new.items (rs ++ record { line = line; route = route } ∷ [])) }
+    ensures more { OnOk result (Adds (record { line = line; route = route })
+        keys.old.keys parts.old.items keys.new.keys parts.new.items) }
 {
     let (place, is_new) = keys.insert_full(key_of(alloc, &route)?)?;
     if is_new {

@@ -2,6 +2,7 @@
 
 ghost use Rattle.std.specs.Prelude.{◌≡◌, IfOk};
 ghost use Rattle.nc_reader.specs.Readings.{topic_of};
+ghost use Rattle.nc_reader.specs.Topics.{same_topic};
 
 use nc_types::Text;
 use std::alloc::{AllocError, Global};
@@ -43,5 +44,19 @@ impl Topic {
             Subject::List(name) => Topic::List(Text::new(alloc, name)?),
             Subject::Communities(name) => Topic::Communities(Text::new(alloc, name)?),
         })
+    }
+
+    /// Whether it is the topic of a statement.
+    pub(crate) fn is(&self, subject: Subject<'_>) -> bool
+        ensures { result ≡ same_topic self.now (topic_of subject.entry) }
+    {
+        match (self, subject) {
+            (Topic::Interface(own), Subject::Interface(name)) => own.bytes() == name,
+            (Topic::Statics, Subject::Statics) => true,
+            (Topic::Clause(own, m), Subject::Clause(map, n)) => own.bytes() == map && *m == n,
+            (Topic::List(own), Subject::List(name)) => own.bytes() == name,
+            (Topic::Communities(own), Subject::Communities(name)) => own.bytes() == name,
+            _ => false,
+        }
     }
 }
