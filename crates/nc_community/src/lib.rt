@@ -14,6 +14,8 @@ pub mod laws;
 mod lists;
 mod set;
 mod setting;
+#[cfg(test)]
+mod tests;
 mod word;
 
 pub use joining::{gather, union};
