@@ -7,7 +7,8 @@ ghost use Rattle.std.specs.Option.{option_map, option_to_list};
 ghost use Rattle.nc_types.specs.declared.TheConstants.{ROUTER_LIMIT};
 ghost use Rattle.nc_types.specs.Config.{config_view};
 ghost use Rattle.nc_types.specs.Joining.{Used, earliest, same_addresses};
-ghost use Rattle.nc_network.specs.Steps.{merge, first_of_all, lower_place, used_of, Heads, Notes, by_address, pair_up, address_pairs};
+ghost use Rattle.nc_network.specs.Steps.{merge, first_of_all, lower_place, used_of, Heads, Notes};
+ghost use Rattle.nc_network.specs.Steps.{by_address, pair_up, address_pairs};
 
 use crate::clash::{LinePair, Place, before_or_equal, earlier_of};
 use indexmap::IndexMap;
@@ -43,7 +44,9 @@ fn note_one(
     router: u32,
     interface: &Interface,
 ) -> Result<(), AllocError>
-    ensures { OnOk result ((later : List Used) → Heads by_address heads.old.entries later → Heads by_address heads.new.entries (option_to_list (used_of router interface.now) ++ later)) }
+    ensures { OnOk result ((later : List Used) → Heads by_address heads.old.entries later
+        → Heads by_address heads.new.entries (option_to_list (used_of router interface.now)
+        ++ later)) }
 {
     if let Some(address) = interface.up() {
         let line = interface.address_line;
@@ -58,7 +61,9 @@ fn note_all(
     router: u32,
     interfaces: &[Interface],
 ) -> Result<(), AllocError>
-    ensures { OnOk result ((later : List Used) → Heads by_address heads.old.entries later → Heads by_address heads.new.entries (filter_map (used_of router) interfaces.now ++ later)) }
+    ensures { OnOk result ((later : List Used) → Heads by_address heads.old.entries later
+        → Heads by_address heads.new.entries (filter_map (used_of router) interfaces.now
+        ++ later)) }
 {
     let mut at = interfaces.len();
     'interfaces: while at > 0 {
@@ -75,7 +80,9 @@ fn find(
     place: Place,
     found: Option<LinePair>,
 ) -> Option<LinePair>
-    ensures { result ≡ merge found (option_map (pair_up place) (lookup (by_address.same address) heads.now.entries)) }
+    ensures { result
+        ≡ merge found
+        (option_map (pair_up place) (lookup (by_address.same address) heads.now.entries)) }
 {
     match heads.get(&address) {
         None => found,
@@ -98,7 +105,9 @@ fn find_one(
     interface: &Interface,
     found: Option<LinePair>,
 ) -> Option<LinePair>
-    ensures { (later : List Used) → Heads by_address heads.now.entries later → result ≡ merge found (first_of_all (address_pairs later) (option_to_list (used_of router interface.now))) }
+    ensures { (later : List Used) → Heads by_address heads.now.entries later → result
+        ≡ merge found
+        (first_of_all (address_pairs later) (option_to_list (used_of router interface.now))) }
 {
     match interface.up() {
         None => found,
@@ -116,7 +125,9 @@ fn find_all(
     interfaces: &[Interface],
     found: Option<LinePair>,
 ) -> Option<LinePair>
-    ensures { (later : List Used) → Heads by_address heads.now.entries later → result ≡ merge found (first_of_all (address_pairs later) (filter_map (used_of router) interfaces.now)) }
+    ensures { (later : List Used) → Heads by_address heads.now.entries later → result
+        ≡ merge found
+        (first_of_all (address_pairs later) (filter_map (used_of router) interfaces.now)) }
 {
     let mut found = found;
     'interfaces: for item in interfaces {

@@ -27,9 +27,19 @@ impl Model for LinePair {
 
     ghost Value = { Clash };
 
-    ghost view = { λ p. record { first = p.first; first_line = p.first_line; second = p.second; second_line = p.second_line } };
+    ghost view = { λ p. record {
+      first = p.first;
+      first_line = p.first_line;
+      second = p.second;
+      second_line = p.second_line;
+    } };
 
-    ghost inverse = { λ v. record { first = v.first; first_line = v.first_line; second = v.second; second_line = v.second_line } };
+    ghost inverse = { λ v. record {
+      first = v.first;
+      first_line = v.first_line;
+      second = v.second;
+      second_line = v.second_line;
+    } };
 }
 
 // Whether a number is the lower one, or both are equal and what comes behind them is in order.

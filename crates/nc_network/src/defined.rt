@@ -19,7 +19,8 @@ pub(crate) enum ListKind {
 
 // Adds a name.
 fn add(alloc: Global, names: &mut IndexSet<Text>, name: &Text) -> Result<(), AllocError>
-    ensures { OnOk result ((q : List ℕ) → list_any (bytes_eq q) names.new.keys ≡ (list_any (bytes_eq q) names.old.keys || bytes_eq q name.now)) }
+    ensures { OnOk result ((q : List ℕ) → list_any (bytes_eq q) names.new.keys
+        ≡ (list_any (bytes_eq q) names.old.keys || bytes_eq q name.now)) }
 {
     names.insert(Text::new(alloc, name.bytes())?)?;
     Ok(())
@@ -41,7 +42,8 @@ pub(crate) fn interface_names(
 
 /// The names of the route maps of clauses.
 pub(crate) fn map_names(alloc: Global, clauses: &[Clause]) -> Result<IndexSet<Text>, AllocError>
-    ensures { IfOk result (λ names. Knows names.keys (map (λ k. k.map_name) (map clause_view clauses.now))) }
+    ensures { IfOk result
+        (λ names. Knows names.keys (map (λ k. k.map_name) (map clause_view clauses.now))) }
 {
     let mut names = IndexSet::new(alloc);
     'named: for item in clauses {
@@ -52,7 +54,8 @@ pub(crate) fn map_names(alloc: Global, clauses: &[Clause]) -> Result<IndexSet<Te
 
 // The names of prefix lists.
 fn prefix_list_names(alloc: Global, lists: &[PrefixList]) -> Result<IndexSet<Text>, AllocError>
-    ensures { IfOk result (λ names. Knows names.keys (map (λ l. l.name) (map list_view lists.now))) }
+    ensures { IfOk result
+        (λ names. Knows names.keys (map (λ l. l.name) (map list_view lists.now))) }
 {
     let mut names = IndexSet::new(alloc);
     'named: for item in lists {
@@ -66,7 +69,8 @@ fn community_list_names(
     alloc: Global,
     lists: &[CommunityList],
 ) -> Result<IndexSet<Text>, AllocError>
-    ensures { IfOk result (λ names. Knows names.keys (map (λ l. l.name) (map community_list_view lists.now))) }
+    ensures { IfOk result
+        (λ names. Knows names.keys (map (λ l. l.name) (map community_list_view lists.now))) }
 {
     let mut names = IndexSet::new(alloc);
     'named: for item in lists {

@@ -10,14 +10,15 @@ use thiserror::Error;
 /// What there may be only so many of, over all files.
 #[derive(Clone, Copy, Debug, PartialEq, Eq)]
 pub enum LimitWord {
-    /// Distinct prefixes: of interfaces that have an address, of static routes, of networks and of aggregates;
-    /// at most [`crate::PREFIX_LIMIT`].
+    /// Distinct prefixes: of interfaces that have an address, of static routes, of networks and of
+    /// aggregates; at most [`crate::PREFIX_LIMIT`].
     Prefixes,
     /// Neighbors of BGP processes; at most [`crate::NEIGHBOR_LIMIT`].
     Neighbours,
 }
 
-/// Why several configurations make no network. Routers are told by the places of their files, from 0.
+/// Why several configurations make no network. Routers are told by the places of their files, from
+/// 0.
 #[derive(Clone, Copy, Debug, PartialEq, Eq, Error)]
 pub enum JoinFault {
     /// Two routers have one name, by the line that gives it to the second of them.
@@ -27,7 +28,8 @@ pub enum JoinFault {
         second: RouterId,
         line: u32,
     },
-    /// Two interfaces of one router that are up, whose prefixes overlap, by the lines of their addresses.
+    /// Two interfaces of one router that are up, whose prefixes overlap, by the lines of their
+    /// addresses.
     #[error("the prefixes of lines {first} and {second} overlap")]
     Overlap {
         router: RouterId,
@@ -42,7 +44,8 @@ pub enum JoinFault {
         second: RouterId,
         second_line: u32,
     },
-    /// A statement that refers to an interface, a route map or a prefix list which its router doesn't define.
+    /// A statement that refers to an interface, a route map, a prefix list or a community list
+    /// which its router doesn't define.
     #[error("line {line} refers to what isn't defined")]
     Undefined {
         router: RouterId,

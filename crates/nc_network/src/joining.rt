@@ -62,15 +62,17 @@ fn undefined(pair: LinePair) -> JoinFault
     }
 }
 
-/// Finds out whether several configurations go together. Faults are looked for in this order: two routers
-/// of one name; two interfaces of one router that are up, one prefix inside the other; interfaces of two
-/// routers that are up and have one address; a statement that refers to what its router doesn't define; more
-/// distinct prefixes than [`crate::PREFIX_LIMIT`]; more neighbors than [`crate::NEIGHBOR_LIMIT`]. Of one kind that
-/// of the first router, first line, second router and second line is told. `Memory` may come in place of each answer.
+/// Finds out whether several configurations go together. Faults are looked for in this order: two
+/// routers of one name; two interfaces of one router that are up, one prefix inside the other;
+/// interfaces of two routers that are up and have one address; a statement that refers to what its
+/// router doesn't define; more distinct prefixes than [`crate::PREFIX_LIMIT`]; more neighbors than
+/// [`crate::NEIGHBOR_LIMIT`]. Of one kind that of the first router, first line, second router and
+/// second line is told. `Memory` may come in place of each answer.
 pub fn judge(alloc: Global, routers: &[RouterConfig]) -> Result<(), JoinFault>
     requires { length routers.now ≤ ROUTER_LIMIT }
     ensures told { IsTold (judged (map config_view routers.now)) result }
-    ensures valid { OnOk result (All IsWellFormed (map config_view routers.now) → IsValid (map config_view routers.now)) }
+    ensures valid { OnOk result (All IsWellFormed (map config_view routers.now)
+        → IsValid (map config_view routers.now)) }
 {
     if let Some(pair) = name_clash(routers) {
         return Err(same_name(pair));
@@ -97,9 +99,9 @@ pub fn judge(alloc: Global, routers: &[RouterConfig]) -> Result<(), JoinFault>
     Ok(())
 }
 
-/// Makes one network of the configurations of several routers, each of a file of at most [`nc_types::LINE_LIMIT`] lines; a
-/// router's number is its place among them. A fault is told where [`judge`] tells it, and then no network is
-/// made; `Memory` may come in place of each answer.
+/// Makes one network of the configurations of several routers, each of a file of at most
+/// [`nc_types::LINE_LIMIT`] lines; a router's number is its place among them. A fault is told where
+/// [`judge`] tells it, and then no network is made; `Memory` may come in place of each answer.
 pub fn join(alloc: Global, routers: Vec<RouterConfig>) -> Result<Network, JoinFault>
     requires few { length routers.items ≤ ROUTER_LIMIT }
     requires formed { All IsWellFormed (map config_view routers.items) }

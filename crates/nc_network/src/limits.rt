@@ -5,7 +5,8 @@ ghost use Rattle.std.specs.List.{filter_map};
 ghost use Rattle.std.specs.Option.{option_map, option_map_or};
 ghost use Rattle.nc_types.specs.Config.{config_view, process_view};
 ghost use Rattle.nc_network.specs.declared.TheConstants.{PREFIX_LIMIT, NEIGHBOR_LIMIT};
-ghost use Rattle.nc_network.specs.Judged.{prefixes_in, process_prefixes, prefix_count, neighbors_in, neighbor_count};
+ghost use Rattle.nc_network.specs.Judged.{prefixes_in, process_prefixes, prefix_count};
+ghost use Rattle.nc_network.specs.Judged.{neighbors_in, neighbor_count};
 ghost use Rattle.nc_network.specs.Steps.{Fits};
 
 use crate::{NEIGHBOR_LIMIT, PREFIX_LIMIT};
@@ -25,7 +26,9 @@ fn add(seen: &mut IndexSet<Prefix>, prefix: Prefix) -> Result<bool, AllocError>
 
 // Adds the prefixes of interfaces that have an address.
 fn add_interfaces(seen: &mut IndexSet<Prefix>, interfaces: &[Interface]) -> Result<bool, AllocError>
-    ensures { IfOk result (λ fits. Fits fits seen.old.keys seen.new.keys (filter_map (λ i. option_map (λ a. a.prefix) i.address) interfaces.now)) }
+    ensures { IfOk result
+        (λ fits. Fits fits seen.old.keys seen.new.keys
+        (filter_map (λ i. option_map (λ a. a.prefix) i.address) interfaces.now)) }
 {
     'items: for item in interfaces {
         if let Some(address) = item.address {
@@ -39,7 +42,8 @@ fn add_interfaces(seen: &mut IndexSet<Prefix>, interfaces: &[Interface]) -> Resu
 
 // Adds the prefixes of static routes.
 fn add_statics(seen: &mut IndexSet<Prefix>, statics: &[StaticRoute]) -> Result<bool, AllocError>
-    ensures { IfOk result (λ fits. Fits fits seen.old.keys seen.new.keys (map (λ s. s.prefix) statics.now)) }
+    ensures { IfOk result
+        (λ fits. Fits fits seen.old.keys seen.new.keys (map (λ s. s.prefix) statics.now)) }
 {
     'items: for item in statics {
         if !add(seen, item.prefix)? {
@@ -54,7 +58,8 @@ fn add_networks(
     seen: &mut IndexSet<Prefix>,
     networks: &[NetworkStatement],
 ) -> Result<bool, AllocError>
-    ensures { IfOk result (λ fits. Fits fits seen.old.keys seen.new.keys (map (λ n. n.prefix) networks.now)) }
+    ensures { IfOk result
+        (λ fits. Fits fits seen.old.keys seen.new.keys (map (λ n. n.prefix) networks.now)) }
 {
     'items: for item in networks {
         if !add(seen, item.prefix)? {
@@ -69,7 +74,8 @@ fn add_aggregates(
     seen: &mut IndexSet<Prefix>,
     aggregates: &[AggregateStatement],
 ) -> Result<bool, AllocError>
-    ensures { IfOk result (λ fits. Fits fits seen.old.keys seen.new.keys (map (λ a. a.prefix) aggregates.now)) }
+    ensures { IfOk result
+        (λ fits. Fits fits seen.old.keys seen.new.keys (map (λ a. a.prefix) aggregates.now)) }
 {
     'items: for item in aggregates {
         if !add(seen, item.prefix)? {
@@ -81,7 +87,9 @@ fn add_aggregates(
 
 // Adds the prefixes of a process.
 fn add_process(seen: &mut IndexSet<Prefix>, process: &Process) -> Result<bool, AllocError>
-    ensures { IfOk result (λ fits. Fits fits seen.old.keys seen.new.keys (process_prefixes (process_view process.now))) }
+    ensures { IfOk result
+        (λ fits. Fits fits seen.old.keys seen.new.keys
+        (process_prefixes (process_view process.now))) }
 {
     if !add_networks(seen, &process.networks)? {
         return Ok(false);
@@ -92,7 +100,9 @@ fn add_process(seen: &mut IndexSet<Prefix>, process: &Process) -> Result<bool, A
 
 // Adds the prefixes of a process where there is one.
 fn add_some(seen: &mut IndexSet<Prefix>, process: &Option<Process>) -> Result<bool, AllocError>
-    ensures { IfOk result (λ fits. Fits fits seen.old.keys seen.new.keys (option_map_or process_prefixes (option_map process_view process.now) [])) }
+    ensures { IfOk result
+        (λ fits. Fits fits seen.old.keys seen.new.keys
+        (option_map_or process_prefixes (option_map process_view process.now) [])) }
 {
     match process {
         None => Ok(true),
@@ -105,7 +115,8 @@ fn add_some(seen: &mut IndexSet<Prefix>, process: &Option<Process>) -> Result<bo
 
 // Adds the prefixes of a router.
 fn add_router(seen: &mut IndexSet<Prefix>, config: &RouterConfig) -> Result<bool, AllocError>
-    ensures { IfOk result (λ fits. Fits fits seen.old.keys seen.new.keys (prefixes_in (config_view config.now))) }
+    ensures { IfOk result
+        (λ fits. Fits fits seen.old.keys seen.new.keys (prefixes_in (config_view config.now))) }
 {
     if !add_interfaces(seen, &config.interfaces)? {
         return Ok(false);
@@ -119,7 +130,8 @@ fn add_router(seen: &mut IndexSet<Prefix>, config: &RouterConfig) -> Result<bool
 
 /// Whether there are too many distinct prefixes.
 pub(crate) fn many_prefixes(alloc: Global, routers: &[RouterConfig]) -> Result<bool, AllocError>
-    ensures { IfOk result (λ many. many ≡ nat_lt PREFIX_LIMIT (prefix_count (map config_view routers.now))) }
+    ensures { IfOk result
+        (λ many. many ≡ nat_lt PREFIX_LIMIT (prefix_count (map config_view routers.now))) }
 {
     let mut seen = IndexSet::new(alloc);
     'items: for item in routers {

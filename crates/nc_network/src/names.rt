@@ -17,7 +17,10 @@ fn compare(
     other: &RouterConfig,
     found: Option<LinePair>,
 ) -> Option<LinePair>
-    ensures { result ≡ merge found (earliest (same_name (record { router = router; config = config_view config.now }) (record { router = later; config = config_view other.now }))) }
+    ensures { result
+        ≡ merge found
+        (earliest (same_name (record { router = router; config = config_view config.now })
+        (record { router = later; config = config_view other.now }))) }
 {
     if config.name == other.name {
         earlier_of(
@@ -42,7 +45,10 @@ fn compare_all(
     found: Option<LinePair>,
 ) -> Option<LinePair>
     requires { router + length later.now < 2 ^ 32 }
-    ensures { result ≡ merge found (first_of_all (same_name (record { router = router; config = config_view config.now })) (numbered_from (router + 1) (map config_view later.now))) }
+    ensures { result
+        ≡ merge found
+        (first_of_all (same_name (record { router = router; config = config_view config.now }))
+        (numbered_from (router + 1) (map config_view later.now))) }
 {
     let mut found = found;
     'later: for (step, other) in later.iter().enumerate() {

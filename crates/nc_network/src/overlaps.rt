@@ -7,7 +7,9 @@ ghost use Rattle.std.specs.Option.{option_map, option_to_list};
 ghost use Rattle.nc_types.specs.declared.TheConstants.{ROUTER_LIMIT};
 ghost use Rattle.nc_types.specs.Config.{config_view};
 ghost use Rattle.nc_types.specs.Joining.{Used, earliest, with_later, overlapping, overlaps};
-ghost use Rattle.nc_network.specs.Steps.{merge, first_of_all, used_of, Heads, Notes, by_prefix, lines_clash, in_shorter, same_pairs, shorter_pairs, AreCidrs};
+ghost use Rattle.nc_network.specs.Steps.{merge, first_of_all, used_of, Heads, Notes, by_prefix};
+ghost use Rattle.nc_network.specs.Steps.{lines_clash, in_shorter, same_pairs, shorter_pairs};
+ghost use Rattle.nc_network.specs.Steps.{AreCidrs};
 
 use crate::clash::{LinePair, earlier_of};
 use indexmap::IndexMap;
@@ -51,7 +53,9 @@ fn find(
     line: u32,
     found: Option<LinePair>,
 ) -> Option<LinePair>
-    ensures { result ≡ merge found (option_map (lines_clash router line) (lookup (by_prefix.same prefix) heads.now.entries)) }
+    ensures { result
+        ≡ merge found
+        (option_map (lines_clash router line) (lookup (by_prefix.same prefix) heads.now.entries)) }
 {
     match heads.get(&prefix) {
         None => found,
@@ -66,10 +70,16 @@ fn note_one(
     interface: &Interface,
     found: Option<LinePair>,
 ) -> Result<Option<LinePair>, AllocError>
-    ensures heads { OnOk result ((later : List Used) → Heads by_prefix heads.old.entries later → Heads by_prefix heads.new.entries (option_to_list (used_of router interface.now) ++ later)) }
+    ensures heads { OnOk result ((later : List Used) → Heads by_prefix heads.old.entries later
+        → Heads by_prefix heads.new.entries (option_to_list (used_of router interface.now)
+        ++ later)) }
     ensures cidrs { OnOk result (AreCidrs (option_to_list (used_of router interface.now))) }
-    ensures found { IfOk result (λ r. (later : List Used) → Heads by_prefix heads.old.entries later → AreCidrs later
-        → r ≡ merge found (first_of_all (λ x. flat_map (same_pairs router x) later) (option_to_list (used_of router interface.now)))) }
+    ensures found { IfOk result
+        (λ r. (later : List Used) → Heads by_prefix heads.old.entries later → AreCidrs later
+        → r ≡ merge found
+        (first_of_all
+        (λ x. flat_map (same_pairs router x) later)
+        (option_to_list (used_of router interface.now)))) }
 {
     match interface.up() {
         None => Ok(found),
@@ -91,9 +101,12 @@ fn note_all(
     found: Option<LinePair>,
 ) -> Result<Option<LinePair>, AllocError>
     requires { Heads by_prefix heads.old.entries [] }
-    ensures heads { OnOk result (Heads by_prefix heads.new.entries (filter_map (used_of router) interfaces.now)) }
+    ensures heads { OnOk result
+        (Heads by_prefix heads.new.entries (filter_map (used_of router) interfaces.now)) }
     ensures cidrs { OnOk result (AreCidrs (filter_map (used_of router) interfaces.now)) }
-    ensures found { IfOk result (λ r. r ≡ merge found (earliest (with_later (same_pairs router) (filter_map (used_of router) interfaces.now)))) }
+    ensures found { IfOk result
+        (λ r. r ≡ merge found
+        (earliest (with_later (same_pairs router) (filter_map (used_of router) interfaces.now)))) }
 {
     let mut found = found;
     let mut at = interfaces.len();
@@ -113,7 +126,10 @@ fn find_shorter(
     found: Option<LinePair>,
 ) -> Option<LinePair>
     ensures { (all : List Used) → Heads by_prefix heads.now.entries all → AreCidrs all
-        → result ≡ merge found (first_of_all (in_shorter router address.prefix.len (record { router = router; line = line; address = address })) all) }
+        → result ≡ merge found
+        (first_of_all
+        (in_shorter router address.prefix.len
+        (record { router = router; line = line; address = address })) all) }
 {
     let mut found = found;
     let own = address.prefix.len();
@@ -132,7 +148,8 @@ fn find_one(
     found: Option<LinePair>,
 ) -> Option<LinePair>
     ensures { (all : List Used) → Heads by_prefix heads.now.entries all → AreCidrs all
-        → result ≡ merge found (first_of_all (shorter_pairs router all) (option_to_list (used_of router interface.now))) }
+        → result ≡ merge found
+        (first_of_all (shorter_pairs router all) (option_to_list (used_of router interface.now))) }
 {
     match interface.up() {
         None => found,
@@ -148,7 +165,8 @@ fn find_all(
     found: Option<LinePair>,
 ) -> Option<LinePair>
     ensures { (all : List Used) → Heads by_prefix heads.now.entries all → AreCidrs all
-        → result ≡ merge found (first_of_all (shorter_pairs router all) (filter_map (used_of router) interfaces.now)) }
+        → result ≡ merge found
+        (first_of_all (shorter_pairs router all) (filter_map (used_of router) interfaces.now)) }
 {
     let mut found = found;
     'interfaces: for item in interfaces {
@@ -164,7 +182,9 @@ fn find_in(
     interfaces: &[Interface],
     found: Option<LinePair>,
 ) -> Result<Option<LinePair>, AllocError>
-    ensures { IfOk result (λ r. r ≡ merge found (earliest (with_later overlapping (filter_map (used_of router) interfaces.now)))) }
+    ensures { IfOk result
+        (λ r. r ≡ merge found
+        (earliest (with_later overlapping (filter_map (used_of router) interfaces.now)))) }
 {
     let mut heads = IndexMap::new(alloc);
     let found = note_all(&mut heads, router, interfaces, found)?;

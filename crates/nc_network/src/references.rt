@@ -5,8 +5,10 @@ ghost use Rattle.std.specs.List.{flat_map, list_any};
 ghost use Rattle.std.specs.Option.{is_some, option_to_list};
 ghost use Rattle.nc_types.specs.declared.TheConstants.{ROUTER_LIMIT};
 ghost use Rattle.nc_types.specs.Config.{clause_view, config_view};
-ghost use Rattle.nc_types.specs.Joining.{Numbered, earliest, interface_by, undefined, undefined_by, undefined_in};
-ghost use Rattle.nc_network.specs.Steps.{merge, first_of_all, undefined_interfaces, undefined_maps, undefined_lists, lists_in};
+ghost use Rattle.nc_types.specs.Joining.{Numbered, earliest, interface_by, undefined, undefined_by};
+ghost use Rattle.nc_types.specs.Joining.{undefined_in};
+ghost use Rattle.nc_network.specs.Steps.{merge, first_of_all, undefined_interfaces, undefined_maps};
+ghost use Rattle.nc_network.specs.Steps.{undefined_lists, lists_in};
 
 use crate::clash::{LinePair, earlier_of};
 use crate::defined::{ListKind, interface_names, list_names, map_names};
@@ -45,7 +47,9 @@ fn check_some(
     reference: &Option<Reference>,
     found: Option<LinePair>,
 ) -> Option<LinePair>
-    ensures { result ≡ merge found (first_of_all (undefined_by router names.now.keys) (option_to_list reference.now)) }
+    ensures { result
+        ≡ merge found
+        (first_of_all (undefined_by router names.now.keys) (option_to_list reference.now)) }
 {
     match reference {
         None => found,
@@ -60,7 +64,8 @@ fn check_each(
     references: &[Reference],
     found: Option<LinePair>,
 ) -> Option<LinePair>
-    ensures { result ≡ merge found (first_of_all (undefined_by router names.now.keys) references.now) }
+    ensures { result
+        ≡ merge found (first_of_all (undefined_by router names.now.keys) references.now) }
 {
     let mut found = found;
     'references: for reference in references {
@@ -76,7 +81,10 @@ fn check_via(
     route: &StaticRoute,
     found: Option<LinePair>,
 ) -> Option<LinePair>
-    ensures { result ≡ merge found (first_of_all (undefined_by router names.now.keys) (option_to_list (interface_by route.now.via))) }
+    ensures { result
+        ≡ merge found
+        (first_of_all (undefined_by router names.now.keys)
+        (option_to_list (interface_by route.now.via))) }
 {
     match route.via.interface() {
         None => found,
@@ -91,7 +99,11 @@ fn check_statics(
     statics: &[StaticRoute],
     found: Option<LinePair>,
 ) -> Option<LinePair>
-    ensures { result ≡ merge found (first_of_all (λ s. flat_map (undefined_by router names.now.keys) (option_to_list (interface_by s.via))) statics.now) }
+    ensures { result
+        ≡ merge found
+        (first_of_all
+        (λ s. flat_map (undefined_by router names.now.keys)
+        (option_to_list (interface_by s.via))) statics.now) }
 {
     let mut found = found;
     'statics: for route in statics {
@@ -107,7 +119,11 @@ fn check_sources(
     neighbors: &[Neighbor],
     found: Option<LinePair>,
 ) -> Option<LinePair>
-    ensures { result ≡ merge found (first_of_all (λ n. flat_map (undefined_by router names.now.keys) (option_to_list n.source)) neighbors.now) }
+    ensures { result
+        ≡ merge found
+        (first_of_all
+        (λ n. flat_map (undefined_by router names.now.keys)
+        (option_to_list n.source)) neighbors.now) }
 {
     let mut found = found;
     'neighbors: for neighbor in neighbors {
@@ -123,7 +139,11 @@ fn check_in(
     neighbors: &[Neighbor],
     found: Option<LinePair>,
 ) -> Option<LinePair>
-    ensures { result ≡ merge found (first_of_all (λ n. flat_map (undefined_by router names.now.keys) (option_to_list n.map_in)) neighbors.now) }
+    ensures { result
+        ≡ merge found
+        (first_of_all
+        (λ n. flat_map (undefined_by router names.now.keys)
+        (option_to_list n.map_in)) neighbors.now) }
 {
     let mut found = found;
     'neighbors: for neighbor in neighbors {
@@ -139,7 +159,11 @@ fn check_out(
     neighbors: &[Neighbor],
     found: Option<LinePair>,
 ) -> Option<LinePair>
-    ensures { result ≡ merge found (first_of_all (λ n. flat_map (undefined_by router names.now.keys) (option_to_list n.map_out)) neighbors.now) }
+    ensures { result
+        ≡ merge found
+        (first_of_all
+        (λ n. flat_map (undefined_by router names.now.keys)
+        (option_to_list n.map_out)) neighbors.now) }
 {
     let mut found = found;
     'neighbors: for neighbor in neighbors {
@@ -166,7 +190,11 @@ fn check_clauses(
     clauses: &[Clause],
     found: Option<LinePair>,
 ) -> Option<LinePair>
-    ensures { result ≡ merge found (first_of_all (λ k. flat_map (undefined_by router names.now.keys) (lists_in kind k)) (map clause_view clauses.now)) }
+    ensures { result
+        ≡ merge found
+        (first_of_all
+        (λ k. flat_map (undefined_by router names.now.keys) (lists_in kind k))
+        (map clause_view clauses.now)) }
 {
     let mut found = found;
     'clauses: for clause in clauses {
@@ -182,7 +210,10 @@ fn check_interfaces(
     config: &RouterConfig,
     found: Option<LinePair>,
 ) -> Result<Option<LinePair>, AllocError>
-    ensures { IfOk result (λ r. r ≡ merge found (earliest (undefined_interfaces (record { router = router; config = config_view config.now })))) }
+    ensures { IfOk result
+        (λ r. r ≡ merge found
+        (earliest (undefined_interfaces
+        (record { router = router; config = config_view config.now })))) }
 {
     let names = interface_names(alloc, &config.interfaces)?;
     let found = check_statics(router, &names, &config.statics, found);
@@ -206,7 +237,10 @@ fn check_used_interfaces(
     config: &RouterConfig,
     found: Option<LinePair>,
 ) -> Result<Option<LinePair>, AllocError>
-    ensures { IfOk result (λ r. r ≡ merge found (earliest (undefined_interfaces (record { router = router; config = config_view config.now })))) }
+    ensures { IfOk result
+        (λ r. r ≡ merge found
+        (earliest (undefined_interfaces
+        (record { router = router; config = config_view config.now })))) }
 {
     if config.process.is_none() && !leads_through(&config.statics) {
         return Ok(found);
@@ -222,7 +256,9 @@ fn check_maps(
     config: &RouterConfig,
     found: Option<LinePair>,
 ) -> Result<Option<LinePair>, AllocError>
-    ensures { IfOk result (λ r. r ≡ merge found (earliest (undefined_maps (record { router = router; config = config_view config.now })))) }
+    ensures { IfOk result
+        (λ r. r ≡ merge found
+        (earliest (undefined_maps (record { router = router; config = config_view config.now })))) }
 {
     let names = map_names(alloc, &config.clauses)?;
     match &config.process {
@@ -242,7 +278,10 @@ fn check_lists(
     config: &RouterConfig,
     found: Option<LinePair>,
 ) -> Result<Option<LinePair>, AllocError>
-    ensures { IfOk result (λ r. r ≡ merge found (earliest (undefined_lists kind (record { router = router; config = config_view config.now })))) }
+    ensures { IfOk result
+        (λ r. r ≡ merge found
+        (earliest (undefined_lists kind
+        (record { router = router; config = config_view config.now })))) }
 {
     let names = list_names(alloc, kind, config)?;
     let found = check_clauses(router, kind, &names, &config.clauses, found);
@@ -256,7 +295,9 @@ fn check_router(
     config: &RouterConfig,
     found: Option<LinePair>,
 ) -> Result<Option<LinePair>, AllocError>
-    ensures { IfOk result (λ r. r ≡ merge found (earliest (undefined_in (record { router = router; config = config_view config.now })))) }
+    ensures { IfOk result
+        (λ r. r ≡ merge found
+        (earliest (undefined_in (record { router = router; config = config_view config.now })))) }
 {
     let found = check_used_interfaces(alloc, router, config, found)?;
     let found = check_maps(alloc, router, config, found)?;
