@@ -26,7 +26,7 @@ use Rattle.nc_reader.proofs.Addresses.{IsCovered, block_covered}
 use Rattle.nc_reader.proofs.InterfaceParts.{interface_is, interface_elements}
 use Rattle.nc_reader.proofs.ClauseParts.{clause_elements, clause_named}
 use Rattle.nc_reader.proofs.RouteParts.{routes_elements}
-use Rattle.nc_reader.proofs.ListParts.{EntryLaws, entries_elements, entries_ascend, some_entries}
+use Rattle.nc_reader.proofs.ListParts.{entries_elements, entries_ascend, some_entries}
 use Rattle.nc_reader.proofs.CommunityParts.{communities_elements, some_communities}
 
 -- the topic that a part is of
@@ -50,7 +50,7 @@ pub record IsPartOf (count : ℕ) (t : Topic) (ks : List ℕ) (p : Part) : Type 
   pub elements : AreElements count ks (pieces_in p)
   pub sound : IsSound p
 
-module _ (laws : EntryLaws) (lines : List (List ℕ)) (k : ℕ) (ks : List ℕ) (up : LinesAscend (length lines) (k ∷ ks)) where
+module _ (lines : List (List ℕ)) (k : ℕ) (ks : List ℕ) (up : LinesAscend (length lines) (k ∷ ks)) where
   -- what a topic makes whose first line is a header
   made_of : (topic : Topic) (p : Part) → Starts lines topic (k ∷ ks) → part_in lines topic (k ∷ ks) ≡ Ok p → IsPartOf (length lines) topic (k ∷ ks) p
   made_of (topics.Interface name) p begins e =
@@ -74,8 +74,8 @@ module _ (laws : EntryLaws) (lines : List (List ℕ)) (k : ℕ) (ks : List ℕ) 
       subst (IsPartOf (length lines) (topics.List name) (k ∷ ks)) at.2
       (record {
         topic = refl;
-        elements = entries_elements laws lines (k ∷ ks) at.0 at.1 up;
-        sound = (some_entries laws lines (k ∷ ks) at.0 at.1 (omega arith), entries_ascend laws lines (k ∷ ks) at.0 at.1);
+        elements = entries_elements lines (k ∷ ks) at.0 at.1 up;
+        sound = (some_entries lines (k ∷ ks) at.0 at.1 (omega arith), entries_ascend lines (k ∷ ks) at.0 at.1);
       })
   made_of (topics.Communities name) p begins e =
       let at = ok_mapped (Communities name) (communities_in lines (k ∷ ks)) p e in
@@ -95,7 +95,7 @@ parts_in lines = filter_map ok_of (parts_of lines (roles_from [] lines))
 abbrev pub AreTwo : Part → Part → Type 0
 AreTwo p q = (topic_in p ≢ topic_in q) × ((e f : ElementView) → Has (pieces_in p) e → Has (pieces_in q) f → Apart e.lines f.lines)
 
-module _ (laws : EntryLaws) (lines : List (List ℕ)) where
+module _ (lines : List (List ℕ)) where
   abbrev groups_in : List (Group Topic ℕ)
   groups_in = topics_of (roles_from [] lines)
 
@@ -116,7 +116,7 @@ module _ (laws : EntryLaws) (lines : List (List ℕ)) where
       let is : g.values ≡ k ∷ ks = of_it.1.2 in
       let begins : Starts lines g.key (k ∷ ks) = subst (Starts lines g.key) (sym of_it.0 ∙ is) (begun lines g.key) in
       let made : part_in lines g.key (k ∷ ks) ≡ Ok p = ap (part_in lines g.key) (sym is) ∙ ok_is (part_in lines g.key g.values) p e in
-      subst (λ (vs : List ℕ). IsPartOf (length lines) g.key vs p) (sym is) (made_of laws lines k ks (subst (LinesAscend (length lines)) is (group_up g h)) g.key p begins made)
+      subst (λ (vs : List ℕ). IsPartOf (length lines) g.key vs p) (sym is) (made_of lines k ks (subst (LinesAscend (length lines)) is (group_up g h)) g.key p begins made)
 
   -- a part comes from the lines of a topic
   pub part_from : (p : Part) → Has (parts_in lines) p → (g : Group Topic ℕ) × Has groups_in g × IsPartOf (length lines) g.key g.values p

@@ -20,7 +20,6 @@ use Rattle.nc_reader.proofs.Elements.{has_in_order, in_order_ascends, length_in_
 use Rattle.nc_reader.proofs.PieceLemmas.{Apart, IsWhole}
 use Rattle.nc_reader.proofs.Addresses.{IsCovered}
 use Rattle.nc_reader.proofs.RouterNames.{router_named}
-use Rattle.nc_reader.proofs.ListParts.{EntryLaws}
 use Rattle.nc_reader.proofs.TopicParts.{IsSound, AreTwo, parts_in, part_from, parts_two}
 use Rattle.nc_reader.proofs.KindParts.{AreApart, all_kinds, kinds_differ, by_ranks, ranks_among, pieces_apart, ranks_apart, interfaces_differ, clauses_differ, lists_differ, community_lists_differ, interface_sound, list_sound, community_sound, all_places}
 
@@ -93,7 +92,7 @@ module _ (count : ℕ) (pieces : List ElementView) (apart : Pairs (λ e f. Apart
 
 -- ---- the configuration of a file
 
-module _ (laws : EntryLaws) (lines : List (List ℕ)) where
+module _ (lines : List (List ℕ)) where
   abbrev count : ℕ
   count = length lines
 
@@ -107,19 +106,19 @@ module _ (laws : EntryLaws) (lines : List (List ℕ)) where
   place = place_of pieces
 
   two : Pairs AreTwo parts
-  two = parts_two laws lines
+  two = parts_two lines
 
   own : (p : Part) → Has parts p → Pairs AreApart (pieces_in p)
-  own p h = (part_from laws lines p h).2.elements.apart
+  own p h = (part_from lines p h).2.elements.apart
 
   sound : (p : Part) → Has parts p → IsSound p
-  sound p h = (part_from laws lines p h).2.sound
+  sound p h = (part_from lines p h).2.sound
 
   pub apart : Pairs AreApart pieces
   apart = pieces_apart parts two own
 
   pub whole : (e : ElementView) → Has pieces e → IsWhole count e.lines
-  whole e h = let at = in_by_flat_map pieces_in parts e h in (part_from laws lines at.0 at.1).2.elements.whole e at.2
+  whole e h = let at = in_by_flat_map pieces_in parts e h in (part_from lines at.0 at.1).2.elements.whole e at.2
 
   -- no more elements than lines
   pub few : length pieces ≤ count
@@ -159,7 +158,7 @@ module _ (laws : EntryLaws) (lines : List (List ℕ)) where
         community_filled = of_each (community_lists_in place) (λ (l : CommunityListView). 0 < length l.entries) (community_sound place);
       }
 
-pub well_formed : EntryLaws → (lines : List (List ℕ)) (c : ConfigView) → configuration lines ≡ Ok c → IsWellFormed c
-well_formed laws lines c e =
+pub well_formed : (lines : List (List ℕ)) (c : ConfigView) → configuration lines ≡ Ok c → IsWellFormed c
+well_formed lines c e =
     let found = configured lines c e in
-    subst IsWellFormed found.1 (formed laws lines found.0 (router_named lines found.0 found.2))
+    subst IsWellFormed found.1 (formed lines found.0 (router_named lines found.0 found.2))
