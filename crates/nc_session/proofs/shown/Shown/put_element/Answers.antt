@@ -18,5 +18,5 @@ returns c = λ due fresh.
     let x : ElementIn = record { router = c.in-Some.router.0; element = element_view c.in-Some.element.now } in
     let at : element_at c.args.network.now c.args.element.0 ≡ Some x = sym c.in-Some.ensures.element in
     fresh-more c.args.network.now c.args.marks.now _ _ c.put_lines.new.self (λ r k h. element-done c.args.network.now c.args.element.0 x at (due r k) r k h)
-    (subst (λ (lines : List ℕ). AreFreshBut c.args.network.now c.args.marks.now (λ r k. due r k && not (nat_eq r x.router && has lines (k + 1))) c.put_lines.new.self) c.deref.ensures.value
+    (subst (λ (lines : List ℕ). AreFreshBut c.args.network.now c.args.marks.now (λ r k. due r k && not (nat_eq r x.router && has lines (k + 1))) c.put_lines.new.self) c.as_slice.ensures
     (c.put_lines.ensures due fresh))
