@@ -197,7 +197,7 @@ all_gathered lines count d g none h name topics blocks fault =
     record {
       name = name ∙ sees.name;
       topics = ap (λ ts. ts.keys) topics ∙ sees.topics ∙ sym (keys_are (λ (key : Topic). of_key same_topic key (spoken (roles_from [] lines))) (keys_of same_topic (spoken (roles_from [] lines))));
-      blocks = ap (λ bs. lines_in bs.items) blocks ∙ sees.blocks;
+      spoken = ap (λ bs. lines_in bs.items) blocks ∙ sees.blocks;
       fault = fault ∙ sees.fault;
       block_lines = subst (λ bs. All (λ (b : Block). All (IsLine lines) b.lines.items) bs.items) (sym blocks) (All-unmap (All (IsLine lines)) (λ (b : Block). b.lines.items) d.blocks.items h.block_lines);
     }

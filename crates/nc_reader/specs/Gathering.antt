@@ -17,7 +17,7 @@ IsLine lines k = (0 < k) × (k ≤ length lines)
 pub record Gathers (lines : List (List ℕ)) (g : Gathered) : Type 0 where
   pub name : g.name ≡ name_of (roles_from [] lines)
   pub topics : g.topics.keys ≡ map (λ group. group.key) (topics_of (roles_from [] lines))
-  pub blocks : lines_in g.lines.items ≡ map (λ group. group.values) (topics_of (roles_from [] lines))
+  pub spoken : lines_in g.lines.items ≡ map (λ group. group.values) (topics_of (roles_from [] lines))
   pub fault : g.fault ≡ lowest (filter_map (λ r. wrong_at r.line r.role) (roles_from [] lines))
   pub block_lines : All (λ b. All (IsLine lines) b.lines.items) g.lines.items
 

@@ -15,7 +15,7 @@ returns c =
     let seen = c.in_ok-gathered.ensures in
     let read : parts_by lines c.as_slice-topics.result.now c.deref.result.now ≡ parts_of lines (roles_from [] lines) =
     ap (parts_by lines c.as_slice-topics.result.now) c.deref.ensures.value
-    ∙ read-blocks lines c.as_slice-topics.result.now c.in_ok-gathered.gathered.lines.items (topics_of (roles_from [] lines)) (c.as_slice-topics.ensures.keys ∙ seen.topics) seen.blocks in
+    ∙ read-blocks lines c.as_slice-topics.result.now c.in_ok-gathered.gathered.lines.items (topics_of (roles_from [] lines)) (c.as_slice-topics.ensures.keys ∙ seen.topics) seen.spoken in
     let wrongs = filter_map (λ r. wrong_at r.line r.role) (roles_from [] lines) in
     record {
       name = seen.name;
