@@ -1,0 +1,4 @@
+pub mod Views
+pub mod Statements
+pub mod Parts
+pub mod Ids

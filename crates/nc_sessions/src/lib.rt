@@ -1,0 +1,25 @@
+//! Which BGP sessions of a network are established, and the router ids.
+//!
+//! Of each neighbor statement the other side is looked up: the router that owns the statement's
+//! address, and there the statement for the address from which this side starts. A session is
+//! established where the two statements agree and each side reaches the other. The crate stands on
+//! `nc_types` for the network, on `nc_tables` for the tables and for the definition of a session,
+//! and on `nc_underlay` for where base tables lead. Its contract promises exactly the defined
+//! sessions, and the defined router id. [`session_at`], [`end_at`] and [`link_at`] answer of one
+//! statement, and take no memory.
+#![tactic(auto)]
+
+mod conditions;
+mod ends;
+mod ids;
+mod links;
+mod peers;
+mod places;
+mod sources;
+mod table;
+
+pub use ends::{End, end_at};
+pub use ids::router_id;
+pub use links::{Link, link_at};
+pub use peers::session_at;
+pub use table::sessions;

@@ -1,0 +1,80 @@
+//! The two sides of a session together.
+
+ghost use Rattle.std.specs.Prelude.{◌≡◌, ◌<◌, IfSome, length, None, Some, if◌then◌else◌};
+ghost use Rattle.std.specs.Option.{option_map};
+ghost use Rattle.nc_types.specs.Network.{owner_of};
+ghost use Rattle.nc_tables.specs.Base.{base_tables};
+ghost use Rattle.nc_tables.specs.Sessions.{are_met, conditions_of, session_of, session_at};
+ghost use Rattle.nc_sessions.specs.Views.{sides_view};
+
+use crate::conditions::{Sides, are_met, is_internal};
+use crate::ends::{Side, side_at};
+use crate::places::place_alone;
+use nc_tables::{BaseTables, SessionRow};
+use nc_types::{Network, RouterId};
+
+/// The router that owns the address of a side's statement.
+pub(crate) fn owner_of(network: &Network, own: &Side) -> Option<RouterId>
+    ensures { option_map (λ r. r.0) result
+        ≡ option_map (λ o. o.router) (owner_of network.now own.now.end.statement.now.addr.0) }
+{
+    let (owner, _) = network.owner_of(own.end.statement.addr)?;
+    Some(owner)
+}
+
+// The session of two sides.
+fn session_of(sides: &Sides) -> SessionRow
+    ensures { result ≡ session_of (sides_view sides.now) }
+{
+    let own = &sides.own;
+    let peer = &sides.peer;
+    SessionRow {
+        router: own.router,
+        neighbor: own.place,
+        peer: peer.router,
+        peer_neighbor: peer.place,
+        source: own.source.iface,
+        peer_source: peer.source.iface,
+        internal: is_internal(sides),
+    }
+}
+
+/// The session of two sides, if it is established.
+pub(crate) fn session_between(
+    network: &Network,
+    base: &BaseTables,
+    sides: &Sides,
+) -> Option<SessionRow>
+    requires own { sides.now.own.router.0 < length network.now }
+    requires peer { sides.now.peer.router.0 < length network.now }
+    requires tables { base.now ≡ base_tables network.now }
+    ensures session { result
+        ≡ if are_met (conditions_of network.now base.now (sides_view sides.now))
+        then Some (session_of (sides_view sides.now)) else None }
+    ensures place { IfSome result (λ s. s.neighbor ≡ sides.now.own.place) }
+{
+    if are_met(network, base, sides) {
+        Some(session_of(sides))
+    } else {
+        None
+    }
+}
+
+/// The session of the neighbor statement at a place of a router; `None` where it isn't established,
+/// and where there is no such statement or router. The tables are those of the network. It goes
+/// over the statements of the other router once, and takes no memory.
+pub fn session_at(
+    network: &Network,
+    base: &BaseTables,
+    router: RouterId,
+    place: u32,
+) -> Option<SessionRow>
+    requires { base.now ≡ base_tables network.now }
+    ensures { result ≡ session_at network.now base.now router.0 place }
+{
+    let own = side_at(network, base, router, place)?;
+    let owner = owner_of(network, &own)?;
+    let peer_place = place_alone(network, owner, own.source.addr)?;
+    let peer = side_at(network, base, owner, peer_place)?;
+    session_between(network, base, &Sides { own, peer })
+}
