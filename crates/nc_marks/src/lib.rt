@@ -18,8 +18,6 @@ pub mod evaluation;
 mod flags;
 mod gathered;
 pub mod kept;
-#[cfg(test)]
-mod ladder;
 pub mod laws;
 pub mod mark;
 mod raise;
