@@ -1,9 +1,11 @@
 -- Communities: lists of them, what is set, and what a message carries (worked cases community-route and community-not-sent).
-use Rattle.std.specs.Prelude.{◌≡◌, ℕ, Bool, true, false, List, [], ◌∷◌, map, Option, Some, None, is_some, codes, refl}
+use Rattle.std.specs.Prelude.{◌≡◌, ℕ, Bool, true, false, List, [], ◌∷◌, length, map, Option, Some, None, is_some, codes, refl}
 use Rattle.std.specs.List.{range_with_len}
+use Rattle.std.specs.List.Sorted.{IsStrictlyIncreasing}
 use Rattle.std.specs.Option.{option_map}
+use Rattle.std.proofs.Common.{arith}
 use Rattle.nc_types.specs.Config.{ConfigView, ClauseView, CommunityListView}
-use Rattle.nc_types.specs.Communities.{gather, union, holds_all}
+use Rattle.nc_types.specs.Communities.{gather, union, holds_all, IsSmallSet}
 use Rattle.nc_types.specs.Setting.{deciding_community, set_all}
 use Rattle.nc_types.specs.declared.communities.CommunityEntry.{CommunityEntry}
 use Rattle.nc_types.specs.declared.communities.SetCommunity.{SetCommunity}
@@ -11,7 +13,7 @@ use Rattle.nc_types.specs.declared.config.Reference.{Reference}
 use Rattle.nc_tables.specs.declared.bgp.Route.{Route}
 use Rattle.nc_tables.specs.declared.policy.Names.{Names}
 use Rattle.nc_tables.specs.Policy.{Verdict, Deny, Permit, verdict}
-use Rattle.nc_tables.specs.Rounds.{unnamed, carried}
+use Rattle.nc_tables.specs.Rounds.{unnamed, passed, carried}
 use Rattle.nc_tables.specs.Cases.{prefix, router, refers}
 use Rattle.nc_tables.specs.CasePolicy as policy
 
@@ -34,6 +36,16 @@ repeats_are_free = refl
 -- all members have to be there, and others don't matter
 pub members : holds_all (1 ∷ 2 ∷ 3 ∷ []) (1 ∷ 3 ∷ []) ∷ holds_all (1 ∷ 2 ∷ []) (1 ∷ 3 ∷ []) ∷ holds_all (2 ∷ []) [] ∷ [] ≡ true ∷ false ∷ true ∷ []
 members = refl
+
+-- a small set ascends, may have 64 members, and no more
+pub not_ascending : IsSmallSet (2 ∷ 1 ∷ []) → ⊥
+not_ascending s = omega (arith, s.ascends 0 (omega arith))
+
+pub few_enough : (set : List ℕ) → IsStrictlyIncreasing set → length set ≡ 64 → IsSmallSet set
+few_enough set ascends e = record { ascends = ascends; few = omega (arith, e) }
+
+pub past_limit : IsSmallSet (range_with_len 1 65) → ⊥
+past_limit s = omega (arith, s.few)
 
 -- ---- lists
 
@@ -83,6 +95,11 @@ pub next_list : verdict_of (matching [] (refers (codes "C") ∷ refers (codes "D
 unfolding verdict
 next_list = refl
 
+-- of two lists that permit, the first that is mentioned is named
+pub first_mentioned : verdict_of (matching [] (refers (codes "D") ∷ refers (codes "C") ∷ [])) (1 ∷ 2 ∷ 7 ∷ []) ≡ Permit (with_communities (1 ∷ 2 ∷ 7 ∷ [])) 0 (by_community 1 0)
+unfolding verdict
+first_mentioned = refl
+
 -- both kinds have to permit, and both entries are named
 pub both_kinds : verdict_of (matching (refers (codes "A") ∷ []) (refers (codes "C") ∷ [])) (7 ∷ [])
     ≡ Permit (with_communities (7 ∷ [])) 0 (record { entry = Some (record { list = 0; entry = 0 }); community = Some (record { list = 0; entry = 1 }) })
@@ -93,6 +110,12 @@ pub one_kind_alone : map policy.is_denied (verdict_of (matching (refers (codes "
     ≡ true ∷ true ∷ []
 unfolding verdict
 one_kind_alone = refl
+
+-- what a map lets pass goes on with the clause and with both entries
+pub let_pass : passed (asked (matching (refers (codes "A") ∷ []) (refers (codes "C") ∷ []))) (Some (refers (codes "OUT"))) (with_communities (7 ∷ []))
+    ≡ Some (record { route = with_communities (7 ∷ []); clause = Some 0; names = record { entry = Some (record { list = 0; entry = 0 }); community = Some (record { list = 0; entry = 1 }) } })
+unfolding verdict
+let_pass = refl
 
 -- ---- what is set
 

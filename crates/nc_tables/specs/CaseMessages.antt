@@ -110,6 +110,23 @@ pub without_communities : communities_sent (outside to_receiver) ∷ communities
 unfolding verdict
 without_communities = refl
 
+-- a map sees the communities of the candidate also where none are sent
+abbrev pub asking : Link
+asking =
+    let k = outside (record to_receiver { map_out = Some (refers (codes "ASKS")) }) in
+    record k {
+      sender = record k.sender {
+        config = record (sender (system 65001)) {
+          clauses = record sets { map_name = codes "ASKS"; community_lists = refers (codes "C") ∷ [] } ∷ [];
+          community_lists = record { name = codes "C"; entries = record { permit = true; members = 7 ∷ []; element = 0 } ∷ [] } ∷ [];
+        };
+      };
+    }
+
+pub seen_unsent : communities_sent asking ≡ Some []
+unfolding verdict
+seen_unsent = refl
+
 pub denied_outside : sent (outside (record to_receiver { map_out = Some (refers (codes "DENIES")) })) from_outside ≡ None
 unfolding verdict
 denied_outside = refl
