@@ -1,0 +1,9 @@
+mod KeptLemmas
+mod GroupLemmas
+mod FieldLemmas
+mod ProcessLemmas
+mod Finished
+mod PairLemmas
+mod PathLemmas
+mod LawLemmas
+mod LowestLemmas

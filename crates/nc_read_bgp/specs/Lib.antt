@@ -1,0 +1,12 @@
+pub mod Prefixes
+pub mod Statements
+pub mod Readings
+pub mod Firsts
+pub mod Groups
+pub mod Kept
+pub mod Neighbors
+pub mod Processes
+pub mod Steps
+pub mod Drafts
+pub mod Outcomes
+pub mod Laws

@@ -1,0 +1,5 @@
+pub mod Ranking
+pub mod Best
+pub mod Alike
+pub mod Sorting
+pub mod Choosing

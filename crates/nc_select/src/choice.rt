@@ -1,0 +1,121 @@
+//! The places of the candidates that are chosen.
+
+ghost use Rattle.std.specs.Prelude.{◌≡◌, ◌<◌, ◌^◌, IfOk, filter, length, map, take};
+ghost use Rattle.std.specs.List.{IsFirstBest};
+ghost use Rattle.std.specs.Ordering.{is_lt};
+ghost use Rattle.nc_tables.specs.Choice.{by_preference, choose, is_equal_to, preference_cmp};
+ghost use Rattle.nc_select.specs.Senders.{senders_from};
+
+use crate::preference::{is_equal_to, is_external, preference_cmp};
+use nc_tables::Chosen;
+use nc_types::Addr;
+use std::alloc::{AllocError, Global};
+
+// Who sent a candidate, and the candidate's place.
+#[derive(Clone, Copy, Debug, PartialEq, Eq, PartialOrd, Ord)]
+struct Sender {
+    // The router id of the sender.
+    id: Addr,
+    address: Addr,
+    place: u32,
+}
+
+// The place of the first candidate to which no other one is preferred.
+fn best_place(candidates: &[Chosen]) -> usize
+    requires { 0 < length candidates.now }
+    ensures { IsFirstBest (λ x y. is_lt (preference_cmp x y))
+        candidates.now (length candidates.now) result }
+{
+    let mut best = 0;
+    'candidates: for place in 1..candidates.len() {
+        if preference_cmp(&candidates[place], &candidates[best]).is_lt() {
+            best = place;
+        }
+    }
+    best
+}
+
+// The senders of those candidates that are as good as the best, in the candidates' order.
+fn senders_of(
+    alloc: Global,
+    candidates: &[Chosen],
+    best: &Chosen,
+    relax: bool,
+) -> Result<Vec<Sender>, AllocError>
+    requires { length candidates.now < 2 ^ 32 }
+    ensures { IfOk result (λ senders. senders.items
+        ≡ senders_from relax best.now 0 candidates.now) }
+{
+    let mut senders = Vec::new(alloc);
+    'candidates: for (place, candidate) in candidates.iter().enumerate() {
+        if is_equal_to(relax, best, candidate) {
+            senders.push(Sender {
+                id: candidate.sender_id,
+                address: candidate.sender,
+                place: place as u32,
+            })?;
+        }
+    }
+    Ok(senders)
+}
+
+// The places of senders.
+fn places_of(alloc: Global, senders: &[Sender]) -> Result<Vec<u32>, AllocError>
+    ensures { IfOk result (λ places. places.items ≡ map (λ s. s.place) senders.now) }
+{
+    let places = senders.iter().map(|sender| sender.place).collect(alloc)?;
+    Ok(places)
+}
+
+// The places of those candidates that are as good as the best, the preferred ones first, at most so
+// many.
+fn used_with(
+    alloc: Global,
+    candidates: &[Chosen],
+    best: &Chosen,
+    limit: u8,
+    relax: bool,
+) -> Result<Vec<u32>, AllocError>
+    requires { length candidates.now < 2 ^ 32 }
+    ensures { IfOk result (λ places. places.items ≡ map (λ x. x.place)
+        (take limit (filter (λ x. is_equal_to relax best.now x.candidate)
+        (by_preference candidates.now)))) }
+{
+    let mut senders = senders_of(alloc, candidates, best, relax)?;
+    senders.sort_unstable();
+    senders.truncate(limit as usize);
+    let places = places_of(alloc, &senders)?;
+    Ok(places)
+}
+
+/// The places of those candidates of a prefix that are chosen, best first.
+///
+/// That is the best one by [`preference_cmp`], and, where it was learnt from another autonomous
+/// system, those to which [`is_equal_to`] likens it, at most `limit` in all (`maximum-paths`).
+/// There are fewer than 2^32 candidates.
+///
+/// # Errors
+///
+/// If there is no memory.
+pub fn choose(
+    alloc: Global,
+    candidates: &[Chosen],
+    limit: u8,
+    relax: bool,
+) -> Result<Vec<u32>, AllocError>
+    requires { length candidates.now < 2 ^ 32 }
+    ensures { IfOk result (λ places. places.items ≡ choose candidates.now limit relax) }
+{
+    let mut places = Vec::new(alloc);
+    if candidates.is_empty() {
+        return Ok(places);
+    }
+    let place = best_place(candidates);
+    let best = &candidates[place];
+    if is_external(best) {
+        let used = used_with(alloc, candidates, best, limit, relax)?;
+        return Ok(used);
+    }
+    places.push(place as u32)?;
+    Ok(places)
+}
