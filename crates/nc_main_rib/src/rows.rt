@@ -1,0 +1,171 @@
+//! The main rows of one prefix.
+
+ghost use Rattle.std.specs.Prelude.{◌≡◌, ◌+◌, ◌++◌, ◌^◌, ◌<◌, ◌≤◌, ℕ, length, map, None, OnOk, Some, if◌then◌else◌};
+ghost use Rattle.std.specs.List.{range_with_len};
+ghost use Rattle.std.specs.Option.{option_map};
+ghost use Rattle.nc_types.specs.Cidr.{Cidr};
+ghost use Rattle.nc_types.specs.declared.TheConstants.{MULTIPATH_LIMIT};
+ghost use Rattle.nc_tables.specs.declared.TheConstants.{EXTERNAL_DISTANCE, INTERNAL_DISTANCE};
+ghost use Rattle.nc_tables.specs.Choice.{is_learnt};
+ghost use Rattle.nc_tables.specs.Main.{distance_of, nearer};
+ghost use Rattle.nc_tables.specs.Sessions.{first_of};
+ghost use Rattle.nc_main_rib.specs.Sides.{base_rows, bgp_rows, learnt_row, first_distance, stands};
+
+use nc_tables::{
+    BaseRow, BgpFrom, Chosen, EXTERNAL_DISTANCE, INTERNAL_DISTANCE, LOCAL_DISTANCE, MainFrom,
+    MainRow,
+};
+use nc_types::Prefix;
+use std::alloc::AllocError;
+
+// ---- distances
+
+// The distance of what is learnt within the own system, or from another.
+fn distance_of(internal: bool) -> u8
+    ensures { result ≡ (if internal then INTERNAL_DISTANCE else EXTERNAL_DISTANCE) }
+{
+    if internal {
+        INTERNAL_DISTANCE
+    } else {
+        EXTERNAL_DISTANCE
+    }
+}
+
+// The distance of what was learnt; `None` where the router began it itself.
+fn learnt_distance(best: &Chosen) -> Option<u8>
+    ensures { result ≡ (if is_learnt best.now.from then Some (distance_of best.now) else None) }
+{
+    match best.from {
+        BgpFrom::Entry(_) => Some(distance_of(best.internal)),
+        BgpFrom::Origin(_) | BgpFrom::Aggregate(_) => None,
+    }
+}
+
+// The distance of what BGP has of a prefix: of the discard, if there is one, else of the best
+// candidate.
+fn bgp_distance(discard: Option<u32>, chosen: &[Chosen]) -> Option<u8>
+    ensures { (prefix : Cidr) → result ≡ first_distance (bgp_rows prefix discard chosen.now) }
+{
+    if discard.is_some() {
+        return Some(LOCAL_DISTANCE);
+    }
+    let best = chosen.first()?;
+    learnt_distance(best)
+}
+
+// The distance of the base rows of a prefix.
+fn base_distance(rows: &[BaseRow]) -> Option<u8>
+    ensures { (prefix : Cidr) (first : ℕ) → result
+        ≡ first_distance (base_rows prefix first rows.now) }
+{
+    let row = rows.first()?;
+    Some(row.distance)
+}
+
+// Whether the base rows stand: there are some, and BGP has nothing nearer.
+fn stands(base: Option<u8>, bgp: Option<u8>) -> bool
+    ensures { result ≡ stands base bgp }
+{
+    match (base, bgp) {
+        (None, _) => false,
+        (Some(_), None) => true,
+        (Some(base), Some(bgp)) => base <= bgp,
+    }
+}
+
+// ---- rows
+
+// Adds the base rows of a prefix, the first of which has this place in its table.
+fn add_base(
+    main: &mut Vec<MainRow>,
+    prefix: Prefix,
+    rows: &[BaseRow],
+    first: usize,
+) -> Result<(), AllocError>
+    requires { first + length rows.now < 2 ^ 32 }
+    ensures { OnOk result (main.new.items
+        ≡ main.old.items ++ base_rows prefix first rows.now) }
+{
+    let mut place = first;
+    'rows: for row in rows {
+        main.push(MainRow {
+            prefix,
+            distance: row.distance,
+            from: MainFrom::Base(place as u32),
+        })?;
+        place += 1;
+    }
+    Ok(())
+}
+
+// Adds rows for so many chosen candidates of a prefix.
+fn add_learnt(
+    main: &mut Vec<MainRow>,
+    prefix: Prefix,
+    distance: u8,
+    count: usize,
+) -> Result<(), AllocError>
+    requires { count ≤ MULTIPATH_LIMIT }
+    ensures { OnOk result (main.new.items
+        ≡ main.old.items ++ map (learnt_row prefix distance) (range_with_len 0 count)) }
+{
+    'chosen: for place in 0..count {
+        main.push(MainRow {
+            prefix,
+            distance,
+            from: MainFrom::Bgp(place as u32),
+        })?;
+    }
+    Ok(())
+}
+
+// Adds what BGP has of a prefix.
+fn add_bgp(
+    main: &mut Vec<MainRow>,
+    prefix: Prefix,
+    discard: Option<u32>,
+    chosen: &[Chosen],
+) -> Result<(), AllocError>
+    requires { length chosen.now ≤ MULTIPATH_LIMIT }
+    ensures { OnOk result (main.new.items
+        ≡ main.old.items ++ bgp_rows prefix discard chosen.now) }
+{
+    if let Some(place) = discard {
+        main.push(MainRow {
+            prefix,
+            distance: LOCAL_DISTANCE,
+            from: MainFrom::Discard(place),
+        })?;
+        return Ok(());
+    }
+    match bgp_distance(None, chosen) {
+        Some(distance) => {
+            add_learnt(main, prefix, distance, chosen.len())?;
+            Ok(())
+        }
+        None => Ok(()),
+    }
+}
+
+/// Adds the main rows of a prefix: its base rows, the first of which has this place in its table,
+/// or what BGP has of it, a discard or what is chosen.
+pub(crate) fn add_rows(
+    main: &mut Vec<MainRow>,
+    prefix: Prefix,
+    base: &[BaseRow],
+    first: usize,
+    discard: Option<u32>,
+    chosen: &[Chosen],
+) -> Result<(), AllocError>
+    requires base { first + length base.now < 2 ^ 32 }
+    requires chosen { length chosen.now ≤ MULTIPATH_LIMIT }
+    ensures { OnOk result (main.new.items ≡ main.old.items
+        ++ nearer (base_rows prefix first base.now) (bgp_rows prefix discard chosen.now)) }
+{
+    if stands(base_distance(base), bgp_distance(discard, chosen)) {
+        add_base(main, prefix, base, first)?;
+        return Ok(());
+    }
+    add_bgp(main, prefix, discard, chosen)?;
+    Ok(())
+}
