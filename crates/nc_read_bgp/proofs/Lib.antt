@@ -3,7 +3,3 @@ mod GroupLemmas
 mod FieldLemmas
 mod ProcessLemmas
 mod Finished
-mod PairLemmas
-mod PathLemmas
-mod LawLemmas
-mod LowestLemmas

@@ -9,4 +9,3 @@ pub mod Processes
 pub mod Steps
 pub mod Drafts
 pub mod Outcomes
-pub mod Laws
