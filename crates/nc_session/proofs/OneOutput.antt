@@ -12,7 +12,7 @@ use Rattle.nc_marks.specs.Marks.{IsMark}
 use Rattle.nc_marks.specs.declared.mark.Mark.{Mark}
 use Rattle.nc_marks.specs.declared.mark.Mark.TheVariants.{Strong, Weak, Uncovered, Outside}
 use Rattle.nc_reader.specs.Configuration.{configuration}
-use Rattle.nc_tables.specs.State.{StateView, IsState, HaveNoProcess, static_state}
+use Rattle.nc_tables.specs.State.{StateView, IsState, BeginNothing, static_state}
 use Rattle.nc_tables.specs.Settling.{settled}
 use Rattle.nc_fact.specs.declared.fact.Fact.{Fact}
 use Rattle.nc_fact.specs.Tested.{tested_facts}
@@ -155,7 +155,7 @@ module _ (lengths : (g : Flow Fact) → IsFlow g → (fs xs ys : List Fact) → 
 -- ---- one output
 
 module _ (formed : (lines : List (List ℕ)) (c : ConfigView) → configuration lines ≡ Ok c → IsWellFormed c)
-    (settles : (routers : List ConfigView) (rounds : ℕ) → HaveNoProcess routers → 0 < rounds → settled rounds routers ≡ Some (static_state routers)) (flows : (s : StateView) → IsState s → IsFlow (flow_of s))
+    (settles : (routers : List ConfigView) (rounds : ℕ) → BeginNothing routers → 0 < rounds → settled rounds routers ≡ Some (static_state routers)) (flows : (s : StateView) → IsState s → IsFlow (flow_of s))
     (lengths : (g : Flow Fact) → IsFlow g → (fs xs ys : List Fact) → IsClosure g fs xs → IsClosure g fs ys → length xs ≡ length ys) where
   concludes_once : (loaded : Result StateView Refusal) (session : List ℕ) (m n : Status) (r t : List ℕ) → ((state : StateView) → loaded ≡ Ok state → IsState state)
       → Concludes loaded session m r → Concludes loaded session n t → (m ≡ n) × (r ≡ t)

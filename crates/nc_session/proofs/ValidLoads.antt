@@ -11,7 +11,7 @@ use Rattle.nc_outside.specs.Named.{Named, content_of}
 use Rattle.nc_lines.specs.Lines.{lines_of}
 use Rattle.nc_reader.specs.Configuration.{configuration}
 use Rattle.nc_network.specs.Judged.{ClashKind, Names, Overlaps, Addresses, References, Judgement, Clashing, OverLimit, Fine, or_clash, judged}
-use Rattle.nc_tables.specs.State.{StateView, IsState, HaveNoProcess, static_state}
+use Rattle.nc_tables.specs.State.{StateView, IsState, BeginNothing, static_state}
 use Rattle.nc_tables.specs.Settling.{settled}
 use Rattle.nc_stable.proofs.WithoutBgp.{is_state}
 use Rattle.nc_types.specs.declared.TheConstants.{ROUTER_LIMIT, LINE_LIMIT}
@@ -39,7 +39,7 @@ valid routers formed fine =
 -- ---- file by file
 
 module _ (formed : (lines : List (List ℕ)) (c : ConfigView) → configuration lines ≡ Ok c → IsWellFormed c)
-    (settles : (routers : List ConfigView) (rounds : ℕ) → HaveNoProcess routers → 0 < rounds → settled rounds routers ≡ Some (static_state routers)) where
+    (settles : (routers : List ConfigView) (rounds : ℕ) → BeginNothing routers → 0 < rounds → settled rounds routers ≡ Some (static_state routers)) where
   -- what is known of a configuration that was loaded
   record IsOne (c : ConfigView) : Type 0 where
     well : IsWellFormed c
@@ -94,7 +94,7 @@ module _ (formed : (lines : List (List ℕ)) (c : ConfigView) → configuration 
   by_settled (Some t) s state is holds e =
       let same : s ≡ state = cc in subst IsState same holds
 
-  routers_settled : (routers : List ConfigView) → HaveNoProcess routers → IsState (static_state routers) → IsSettled (Ok routers)
+  routers_settled : (routers : List ConfigView) → BeginNothing routers → IsState (static_state routers) → IsSettled (Ok routers)
   unfolding IsSettled
   routers_settled routers none is state e = by_settled (settled ROUND_LIMIT routers) (static_state routers) state (settles routers ROUND_LIMIT none (omega arith)) is e
 

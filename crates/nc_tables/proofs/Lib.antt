@@ -12,5 +12,5 @@ pub mod Ordered
 pub mod Owner
 mod ByLevels
 mod SameTables
-pub mod WithoutProcess
+pub mod WithoutRoutes
 pub mod Settled

@@ -8,10 +8,10 @@ use Rattle.nc_tables.specs.declared.bgp.SessionRow.{SessionRow}
 use Rattle.nc_tables.specs.Base.{base_tables}
 use Rattle.nc_tables.specs.Sessions.{sessions}
 use Rattle.nc_tables.specs.Rounds.{BgpRowView, no_routes, round, after, IsSettled, IsStable, IsUnstable}
-use Rattle.nc_tables.specs.State.{HaveNoProcess, state_at, static_state}
+use Rattle.nc_tables.specs.State.{BeginNothing, state_at, static_state}
 use Rattle.nc_tables.specs.Settling.{same_table, settled_from, settled_table, settled}
 use Rattle.nc_tables.proofs.SameTables.{table_is, table_itself}
-use Rattle.nc_tables.proofs.WithoutProcess.{round_is, no_routes_is}
+use Rattle.nc_tables.proofs.WithoutRoutes.{round_is, no_routes_is}
 
 module _ (routers : List ConfigView) (tables : List (List BaseRow)) (sessions : List (List SessionRow)) where
   abbrev At : ℕ → Option (List (List BgpRowView)) → Type 0
@@ -69,11 +69,11 @@ module _ (routers : List ConfigView) (tables : List (List BaseRow)) (sessions : 
           let same : found.count ≡ is.count = omega arith in
           ap Some (found.state ∙ ap (after routers tables sessions) same ∙ sym is.state)
 
-module _ (routers : List ConfigView) (none : HaveNoProcess routers) where
-  pub without_bgp : (rounds : ℕ) → 0 < rounds → settled rounds routers ≡ Some (static_state routers)
+module _ (routers : List ConfigView) (none : BeginNothing routers) where
+  pub without_routes : (rounds : ℕ) → 0 < rounds → settled rounds routers ≡ Some (static_state routers)
   unfolding settled settled_from static_state
-  without_bgp zero some = absurd (omega arith)
-  without_bgp (suc rounds) some =
+  without_routes zero some = absurd (omega arith)
+  without_routes (suc rounds) some =
       ap (option_map (state_at routers))
       (ap (λ b. cond b (Some (no_routes routers)) (settled_from routers base established rounds (round routers base established (no_routes routers)))) same)
     where

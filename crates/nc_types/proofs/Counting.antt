@@ -33,7 +33,7 @@ module _ (routers : List RouterConfig) (valid : All IsWellFormed (map config_vie
       let fewer = few_interfaces (config_view (get_or routers k d)) (formed_at k d lt) in
       omega (arith, fewer, each_few k d lt, length-map (get_or routers k d).elements.items element_view)
 
-  pub all_few : length routers ≤ ROUTER_LIMIT → element_count (map config_view routers) < 2 ^ 32
+  pub all_few : length routers ≤ ROUTER_LIMIT → element_count (map config_view routers) ≤ ROUTER_LIMIT * LINE_LIMIT
   all_few few =
       let each : All (λ c. length c.elements ≤ LINE_LIMIT) (map config_view routers) =
       All-map (λ (c : ConfigView). length c.elements ≤ LINE_LIMIT) config_view routers (λ k d lt. omega (arith, each_few k d lt, length-map (get_or routers k d).elements.items element_view)) in

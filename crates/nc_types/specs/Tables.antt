@@ -1,5 +1,5 @@
 -- The tables of a network, from which look-ups are served.
-use Rattle.std.specs.Prelude.{◌≡◌, ℕ, ◌+◌, ◌<◌, ◌≤◌, ◌^◌, List, [], ◌∷◌, ◌++◌, length, map, slice_get, slice_index_or, position, nat_eq, Option, Some, None, option_and_then, if◌then◌else◌}
+use Rattle.std.specs.Prelude.{◌≡◌, ℕ, ◌+◌, ◌<◌, ◌≤◌, ◌*◌, List, [], ◌∷◌, ◌++◌, length, map, slice_get, slice_index_or, position, nat_eq, Option, Some, None, option_and_then, if◌then◌else◌}
 use Rattle.std.specs.BTreeMap.{BTreeMap, get_by}
 use Rattle.std.specs.Cmp.Lexicographic.{slice_cmp}
 use Rattle.std.specs.Global.{Vec}
@@ -7,7 +7,7 @@ use Rattle.std.specs.Ordering.{nat_cmp}
 use Rattle.std.specs.List.{range_with_len, list_any, position_from}
 use Rattle.std.specs.Option.{option_map}
 use Rattle.nc_types.specs.declared.addr.Addr.{Addr}
-use Rattle.nc_types.specs.declared.TheConstants.{ROUTER_LIMIT}
+use Rattle.nc_types.specs.declared.TheConstants.{ROUTER_LIMIT, LINE_LIMIT}
 use Rattle.nc_types.specs.declared.config.Interface.{Interface}
 use Rattle.nc_types.specs.declared.config.RouterId.{RouterId}
 use Rattle.nc_types.specs.declared.network.addresses.IfacePlace.{IfacePlace}
@@ -90,9 +90,9 @@ pub record AreTables (routers : List ConfigView) (tables : Tables) : Type 0 wher
   pub owners : AreAllOwners routers (length routers) tables.owners.items
   pub addresses : (addr : ℕ) → option_map place_in (owner_by tables.addresses addr) ≡ owner_of routers addr
 
--- a network of so few valid routers that their elements can be numbered, with its tables
+-- a network of so few valid routers, of files of so few lines, with its tables
 pub record IsNetwork (routers : List ConfigView) (tables : Tables) : Type 0 where
   pub valid : IsValid routers
   pub count : length routers ≤ ROUTER_LIMIT
-  pub few : element_count routers < 2 ^ 32
+  pub few : element_count routers ≤ ROUTER_LIMIT * LINE_LIMIT
   pub served : AreTables routers tables

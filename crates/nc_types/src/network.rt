@@ -1,6 +1,6 @@
 //! The routers of a network, with look-ups that tables serve.
 
-ghost use Rattle.std.specs.Prelude.{◌≡◌, ◌≤◌, ◌<◌, length, map, All, IfOk, is_some, nat_lt, slice_get};
+ghost use Rattle.std.specs.Prelude.{◌≡◌, ◌≤◌, ◌<◌, ◌*◌, length, map, All, IfOk, is_some, nat_lt, slice_get};
 ghost use Rattle.std.specs.Option.{ForSome, option_map};
 ghost use Rattle.nc_types.specs.Config.{config_view, element_view};
 ghost use Rattle.nc_types.specs.Joining.{IsValid};
@@ -70,9 +70,10 @@ impl Network {
         self.tables.names.get(name).copied()
     }
 
-    /// How many elements the routers have together.
+    /// How many elements the routers have together: no more than the files of as many routers as are allowed have lines.
     pub fn element_count(&self) -> u32
-        ensures { result ≡ element_count self.now }
+        ensures count { result ≡ element_count self.now }
+        ensures few { element_count self.now ≤ ROUTER_LIMIT * LINE_LIMIT }
     {
         self.tables.places.len() as u32
     }

@@ -18,7 +18,7 @@ row_at-requires-clause-few c =
     let at = c.in_ok-config.ensures.lookup in
     let config = c.in_ok-config.config.now in
     let same : map config_view routers ≡ c.args.network.now = c.routers.ensures.routers in
-    let few : element_count c.args.network.now < 2 ^ 32 = omega (arith, c.element_count-count.ensures, c.element_count-count.type_inv) in
+    let few : element_count c.args.network.now < 2 ^ 32 = omega (arith, c.element_count-count.ensures.few) in
     let count : element_count (map config_view routers) < 2 ^ 32 = subst (λ (cs : List ConfigView). element_count cs < 2 ^ 32) (sym same) few in
     let here = interfaces_at routers (subst IsValid (sym same) c.routers.ensures.valid) count c.args.router.0 config at.3.0 in
     subst (λ (is : List Interface). length is < 2 ^ 32) (sym c.deref.ensures.value) (subst (λ (r : RouterConfig). length r.interfaces.items < 2 ^ 32) (sym at.1) here)

@@ -17,7 +17,7 @@ base_rows-requires-clause-interfaces c =
     let routers = c.routers-config-items.result.now in
     let same : map config_view routers ≡ c.args.network.now = c.routers-config-items.ensures.routers in
     let valid : IsValid (map config_view routers) = subst IsValid (sym same) c.routers-config-items.ensures.valid in
-    let few : element_count c.args.network.now < 2 ^ 32 = omega (arith, c.element_count-count.ensures) in
+    let few : element_count c.args.network.now < 2 ^ 32 = omega (arith, c.element_count-count.ensures.few) in
     let count : element_count (map config_view routers) < 2 ^ 32 = subst (λ (cs : List ConfigView). element_count cs < 2 ^ 32) (sym same) few in
     subst (λ (r : RouterConfig). length r.interfaces.items < 2 ^ 32) (sym c.config-item.is) (interfaces_at routers valid count c.routers.config-index c.config-item.result c.routers-test.true)
 
@@ -26,7 +26,7 @@ base_rows-requires-clause-statics c =
     let routers = c.routers-config-items.result.now in
     let same : map config_view routers ≡ c.args.network.now = c.routers-config-items.ensures.routers in
     let valid : IsValid (map config_view routers) = subst IsValid (sym same) c.routers-config-items.ensures.valid in
-    let few : element_count c.args.network.now < 2 ^ 32 = omega (arith, c.element_count-count.ensures) in
+    let few : element_count c.args.network.now < 2 ^ 32 = omega (arith, c.element_count-count.ensures.few) in
     let count : element_count (map config_view routers) < 2 ^ 32 = subst (λ (cs : List ConfigView). element_count cs < 2 ^ 32) (sym same) few in
     subst (λ (r : RouterConfig). length r.statics.items < 2 ^ 32) (sym c.config-item.is) (statics_at routers valid count c.routers.config-index c.config-item.result c.routers-test.true)
 

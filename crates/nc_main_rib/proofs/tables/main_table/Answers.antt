@@ -25,12 +25,12 @@ use Rattle.nc_main_rib.proofs.tables.main_table.Goals as goal
 
 pub active_places-requires-clause-few : goal.active_places-requires-clause-few
 active_places-requires-clause-few c =
-    let count : element_count c.args.network.now < 2 ^ 32 = omega (arith, c.element_count-count.ensures) in
+    let count : element_count c.args.network.now < 2 ^ 32 = omega (arith, c.element_count-count.ensures.few) in
     subst (λ (l : List AggregateStatement). length l < 2 ^ 32) (sym c.aggregates_of-aggregates.ensures) (few_aggregates c.args.network.now c.routers-routers.ensures.valid count c.args.router.0)
 
 pub add_prefix-requires-clause-few : goal.add_prefix-requires-clause-few
 add_prefix-requires-clause-few c =
-    let count : element_count c.args.network.now < 2 ^ 32 = omega (arith, c.element_count-count.ensures) in
+    let count : element_count c.args.network.now < 2 ^ 32 = omega (arith, c.element_count-count.ensures.few) in
     subst (λ (l : List (List BaseRow)). length (get_or l c.args.router.0 []) < 2 ^ 32) (sym c.requires.base) (few_base_rows c.args.network.now c.routers-routers.ensures.valid count c.args.router.0)
 
 pub returns-clause-rows : goal.returns-clause-rows

@@ -18,7 +18,7 @@ use Rattle.nc_stable.proofs.settle.main_tables.Goals as goal
 pub main_rows-requires-clause-few : goal.main_rows-requires-clause-few
 main_rows-requires-clause-few c =
     let router = c.routers.router in
-    let count : element_count c.args.network.now < 2 ^ 32 = omega (arith, c.element_count-count.ensures) in
+    let count : element_count c.args.network.now < 2 ^ 32 = omega (arith, c.element_count-count.ensures.few) in
     let rows : c.rows-rows.result.now ≡ get_or (base_tables c.args.network.now) router [] = c.rows-rows.ensures.rows ∙ ap (λ (l : List (List BaseRow)). get_or l router []) c.requires.base in
     subst (λ (l : List BaseRow). length l < 2 ^ 32) (sym rows) (few_base_rows c.args.network.now c.routers-router-end.ensures.valid count router)
 

@@ -1,6 +1,6 @@
 use Rattle.std.proofs.Common.{◌≡◌, Some, sym, ap, subst, ◌∙◌}
 use Rattle.nc_tables.specs.State.{StateView, IsState, static_state}
-use Rattle.nc_tables.proofs.Settled.{without_bgp}
+use Rattle.nc_tables.proofs.Settled.{without_routes}
 use Rattle.nc_stable.proofs.WithoutBgp.{static_is, is_state}
 use Rattle.nc_stable.proofs.settle.settle_static.Goals as goal
 
@@ -19,4 +19,4 @@ pub returns-clause-state : goal.returns-clause-state
 returns-clause-state c = made_is c
 
 pub returns-clause-settled : goal.returns-clause-settled
-returns-clause-settled c rounds some = without_bgp c.args.network c.requires rounds some ∙ ap (λ (s : StateView). Some s) (sym (made_is c))
+returns-clause-settled c rounds some = without_routes c.args.network c.requires rounds some ∙ ap (λ (s : StateView). Some s) (sym (made_is c))

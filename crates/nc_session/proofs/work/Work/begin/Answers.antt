@@ -14,7 +14,7 @@ returns-clause-work c =
       state = subst IsState is c.network.ensures.state;
       marked = subst (λ (s : StateView). IsMarked s (map test_view c.new-5.result.items) c.new-4.result c.in_ok-kept.kept) is
           (rw c.new-5.ensures.items (marked-none s c.new-4.result c.in_ok-kept.kept c.element_count.result c.new-4.ensures.empty
-          (c.element_count.ensures ∙ ap element_count c.network.ensures.network) (c.new-4.ensures.mirrors _) c.in_ok-kept.ensures.kept));
+          (c.element_count.ensures.count ∙ ap element_count c.network.ensures.network) (c.new-4.ensures.mirrors _) c.in_ok-kept.ensures.kept));
       shown = subst (λ (s : StateView). c.in_ok-shown.shown ≡ sheets_from s.routers c.in_ok-kept.kept.marks 0 s.routers) is
           (shown-first s.routers c.network-2.result.now c.in_ok-kept.kept.marks c.marks.result.now c.in_ok-shown.shown c.network-2.ensures.network c.marks.ensures c.in_ok-shown.ensures);
       few = omega (arith, ap length c.new-5.ensures.items);

@@ -9,7 +9,7 @@ overflow_cast-result c =
     let count : length c.self.inside.tables.places.items ≡ element_count (map config_view c.self.inside.routers.items) = ap length c.self.invariant.served.places ∙ length-places_from 0 (map config_view c.self.inside.routers.items) in
     omega (arith, c.self.invariant.few)
 
-pub returns : goal.returns
-returns c =
+pub returns-clause-count : goal.returns-clause-count
+returns-clause-count c =
     let count : length c.self.inside.tables.places.items ≡ element_count (map config_view c.self.inside.routers.items) = ap length c.self.invariant.served.places ∙ length-places_from 0 (map config_view c.self.inside.routers.items) in
     rw (← c.self.view_is) (omega arith)

@@ -12,7 +12,7 @@ make_tables-requires-clause-elements c =
 
 pub make_tables-requires-clause-count : goal.make_tables-requires-clause-count
 make_tables-requires-clause-count c =
-    rw c.deref.ensures.value (all_few c.args.routers.items c.requires.valid.each c.requires.lines c.requires.few)
+    rw c.deref.ensures.value (omega (arith, all_few c.args.routers.items c.requires.valid.each c.requires.lines c.requires.few))
 
 pub invariant_of-result : goal.invariant_of-result
 invariant_of-result c = record {
