@@ -1,10 +1,13 @@
--- The main tables of a network in which no router has a BGP process: base rows alone.
-use Rattle.std.proofs.Common.{◌≡◌, ℕ, zero, suc, ◌+◌, ◌^◌, ◌<◌, ◌≤◌, Bool, true, false, cond, List, [], ◌∷◌, ◌++◌, length, map, get_or, All, Option, Some, None, append-nil, refl, sym, ap, ◌∙◌, arith}
+-- The main tables of a network in which no router begins a prefix of BGP: base rows alone.
+use Rattle.std.proofs.Common.{◌≡◌, ℕ, zero, suc, ◌+◌, ◌^◌, ◌<◌, ◌≤◌, Bool, true, false, cond, if◌then◌else◌, ◌&&◌, List, [], ◌∷◌, ◌++◌, length, map, get_or, All, Option, Some, None, append-nil, refl, sym, ap, ◌∙◌, arith}
 use Rattle.std.specs.List.{flat_map}
 use Rattle.std.specs.List.Sorted.{IsSorted}
 use Rattle.std.specs.Option.{option_map_or}
 use Rattle.nc_types.specs.declared.TheConstants.{ROUTER_LIMIT}
 use Rattle.nc_types.specs.Cidr.{Cidr, IsCidr}
+use Rattle.nc_types.specs.declared.config.AggregateStatement.{AggregateStatement}
+use Rattle.nc_tables.specs.declared.TheConstants.{LOCAL_DISTANCE}
+use Rattle.nc_tables.specs.declared.bgp.MainFrom.TheVariants.{Discard as Aggregates}
 use Rattle.nc_types.specs.Config.{ConfigView, ProcessView}
 use Rattle.nc_types.specs.Joining.{IsValid}
 use Rattle.nc_tables.specs.declared.base.BaseRow.{BaseRow}
@@ -16,13 +19,13 @@ use Rattle.nc_tables.specs.declared.base.BaseFrom.TheVariants.{Null as Discard}
 use Rattle.nc_tables.specs.Longest.{AreByPrefix}
 use Rattle.nc_tables.specs.Order.{in_order}
 use Rattle.nc_tables.specs.Sessions.{process_of, sessions, first_of}
-use Rattle.nc_tables.specs.Rounds.{BgpRowView, AreBgpRows, chosen_in, chosen_at, made_from, distinct, no_routes}
+use Rattle.nc_tables.specs.Rounds.{BgpRowView, AreBgpRows, chosen_in, chosen_at, made_from, distinct, is_active, no_routes}
 use Rattle.nc_tables.specs.Main.{AreMainRows, discards, learnt_rows, bgp_side, base_side, nearer, prefixes_at, main_rows_at, main_table, main_tables}
-use Rattle.nc_tables.specs.State.{StateView, HaveNoProcess, IsState, state_at, static_state}
+use Rattle.nc_tables.specs.State.{StateView, BeginNothing, IsState, state_at, static_state}
 use Rattle.nc_tables.proofs.RowOrder.{by_prefix}
 use Rattle.nc_types.proofs.Sameness.{same_prefix_is}
 use Rattle.nc_tables.proofs.ByPrefix.{prefixes_rise, distinct_in_order, of_prefix, by_prefixes}
-use Rattle.nc_tables.proofs.WithoutProcess.{no_process, of_none, stays}
+use Rattle.nc_tables.proofs.WithoutRoutes.{no_aggregates, stays}
 use Rattle.nc_stable.specs.MainRows.{main_row, main_rows}
 
 -- ---- lists
@@ -42,12 +45,12 @@ made_same f g same place (x ∷ xs) =
     ap (λ o. option_map_or (λ y. y ∷ made_from f (suc place) xs) o (made_from f (suc place) xs)) (same place x)
     ∙ ap (λ l. option_map_or (λ y. y ∷ l) (g place x) l) (made_same f g same (suc place) xs)
 
--- ---- no process
+-- ---- no prefix of BGP
 
 abbrev prefix_of : BaseRow → Cidr
 prefix_of row = row.prefix
 
-module _ (routers : List ConfigView) (none : HaveNoProcess routers) (tables : List (List BaseRow)) where
+module _ (routers : List ConfigView) (none : BeginNothing routers) (tables : List (List BaseRow)) where
   module _ (k : ℕ) where
     abbrev rows : List BaseRow
     rows = get_or tables k []
@@ -58,8 +61,16 @@ module _ (routers : List ConfigView) (none : HaveNoProcess routers) (tables : Li
     no_rows : get_or table k [] ≡ []
     no_rows = empty_at (λ (c : ConfigView). []) routers k (λ i d lt. refl)
 
+    abbrev discard_of : Cidr → ℕ → AggregateStatement → Option MainRow
+    discard_of p place a = if same_prefix a.prefix p && is_active table k a then Some (record { prefix = p; distance = LOCAL_DISTANCE; from = Aggregates place }) else None
+
     no_discards : (p : Cidr) → discards routers table k p ≡ []
-    no_discards p = of_none _ (process_of routers k) (no_process routers none k)
+    no_discards p = no_discards_of (process_of routers k) (no_aggregates routers none k)
+      where
+        no_discards_of : (o : Option ProcessView) → option_map_or (λ (q : ProcessView). q.aggregates) o [] ≡ []
+            → option_map_or (λ (q : ProcessView). made_from (discard_of p) 0 q.aggregates) o [] ≡ []
+        no_discards_of None e = refl
+        no_discards_of (Some q) e = ap (made_from (discard_of p) 0) e
 
     no_bgp : (p : Cidr) → bgp_side routers table k p ≡ []
     no_bgp p =
@@ -84,10 +95,14 @@ module _ (routers : List ConfigView) (none : HaveNoProcess routers) (tables : Li
     abbrev own : Option ProcessView → List Cidr
     own p = option_map_or (λ (p : ProcessView). map (λ a. a.prefix) p.aggregates) p []
 
+    own_none : (o : Option ProcessView) → option_map_or (λ (q : ProcessView). q.aggregates) o [] ≡ [] → own o ≡ []
+    own_none None e = refl
+    own_none (Some q) e = ap (map (λ (a : AggregateStatement). a.prefix)) e
+
     prefixes_are : prefixes_at routers tables table k ≡ in_order prefix_cmp (distinct (map prefix_of rows))
     prefixes_are =
         ap (λ (l : List BgpRowView). in_order prefix_cmp (distinct (map prefix_of rows ++ (map (λ (row : BgpRowView). row.prefix) l ++ own (process_of routers k))))) no_rows
-        ∙ ap (λ (p : Option ProcessView). in_order prefix_cmp (distinct (map prefix_of rows ++ own p))) (no_process routers none k)
+        ∙ ap (λ (l : List Cidr). in_order prefix_cmp (distinct (map prefix_of rows ++ l))) (own_none (process_of routers k) (no_aggregates routers none k))
         ∙ ap (λ (l : List Cidr). in_order prefix_cmp (distinct l)) (append-nil (map prefix_of rows))
 
     pub main_is : IsSorted row_cmp rows → main_table routers tables table k ≡ main_rows 0 rows
@@ -134,7 +149,7 @@ module _ (routers : List ConfigView) where
   all_bare (c ∷ cs) zero d lt = bare
   all_bare (c ∷ cs) (suc k) d lt = all_bare cs k d (omega arith)
 
-  pub is_state : HaveNoProcess routers → IsValid routers → length routers ≤ ROUTER_LIMIT → IsState (static_state routers)
+  pub is_state : BeginNothing routers → IsValid routers → length routers ≤ ROUTER_LIMIT → IsState (static_state routers)
   unfolding static_state state_at
   is_state none valid few = record {
     valid = valid;

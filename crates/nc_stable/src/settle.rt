@@ -3,15 +3,15 @@ ghost use Rattle.std.specs.List.Sorted.{IsSorted};
 ghost use Rattle.nc_types.specs.Cidr.{IsCidr};
 ghost use Rattle.nc_tables.specs.declared.base.BaseRow.{BaseRow};
 ghost use Rattle.nc_tables.specs.Base.{row_cmp, base_tables};
-ghost use Rattle.nc_tables.specs.Sessions.{sessions};
 ghost use Rattle.nc_tables.specs.Rounds.{no_routes};
 ghost use Rattle.nc_tables.specs.Main.{AreMainRows, main_tables};
-ghost use Rattle.nc_tables.specs.State.{HaveNoProcess, static_state};
+ghost use Rattle.nc_tables.specs.State.{BeginNothing, static_state};
 ghost use Rattle.nc_tables.specs.Settling.{settled};
 ghost use Rattle.nc_stable.specs.MainRows.{main_rows};
 
 use nc_base_rib::base_tables;
-use nc_tables::{BaseRow, BaseTables, BgpTable, MainFrom, MainRow, MainTables, Sessions, Stable};
+use nc_sessions::sessions;
+use nc_tables::{BaseRow, BaseTables, BgpTable, MainFrom, MainRow, MainTables, Stable};
 use nc_types::{Network, RouterId};
 use std::alloc::{AllocError, Global};
 
@@ -46,13 +46,13 @@ fn main_rows(alloc: Global, rows: &[BaseRow]) -> Result<Vec<MainRow>, AllocError
     Ok(main)
 }
 
-// The main tables of a network that has no BGP.
+// The main tables of a network that has no route of BGP.
 fn main_tables(
     alloc: Global,
     network: &Network,
     base: &BaseTables,
 ) -> Result<MainTables, AllocError>
-    requires none { HaveNoProcess network.now }
+    requires none { BeginNothing network.now }
     requires base { base.now ≡ base_tables network.now }
     ensures { IfOk result (λ main. main
         ≡ main_tables network.now base.now (no_routes network.now)) }
@@ -66,17 +66,7 @@ fn main_tables(
     Ok(MainTables::from_rows(tables))
 }
 
-// The sessions of a network that has no BGP.
-fn no_sessions(alloc: Global, network: &Network) -> Result<Sessions, AllocError>
-    requires { HaveNoProcess network.now }
-    ensures { IfOk result (λ none. (base : List (List BaseRow)) → none
-        ≡ sessions network.now base) }
-{
-    let lists = empty_lists(alloc, network.routers().len())?;
-    Ok(Sessions::from_rows(lists))
-}
-
-// The BGP table of a network that has no BGP.
+// The BGP table of a network that has no route of BGP.
 fn no_routes(alloc: Global, network: &Network) -> Result<BgpTable, AllocError>
     ensures { IfOk result (λ none. none ≡ no_routes network.now) }
 {
@@ -84,14 +74,15 @@ fn no_routes(alloc: Global, network: &Network) -> Result<BgpTable, AllocError>
     Ok(BgpTable::from_rows(lists))
 }
 
-/// The state of a network in which no router has a BGP process: it has no session and no route of BGP, and
-/// the main rows of a router are its base rows. It is the state that is computed over any number of rounds above 0.
+/// The state of a network in which no router begins a prefix of BGP, by a network or an aggregate: it has
+/// no route of BGP, and the main rows of a router are its base rows. It is the state that is computed over any
+/// number of rounds above 0.
 ///
 /// # Errors
 ///
 /// Memory that runs out.
 pub fn settle_static(alloc: Global, network: Network) -> Result<Stable, AllocError>
-    requires { HaveNoProcess network }
+    requires { BeginNothing network }
     ensures routers { IfOk result (λ state. state.routers ≡ network) }
     ensures state { IfOk result (λ state. state ≡ static_state network) }
     ensures settled { IfOk result (λ state. (rounds : ℕ) → 0 < rounds → settled rounds network
@@ -99,7 +90,7 @@ pub fn settle_static(alloc: Global, network: Network) -> Result<Stable, AllocErr
 {
     let base = base_tables(alloc, &network)?;
     let main = main_tables(alloc, &network, &base)?;
-    let sessions = no_sessions(alloc, &network)?;
+    let sessions = sessions(alloc, &network, &base)?;
     let bgp = no_routes(alloc, &network)?;
     let _routers = network.routers();
     Ok(Stable::new(network, base, sessions, bgp, main))

@@ -7,13 +7,13 @@ use Rattle.nc_stable.proofs.settle.settle_static.Goals as goal
 pub new-requires : goal.new-requires
 new-requires c =
     let base = c.in_ok-base.base in
-    let made = static_is c.args.network base c.in_ok-sessions.sessions c.in_ok-bgp.bgp c.in_ok-main.main c.in_ok-base.ensures (c.in_ok-sessions.ensures base) c.in_ok-bgp.ensures c.in_ok-main.ensures in
+    let made = static_is c.args.network base c.in_ok-sessions.sessions c.in_ok-bgp.bgp c.in_ok-main.main c.in_ok-base.ensures c.in_ok-sessions.ensures c.in_ok-bgp.ensures c.in_ok-main.ensures in
     subst IsState (sym made) (is_state c.args.network c.requires c.routers-routers.ensures.valid c.routers-routers.ensures.few)
 
 made_is : (c : goal.After-new) → c.new.result ≡ static_state c.args.network
 made_is c =
     let base = c.in_ok-base.base in
-    c.new.ensures ∙ static_is c.args.network base c.in_ok-sessions.sessions c.in_ok-bgp.bgp c.in_ok-main.main c.in_ok-base.ensures (c.in_ok-sessions.ensures base) c.in_ok-bgp.ensures c.in_ok-main.ensures
+    c.new.ensures ∙ static_is c.args.network base c.in_ok-sessions.sessions c.in_ok-bgp.bgp c.in_ok-main.main c.in_ok-base.ensures c.in_ok-sessions.ensures c.in_ok-bgp.ensures c.in_ok-main.ensures
 
 pub returns-clause-state : goal.returns-clause-state
 returns-clause-state c = made_is c
