@@ -4,3 +4,6 @@ pub mod PlaceLemmas
 pub mod NumberLemmas
 pub mod PartLemmas
 pub mod WholeLines
+pub mod Pairs
+pub mod GroupLemmas
+pub mod Grouping

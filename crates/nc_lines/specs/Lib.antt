@@ -5,4 +5,5 @@ pub mod Numbers
 pub mod Statements
 pub mod Readings
 pub mod Parts
+pub mod Groups
 pub mod Outcomes

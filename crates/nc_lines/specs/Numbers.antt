@@ -3,7 +3,7 @@ use Rattle.std.specs.Prelude.{ℕ, ◌+◌, ◌*◌, ◌-◌, Bool, false, ◌&&
 use Rattle.std.specs.List.{slice_split, list_all}
 use Rattle.std.specs.Option.{option_map}
 use Rattle.nc_types.specs.Cidr.{Cidr}
-use Rattle.nc_types.specs.Masks.{network_of}
+use Rattle.nc_types.specs.Masks.{mask_len_of, network_of}
 
 -- a decimal digit
 abbrev pub is_digit : ℕ → Bool
@@ -34,10 +34,14 @@ address_of_parts parts = None
 unfoldable pub address_of : List ℕ → Option ℕ
 address_of word = address_of_parts (slice_split (λ b. b == 46) word)
 
+-- the prefix of an address and a length, where no host bit is set
+abbrev pub whole_prefix : ℕ → ℕ → Option Cidr
+whole_prefix addr len = if network_of addr len == addr then Some (record { base = addr; len = len }) else None
+
 -- an address and a length with a slash between them, where no host bit is set
 abbrev pub prefix_of_parts : List (List ℕ) → Option Cidr
 prefix_of_parts (address ∷ len ∷ []) =
-    option_and_then (λ base. option_and_then (λ len. if network_of base len == base then Some (record { base = base; len = len }) else None) (number_of 32 len)) (address_of address)
+    option_and_then (λ base. option_and_then (λ len. whole_prefix base len) (number_of 32 len)) (address_of address)
 prefix_of_parts parts = None
 
 -- the prefix that a word writes
@@ -53,3 +57,11 @@ around_of_parts parts = None
 -- the prefix of the address and the length that a word writes
 unfoldable pub around_of : List ℕ → Option Cidr
 around_of word = around_of_parts (slice_split (λ b. b == 47) word)
+
+-- an address and a mask of ones followed by zeros, with the mask's length
+abbrev pub masked_of : List ℕ → List ℕ → Option (ℕ × ℕ)
+masked_of address mask = option_and_then (λ a. option_and_then (λ m. option_map (λ len. (a, len)) (mask_len_of m)) (address_of mask)) (address_of address)
+
+-- the prefix of an address and its mask, where no host bit is set
+abbrev pub masked_prefix : List ℕ → List ℕ → Option Cidr
+masked_prefix address mask = option_and_then (λ p. whole_prefix p.0 p.1) (masked_of address mask)

@@ -30,6 +30,17 @@ abbrev pub alone_says : {S : Type 0} → S → List (List ℕ) → Reading S
 alone_says s [] = Says s
 alone_says s (word ∷ words) = Faulty Syntax
 
+-- what is said in its form, or else a fault of syntax
+abbrev pub or_syntax : {S : Type 0} → Option S → Reading S
+or_syntax (Some s) = Says s
+or_syntax None = Faulty Syntax
+
+-- something that is said, as something else
+abbrev pub said_as : {S T : Type 0} → (S → T) → Reading S → Reading T
+said_as f Outside = Outside
+said_as f (Faulty cause) = Faulty cause
+said_as f (Says s) = Says (f s)
+
 -- what is wrong, if something is
 abbrev pub fault_of : {S : Type 0} → Reading S → Option Cause
 fault_of Outside = None

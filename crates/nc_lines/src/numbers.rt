@@ -1,12 +1,13 @@
-//! Decimal numbers, addresses and prefixes, each written as one word.
+//! Decimal numbers, addresses and prefixes, each written as one word, or as an address and a mask.
 
 ghost use Rattle.std.specs.Prelude.{◌≡◌, ◌≤◌, ◌==◌, List, ℕ, [], ◌∷◌, MatchOption, IfSome};
 ghost use Rattle.std.specs.Option.{option_map};
 ghost use Rattle.std.specs.List.{slice_split};
 ghost use Rattle.nc_lines.specs.Numbers.{number_of, address_of, prefix_of, around_of, address_of_parts};
+ghost use Rattle.nc_lines.specs.Numbers.{masked_of, masked_prefix};
 
 use crate::cut::cut_at;
-use nc_types::{Addr, Prefix};
+use nc_types::{Addr, Prefix, mask_len};
 
 /// The number that a word writes in decimal digits, without a sign or a leading zero; `None` where the
 /// word writes none or it is more than `most`.
@@ -88,4 +89,24 @@ pub fn read_around(word: &[u8]) -> Option<Prefix>
     let address = read_address(address)?;
     let len = read_number(len, 32)?;
     Some(Prefix::around(address, len as u8))
+}
+
+/// The address that one word writes, and the length from 0 to 32 of the mask that another writes; `None`
+/// where the mask isn't of ones followed by zeros.
+pub fn read_masked(address: &[u8], mask: &[u8]) -> Option<(Addr, u8)>
+    ensures read { option_map (λ p. (p.0.0, p.1)) result ≡ masked_of address.now mask.now }
+    ensures within { IfSome result (λ p. p.1 ≤ 32) }
+{
+    let address = read_address(address)?;
+    let mask = read_address(mask)?;
+    let len = mask_len(mask)?;
+    Some((address, len))
+}
+
+/// The prefix that an address and a mask write; `None` where a host bit is set.
+pub fn read_masked_prefix(address: &[u8], mask: &[u8]) -> Option<Prefix>
+    ensures { result ≡ masked_prefix address.now mask.now }
+{
+    let (address, len) = read_masked(address, mask)?;
+    Prefix::new(address, len)
 }

@@ -10,11 +10,12 @@ use Rattle.nc_types.specs.declared.config.Reference.{Reference}
 use Rattle.nc_types.proofs.Sameness.{same_prefix_is}
 use Rattle.nc_types.proofs.Truth.{or_false}
 use Rattle.nc_lines.specs.Parts.{Numbered, Stated, fault_in, statements_in}
-use Rattle.nc_read_bgp.specs.Groups.{Keyed, things}
+use Rattle.nc_lines.specs.Groups.{Keyed}
+use Rattle.nc_lines.proofs.Grouping.{IsSame, equiv_of}
 use Rattle.nc_read_bgp.specs.Kept.{put_in}
 use Rattle.nc_read_bgp.specs.Statements.{NeighborSays, ProcessSays, Opens, RouterId, MaxPaths, Relax, Originates, Aggregates, Of, line_says}
 use Rattle.nc_read_bgp.specs.Neighbors.{NeighborFields, neighbor_in, remote_as_by, source_by, map_in_by, map_out_by, is_multihop, is_self_hop, sends_communities, shuts}
-use Rattle.nc_read_bgp.specs.Processes.{PrefixFields, prefix_in, ProcessFields, fields_in, process_of, process_in, lack_in, lower_of, same_addr, asn_by, router_id_by, max_paths_by, is_relax, own_by, neighbor_by, network_by, aggregate_by}
+use Rattle.nc_read_bgp.specs.Processes.{things, PrefixFields, prefix_in, ProcessFields, fields_in, process_of, process_in, lack_in, lower_of, same_addr, asn_by, router_id_by, max_paths_by, is_relax, own_by, neighbor_by, network_by, aggregate_by}
 use Rattle.nc_read_bgp.specs.Steps.{no_neighbor, neighbor_with, no_prefix, prefix_with, no_process, process_with, process_behind, finished}
 use Rattle.nc_read_bgp.proofs.GroupLemmas.{kept_is_things}
 use Rattle.nc_read_bgp.proofs.FieldLemmas.{push_all, field_behind, field_by_all, last_behind, option_behind, flag_behind}
@@ -124,20 +125,19 @@ aggregates_step : (p : ProcessFields) (line : ℕ) (s : ProcessSays) → (proces
 aggregates_step p line (Aggregates q b) = refl
 aggregates_step p line s = refl
 
-pub same_addr_is : (a b : Addr) → same_addr a b ≡ true → a ≡ b
-same_addr_is a b e = ap (λ (n : ℕ). record { 0 = n }) (eqb-true a.0 b.0 e)
+-- the tests of sameness say what is one
+pub addrs_same : IsSame same_addr
+addrs_same a b = (λ e. ap (λ (n : ℕ). record { 0 = n }) (eqb-true a.0 b.0 e), λ e. eq-eqb a.0 b.0 (ap (λ (a : Addr). a.0) e))
 
-pub same_addr_itself : (a : Addr) → same_addr a a ≡ true
-same_addr_itself a = eq-eqb a.0 a.0 refl
-
-pub same_prefix_itself : (q : Cidr) → same_prefix q q ≡ true
-same_prefix_itself q = and_from (q.base == q.base) (q.len == q.len) (eq-eqb q.base q.base refl) (eq-eqb q.len q.len refl)
+pub prefixes_same : IsSame same_prefix
+prefixes_same p q =
+    (same_prefix_is p q, λ e. and_from (p.base == q.base) (p.len == q.len) (eq-eqb p.base q.base (ap (λ (p : Cidr). p.base) e)) (eq-eqb p.len q.len (ap (λ (p : Cidr). p.len) e)))
 
 neighbors_kept : (ps : List (Keyed Addr (Stated NeighborSays))) → fold put_neighbor [] ps ≡ things same_addr neighbor_in ps
-neighbors_kept ps = kept_is_things same_addr same_addr_is same_addr_itself no_neighbor neighbor_step neighbor_in neighbor_by_steps ps
+neighbors_kept ps = kept_is_things (equiv_of addrs_same) no_neighbor neighbor_step neighbor_in neighbor_by_steps ps
 
 prefixes_kept : (ps : List (Keyed Cidr (Stated Bool))) → fold put_prefix [] ps ≡ things same_prefix prefix_in ps
-prefixes_kept ps = kept_is_things same_prefix same_prefix_is same_prefix_itself no_prefix prefix_step prefix_in prefix_by_steps ps
+prefixes_kept ps = kept_is_things (equiv_of prefixes_same) no_prefix prefix_step prefix_in prefix_by_steps ps
 
 -- ---- the process
 

@@ -2,7 +2,6 @@ pub mod Prefixes
 pub mod Statements
 pub mod Readings
 pub mod Firsts
-pub mod Groups
 pub mod Kept
 pub mod Neighbors
 pub mod Processes

@@ -1,16 +1,7 @@
--- The prefixes that the statements of a BGP process write.
+-- The prefix that an address of a class has.
 use Rattle.std.specs.Prelude.{ℕ, ◌/◌, ◌^◌, ◌&&◌, ◌==◌, nat_le, List, Option, Some, None, option_and_then, if◌then◌else◌}
 use Rattle.nc_types.specs.Cidr.{Cidr}
-use Rattle.nc_types.specs.Masks.{mask_len_of, network_of}
-use Rattle.nc_lines.specs.Numbers.{address_of}
-
--- the prefix of an address and a length, where no host bit is set
-abbrev pub whole_prefix : ℕ → ℕ → Option Cidr
-whole_prefix addr len = if network_of addr len == addr then Some (record { base = addr; len = len }) else None
-
--- the prefix of an address and a mask of ones followed by zeros
-abbrev pub masked_prefix : List ℕ → List ℕ → Option Cidr
-masked_prefix address mask = option_and_then (λ a. option_and_then (λ m. option_and_then (λ len. whole_prefix a len) (mask_len_of m)) (address_of mask)) (address_of address)
+use Rattle.nc_lines.specs.Numbers.{address_of, whole_prefix}
 
 -- the length that an address of a class has, by its first octet
 abbrev pub octet_len : ℕ → Option ℕ

@@ -12,7 +12,7 @@ use Rattle.nc_types.specs.declared.config.Neighbor.{Neighbor}
 use Rattle.nc_types.specs.declared.config.NetworkStatement.{NetworkStatement}
 use Rattle.nc_types.specs.declared.config.AggregateStatement.{AggregateStatement}
 use Rattle.nc_lines.specs.Parts.{Numbered, Stated, first_of, fault_in, statements_in}
-use Rattle.nc_read_bgp.specs.Groups.{Keyed, things}
+use Rattle.nc_lines.specs.Groups.{Keyed, groups}
 use Rattle.nc_read_bgp.specs.Neighbors.{NeighborFields, neighbor_in}
 use Rattle.nc_read_bgp.specs.Statements.{NeighborSays, ProcessSays, Opens, RouterId, MaxPaths, Relax, Originates, Aggregates, Of, line_says}
 
@@ -61,6 +61,10 @@ aggregate_by line (Aggregates p summary_only) = Some (record { key = p; value = 
 aggregate_by line s = None
 
 -- ---- what statements make
+
+-- each key, in order of first mention, with what its own values make
+abbrev pub things : {K V T : Type 0} → (K → K → Bool) → (List V → T) → List (Keyed K V) → List (K × T)
+things same make ps = map (λ g. (g.key, make g.values)) (groups same ps)
 
 -- a network or an aggregate: whether its last statement has `summary-only`, and the lines of its statements
 pub record PrefixFields : Type 0 where

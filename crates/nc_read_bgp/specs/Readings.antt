@@ -1,12 +1,12 @@
 -- What a line says, as the code hands it on.
-use Rattle.nc_lines.specs.Statements.{Reading}
+use Rattle.nc_lines.specs.Statements.{Reading, said_as}
 use Rattle.nc_lines.specs.Readings.{reading_of}
 use Rattle.nc_lines.specs.declared.statement.Reading.{Reading as Read}
 use Rattle.nc_read_bgp.specs.declared.statement.NeighborStatement.{NeighborStatement}
 use Rattle.nc_read_bgp.specs.declared.statement.NeighborStatement.TheVariants as ofs
 use Rattle.nc_read_bgp.specs.declared.statement.BgpStatement.{BgpStatement}
 use Rattle.nc_read_bgp.specs.declared.statement.BgpStatement.TheVariants as statements
-use Rattle.nc_read_bgp.specs.Statements.{NeighborSays, RemoteAs, Source, Multihop, SelfHop, MapIn, MapOut, SendsCommunities, Shuts, Activates, ProcessSays, Opens, RouterId, MaxPaths, Relax, Agrees, Originates, Aggregates, Of, said_as}
+use Rattle.nc_read_bgp.specs.Statements.{NeighborSays, RemoteAs, Source, Multihop, SelfHop, MapIn, MapOut, SendsCommunities, Shuts, Activates, ProcessSays, Opens, RouterId, MaxPaths, Relax, Agrees, Originates, Aggregates, Of}
 
 -- what is said of a neighbor: names as they are written
 abbrev pub neighbor_view : NeighborStatement → NeighborSays

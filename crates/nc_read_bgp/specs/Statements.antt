@@ -7,10 +7,10 @@ use Rattle.nc_types.specs.Cidr.{Cidr}
 use Rattle.nc_types.specs.declared.TheConstants.{MULTIPATH_LIMIT}
 use Rattle.nc_types.specs.declared.fault.Cause.TheVariants.{Syntax, Unsupported}
 use Rattle.nc_lines.specs.Lines.{words_of, is_indented}
-use Rattle.nc_lines.specs.Numbers.{number_of, address_of}
+use Rattle.nc_lines.specs.Numbers.{number_of, address_of, masked_prefix}
 use Rattle.nc_lines.specs.Parts.{Numbered}
-use Rattle.nc_lines.specs.Statements.{Reading, Outside, Faulty, Says, after, alone_says}
-use Rattle.nc_read_bgp.specs.Prefixes.{masked_prefix, class_prefix}
+use Rattle.nc_lines.specs.Statements.{Reading, Outside, Faulty, Says, after, alone_says, or_syntax, said_as}
+use Rattle.nc_read_bgp.specs.Prefixes.{class_prefix}
 
 -- what a statement says of a neighbor
 pub data NeighborSays : Type 0 where
@@ -54,11 +54,6 @@ only_positive most words = None
 -- the number of an autonomous system, alone
 abbrev pub only_asn : List (List ℕ) → Option ℕ
 only_asn words = only_positive (2 ^ 32 - 1) words
-
--- what is said in its form, or else a fault of syntax
-abbrev pub or_syntax : {S : Type 0} → Option S → Reading S
-or_syntax None = Faulty Syntax
-or_syntax (Some s) = Says s
 
 -- what is said in its form, or else isn't supported
 abbrev pub or_unsupported : {S : Type 0} → Option S → Reading S
@@ -202,12 +197,6 @@ neighbor_says words =
     (option_map_or (alone_says Activates) (after (codes "activate" ∷ []) words)
     (option_map_or communities_say (after (codes "send-community" ∷ []) words)
     (if begins_any unsupported_filters words || begins_any unsupported_sessions words then Faulty Unsupported else Outside))))))))
-
--- something that is said, as something else
-abbrev pub said_as : {S T : Type 0} → (S → T) → Reading S → Reading T
-said_as f Outside = Outside
-said_as f (Faulty cause) = Faulty cause
-said_as f (Says s) = Says (f s)
 
 -- what is behind `neighbor`: an address; no other name of a neighbor is supported
 abbrev pub any_neighbor_says : List (List ℕ) → Reading ProcessSays

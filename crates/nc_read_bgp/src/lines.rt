@@ -3,8 +3,8 @@
 ghost use Rattle.std.specs.Prelude.{◌≡◌, ◌∷◌, codes};
 ghost use Rattle.std.specs.List.{list_any};
 ghost use Rattle.nc_lines.specs.Lines.{words_of};
-ghost use Rattle.nc_lines.specs.Statements.{alone_says};
-ghost use Rattle.nc_read_bgp.specs.Statements.{Opens, Agrees, said_as, header_says};
+ghost use Rattle.nc_lines.specs.Statements.{alone_says, said_as};
+ghost use Rattle.nc_read_bgp.specs.Statements.{Opens, Agrees, header_says};
 ghost use Rattle.nc_read_bgp.specs.Statements.{statement_says, text_says};
 ghost use Rattle.nc_read_bgp.specs.Statements.{is_aggregate_option, is_inactive};
 ghost use Rattle.nc_read_bgp.specs.Statements.{originates, summary_says};
@@ -14,10 +14,10 @@ use crate::first::{First, is_unsupported_of_bgp, read_first};
 use crate::header::read_process_header;
 use crate::neighbor::read_neighbor_statement;
 use crate::numbers::only_positive;
-use crate::prefixes::{class_prefix, masked_prefix};
+use crate::prefixes::class_prefix;
 use crate::statement::BgpStatement;
 use nc_lines::cut::{cut_word, is_indented};
-use nc_lines::numbers::read_address;
+use nc_lines::numbers::{read_address, read_masked_prefix};
 use nc_lines::statement::{Reading, after_one, begins_one, is_word};
 use nc_types::{Cause, MULTIPATH_LIMIT, Prefix};
 
@@ -166,7 +166,7 @@ fn behind_network(rest: &[u8]) -> Reading<BgpStatement<'_>>
     };
     match cut_word(behind) {
         None => Reading::Faulty(Cause::Syntax),
-        Some((mask, rest)) => originates(masked_prefix(address, mask), rest),
+        Some((mask, rest)) => originates(read_masked_prefix(address, mask), rest),
     }
 }
 
@@ -220,7 +220,7 @@ fn behind_aggregate(rest: &[u8]) -> Reading<BgpStatement<'_>>
     let Some((mask, rest)) = cut_word(rest) else {
         return Reading::Faulty(Cause::Syntax);
     };
-    let Some(prefix) = masked_prefix(address, mask) else {
+    let Some(prefix) = read_masked_prefix(address, mask) else {
         return Reading::Faulty(Cause::Syntax);
     };
     if has_aggregate_option(rest) {

@@ -3,23 +3,19 @@ use Rattle.std.specs.Prelude.{ℕ, Bool, true, false, not, ◌&&◌, ◌||◌, �
 use Rattle.std.specs.List.{filter_map, last_or}
 use Rattle.std.specs.Option.{option_map, option_map_or}
 use Rattle.std.specs.Str.{bytes_eq}
-use Rattle.nc_types.specs.Masks.{mask_len_of, network_of}
+use Rattle.nc_types.specs.Masks.{network_of}
 use Rattle.nc_types.specs.declared.fault.Fault.{Fault}
 use Rattle.nc_types.specs.declared.config.IfaceAddr.{IfaceAddr}
 use Rattle.nc_types.specs.declared.config.Interface.{Interface}
 use Rattle.nc_types.specs.declared.fault.Cause.TheVariants.{Syntax, Unsupported}
 use Rattle.nc_lines.specs.Lines.{words_of, is_indented}
-use Rattle.nc_lines.specs.Numbers.{address_of}
+use Rattle.nc_lines.specs.Numbers.{masked_of}
 use Rattle.nc_lines.specs.Statements.{Reading, Outside, Faulty, Says, after, begins, alone_says, said_of}
 use Rattle.nc_lines.specs.Parts.{Numbered, Stated, fault_in, statements_in}
 use Rattle.nc_read_link.specs.declared.setting.Setting.{Setting}
 use Rattle.nc_read_link.specs.declared.setting.Setting.TheVariants.{Address, NoAddress, Shut}
 
 -- ---- addresses
-
--- an address and a mask of ones followed by zeros, with the mask's length
-abbrev pub masked_of : List ℕ → List ℕ → Option (ℕ × ℕ)
-masked_of address mask = option_and_then (λ a. option_and_then (λ m. option_map (λ len. (a, len)) (mask_len_of m)) (address_of mask)) (address_of address)
 
 -- an interface's address: its mask isn't that of length 0
 abbrev pub iface_addr_of : List ℕ → List ℕ → Option IfaceAddr

@@ -1,9 +1,8 @@
 -- What an `ip route` statement says.
-use Rattle.std.specs.Prelude.{ℕ, Bool, true, false, ◌&&◌, ◌||◌, ◌==◌, List, [], ◌∷◌, Option, Some, None, Result, Ok, Err, unwrap_or, option_and_then, if◌then◌else◌, codes}
+use Rattle.std.specs.Prelude.{ℕ, Bool, true, false, ◌&&◌, ◌||◌, ◌==◌, List, [], ◌∷◌, Option, Some, None, Result, Ok, Err, unwrap_or, if◌then◌else◌, codes}
 use Rattle.std.specs.Option.{option_map, option_map_or, option_or}
 use Rattle.std.specs.Str.{bytes_eq}
 use Rattle.nc_types.specs.declared.TheConstants.{UNUSED_DISTANCE}
-use Rattle.nc_types.specs.Masks.{network_of}
 use Rattle.nc_types.specs.Cidr.{Cidr}
 use Rattle.nc_types.specs.declared.fault.Fault.{Fault}
 use Rattle.nc_types.specs.declared.config.Via.{Via}
@@ -12,11 +11,10 @@ use Rattle.nc_types.specs.declared.config.StaticRoute.{StaticRoute}
 use Rattle.nc_types.specs.declared.fault.Cause.{Cause}
 use Rattle.nc_types.specs.declared.fault.Cause.TheVariants.{Syntax, Unsupported}
 use Rattle.nc_lines.specs.Lines.{words_of}
-use Rattle.nc_lines.specs.Numbers.{is_plain, number_of, address_of}
+use Rattle.nc_lines.specs.Numbers.{is_plain, number_of, address_of, masked_prefix}
 use Rattle.nc_lines.specs.Statements.{after}
 use Rattle.nc_lines.specs.Outcomes.{at_line}
 use Rattle.nc_read_link.specs.declared.TheConstants.{DEFAULT_DISTANCE}
-use Rattle.nc_read_link.specs.Interfaces.{masked_of}
 
 -- ---- options
 
@@ -89,18 +87,13 @@ alone_says (word ∷ words) = Err Unsupported
 abbrev pub target_says : ℕ → Cidr → List (List ℕ) → Result StaticRoute Cause
 target_says line prefix words = option_map_or (λ v. options_say prefix v.0 v.1) (via_of line words) (alone_says words)
 
--- an address without host bits for its mask
-abbrev pub network_in : List ℕ → List ℕ → Option Cidr
-network_in address mask =
-    option_and_then (λ p. if network_of p.0 p.1 == p.0 then Some (record { base = p.0; len = p.1 }) else None) (masked_of address mask)
-
 -- what is behind `ip route`; the line is that of the statement
 unfoldable pub route_says : ℕ → List (List ℕ) → Result StaticRoute Cause
 route_says line [] = Err Syntax
 route_says line (address ∷ []) = if bytes_eq address (codes "vrf") then Err Unsupported else Err Syntax
 route_says line (address ∷ mask ∷ words) =
     if bytes_eq address (codes "vrf") then Err Unsupported
-    else option_map_or (λ prefix. target_says line prefix words) (network_in address mask) (Err Syntax)
+    else option_map_or (λ prefix. target_says line prefix words) (masked_prefix address mask) (Err Syntax)
 
 -- the static route of a line
 abbrev pub static_at : ℕ → List ℕ → Result StaticRoute Fault

@@ -6,8 +6,9 @@ ghost use Rattle.nc_lines.specs.Readings.{reading_of};
 ghost use Rattle.nc_read_link.specs.Interfaces.{setting_says};
 
 use crate::first::{First, read_first};
-use crate::masks::{iface_addr, masked};
+use crate::masks::iface_addr;
 use nc_lines::cut::cut_word;
+use nc_lines::numbers::read_masked;
 use nc_lines::statement::{Reading, after_one, alone, begins_one, is_word};
 use nc_types::{Cause, IfaceAddr};
 
@@ -37,7 +38,7 @@ fn behind_address(rest: &[u8]) -> Reading<Setting>
         return Reading::Faulty(Cause::Syntax);
     };
     if let Some((word, _)) = cut_word(rest) {
-        if is_word(word, "secondary") && masked(address, mask).is_some() {
+        if is_word(word, "secondary") && read_masked(address, mask).is_some() {
             return Reading::Faulty(Cause::Unsupported);
         }
         return Reading::Faulty(Cause::Syntax);

@@ -3,25 +3,17 @@
 ghost use Rattle.std.specs.Prelude.{◌≡◌, ◌<◌, ◌≤◌, length};
 ghost use Rattle.nc_lines.specs.Lines.{words_of, line_at};
 ghost use Rattle.nc_lines.specs.Outcomes.{at_line};
-ghost use Rattle.nc_read_link.specs.Statics.{network_in, options_say, alone_says, target_says, route_says, static_at};
+ghost use Rattle.nc_read_link.specs.Statics.{options_say, alone_says, target_says, route_says, static_at};
 ghost use Rattle.nc_read_link.specs.Outcomes.{IsStatic};
 
-use crate::masks::masked;
 use crate::next_hop::next_hop;
 use crate::options::{are_options, distance, is_conditional};
 use nc_lines::Lines;
 use nc_lines::cut::cut_word;
+use nc_lines::numbers::read_masked_prefix;
 use nc_lines::statement::{after_two, is_word};
 use nc_types::{Cause, ConfigFault, Prefix, StaticRoute, Via};
 use std::alloc::Global;
-
-// An address without host bits for its mask.
-fn network(address: &[u8], mask: &[u8]) -> Option<Prefix>
-    ensures { result ≡ network_in address.now mask.now }
-{
-    let (addr, len) = masked(address, mask)?;
-    Prefix::new(addr, len)
-}
 
 // What is behind a next hop: its options.
 fn options(prefix: Prefix, via: Via, text: &[u8]) -> Result<StaticRoute, Cause>
@@ -86,7 +78,7 @@ fn route(alloc: Global, line: u32, text: &[u8]) -> Result<StaticRoute, ConfigFau
     let Some((mask, rest)) = cut_word(rest) else {
         return told(line, Err(Cause::Syntax));
     };
-    match network(address, mask) {
+    match read_masked_prefix(address, mask) {
         None => told(line, Err(Cause::Syntax)),
         Some(prefix) => target(alloc, line, prefix, rest),
     }

@@ -12,7 +12,7 @@ use Rattle.nc_types.specs.declared.config.OriginCode.{OriginCode}
 use Rattle.nc_types.specs.declared.config.OriginCode.TheVariants.{Igp, Incomplete}
 use Rattle.nc_lines.specs.Lines.{words_of, is_indented}
 use Rattle.nc_lines.specs.Numbers.{number_of}
-use Rattle.nc_lines.specs.Statements.{Reading, Outside, Faulty, Says, after, begins, alone_says, said_of}
+use Rattle.nc_lines.specs.Statements.{Reading, Outside, Faulty, Says, after, begins, alone_says, or_syntax, said_as, said_of}
 use Rattle.nc_lines.specs.Parts.{Numbered, Stated, first_of, fault_in, statements_in}
 use Rattle.nc_read_policy.specs.declared.TheConstants.{PREPEND_LIMIT}
 use Rattle.nc_read_policy.specs.Communities.{members_in, behind_communities}
@@ -34,11 +34,6 @@ abbrev pub header_of : List (List ℕ) → Option Header
 header_of (name ∷ action ∷ number ∷ []) =
     option_and_then (λ permit. option_map (λ n. record { map_name = name; number = n; permit = permit }) (number_of 65535 number)) (action_of action)
 header_of words = None
-
--- what is said in its form, or else a fault of syntax
-abbrev pub or_syntax : {S : Type 0} → Option S → Reading S
-or_syntax (Some s) = Says s
-or_syntax None = Faulty Syntax
 
 -- what the words of a header say
 abbrev pub header_says : List (List ℕ) → Reading Header
@@ -116,12 +111,6 @@ statement_says words =
     (option_map_or community_lists_say (after (codes "match" ∷ codes "community" ∷ []) words)
     (option_map_or communities_say (after (codes "set" ∷ codes "community" ∷ []) words)
     (if is_unsupported words then Faulty Unsupported else Outside))))))))
-
--- something that is said, as something else
-abbrev pub said_as : {S T : Type 0} → (S → T) → Reading S → Reading T
-said_as f Outside = Outside
-said_as f (Faulty cause) = Faulty cause
-said_as f (Says s) = Says (f s)
 
 -- what a line says: an unindented one may be a header
 abbrev pub text_says : List ℕ → Reading ClauseStatement

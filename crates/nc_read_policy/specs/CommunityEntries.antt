@@ -9,9 +9,9 @@ use Rattle.nc_types.specs.declared.fault.Cause.TheVariants.{Syntax, Unsupported}
 use Rattle.nc_lines.specs.Lines.{words_of}
 use Rattle.nc_lines.specs.Numbers.{number_of}
 use Rattle.nc_lines.specs.Outcomes.{at_line}
-use Rattle.nc_lines.specs.Statements.{Reading, Outside, Faulty, Says, after}
+use Rattle.nc_lines.specs.Statements.{Reading, Outside, Faulty, Says, after, said_as}
 use Rattle.nc_read_policy.specs.Results.{on_ok, ok_map}
-use Rattle.nc_read_policy.specs.Clauses.{action_of, said_as}
+use Rattle.nc_read_policy.specs.Clauses.{action_of}
 use Rattle.nc_read_policy.specs.Communities.{members_in, behind_communities}
 
 -- ---- names

@@ -1,13 +1,13 @@
 -- What a header and a statement say, as the code hands them on.
 use Rattle.std.specs.List.{filter_map}
 use Rattle.nc_lines.specs.Lines.{words_of}
-use Rattle.nc_lines.specs.Statements.{Reading}
+use Rattle.nc_lines.specs.Statements.{Reading, said_as}
 use Rattle.nc_lines.specs.Readings.{reading_of}
 use Rattle.nc_lines.specs.declared.statement.Reading.{Reading as Read}
 use Rattle.nc_read_policy.specs.declared.header.ClauseHeader.{ClauseHeader}
 use Rattle.nc_read_policy.specs.declared.setting.Setting.{Setting}
 use Rattle.nc_read_policy.specs.declared.setting.Setting.TheVariants as sets
-use Rattle.nc_read_policy.specs.Clauses.{Header, ClauseStatement, Opens, Matches, MatchesCommunities, SetsPreference, SetsMetric, Prepends, SetsOrigin, SetsCommunities, asn_of, said_as}
+use Rattle.nc_read_policy.specs.Clauses.{Header, ClauseStatement, Opens, Matches, MatchesCommunities, SetsPreference, SetsMetric, Prepends, SetsOrigin, SetsCommunities, asn_of}
 
 -- a header, with its map's name
 abbrev pub header_view : ClauseHeader → Header

@@ -8,7 +8,7 @@ ghost use Rattle.nc_read_policy.specs.CommunityEntries.{community_name_says, ent
 ghost use Rattle.nc_read_policy.specs.CommunityEntries.{community_entry_of, named_line};
 ghost use Rattle.nc_read_policy.specs.CommunityEntries.{community_entry_at};
 ghost use Rattle.nc_read_policy.specs.Results.{ok_map};
-ghost use Rattle.nc_read_policy.specs.Clauses.{said_as};
+ghost use Rattle.nc_lines.specs.Statements.{said_as};
 ghost use Rattle.nc_read_policy.specs.Communities.{members_in, behind_communities};
 ghost use Rattle.nc_read_policy.specs.Outcomes.{IsCommunityEntry, IsEntryOf};
 

@@ -6,7 +6,7 @@ ghost use Rattle.nc_lines.specs.Lines.{words_of};
 ghost use Rattle.nc_lines.specs.Parts.{numbered};
 ghost use Rattle.nc_read_policy.specs.Lists.{list_name_says, list_in, higher, statement_at};
 ghost use Rattle.nc_read_policy.specs.Lists.{stated_from};
-ghost use Rattle.nc_read_policy.specs.Clauses.{said_as};
+ghost use Rattle.nc_lines.specs.Statements.{said_as};
 ghost use Rattle.nc_read_policy.specs.Heads.{IsHead};
 ghost use Rattle.nc_read_policy.specs.Outcomes.{IsStatement, AreStatements, AreEntries};
 

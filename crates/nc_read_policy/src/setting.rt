@@ -5,12 +5,12 @@ ghost use Rattle.std.specs.List.{list_any};
 ghost use Rattle.std.specs.Option.{option_map};
 ghost use Rattle.std.specs.Str.{bytes_eq};
 ghost use Rattle.nc_lines.specs.Lines.{words_of, is_indented};
-ghost use Rattle.nc_lines.specs.Statements.{after, alone_says};
+ghost use Rattle.nc_lines.specs.Statements.{after, alone_says, or_syntax, said_as};
 ghost use Rattle.nc_read_policy.specs.Clauses.{SetsPreference, SetsMetric, SetsOrigin, Opens};
 ghost use Rattle.nc_read_policy.specs.Clauses.{community_lists_say, sets_say, communities_say};
-ghost use Rattle.nc_read_policy.specs.Clauses.{or_syntax, lists_say, value_of, prepend_says};
+ghost use Rattle.nc_read_policy.specs.Clauses.{lists_say, value_of, prepend_says};
 ghost use Rattle.nc_read_policy.specs.Clauses.{header_says, is_unsupported, statement_says};
-ghost use Rattle.nc_read_policy.specs.Clauses.{said_as, text_says};
+ghost use Rattle.nc_read_policy.specs.Clauses.{text_says};
 ghost use Rattle.nc_read_policy.specs.Readings.{statement_reading};
 
 use crate::communities::members;

@@ -13,11 +13,12 @@ use Rattle.nc_types.specs.declared.config.IfaceAddr.{IfaceAddr}
 use Rattle.nc_types.specs.declared.fault.Cause.TheVariants.{Syntax, Unsupported}
 use Rattle.nc_lines.specs.Lines.{words_of, is_indented}
 use Rattle.nc_lines.specs.Statements.{Reading, Outside, Faulty, Says, after, said_of, alone_says}
+use Rattle.nc_lines.specs.Numbers.{masked_of}
 use Rattle.nc_lines.specs.Parts.{Numbered}
 use Rattle.nc_read_link.specs.declared.setting.Setting.{Setting}
 use Rattle.nc_read_link.specs.declared.setting.Setting.TheVariants.{Address, NoAddress, Shut}
-use Rattle.nc_read_link.specs.Interfaces.{InterfaceStatement as Stated, masked_of, is_unsupported, address_says, read_says, setting_says, line_says, interface_statements as statements_in, address_by, address_in}
-use Rattle.nc_reader.proofs.Members.{Has}
+use Rattle.nc_read_link.specs.Interfaces.{InterfaceStatement as Stated, is_unsupported, address_says, read_says, setting_says, line_says, interface_statements as statements_in, address_by, address_in}
+use Rattle.nc_lines.proofs.Pairs.{Has}
 
 abbrev pub IsCovered : IfaceAddr → Type 0
 IsCovered a = Covers a.prefix a.addr.0

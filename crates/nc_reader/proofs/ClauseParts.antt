@@ -9,9 +9,9 @@ use Rattle.nc_types.specs.declared.config.Kind.TheVariants as kinds
 use Rattle.nc_types.specs.declared.fault.Fault.{Fault}
 use Rattle.nc_types.specs.declared.fault.Cause.TheVariants.{Syntax, Unsupported}
 use Rattle.nc_lines.specs.Lines.{words_of, line_at}
-use Rattle.nc_lines.specs.Statements.{Reading, Outside, Faulty, Says, after, said_of}
+use Rattle.nc_lines.specs.Statements.{Reading, Outside, Faulty, Says, after, said_as, said_of}
 use Rattle.nc_lines.specs.Parts.{Numbered, numbered, fault_in, statements_in}
-use Rattle.nc_read_policy.specs.Clauses.{Header, ClauseStatement, Opens, ClauseLine, ClausePart, header_says, said_as, statement_says, line_says, head_by, clause_of, name_in, number_in, clause_in}
+use Rattle.nc_read_policy.specs.Clauses.{Header, ClauseStatement, Opens, ClauseLine, ClausePart, header_says, statement_says, line_says, head_by, clause_of, name_in, number_in, clause_in}
 use Rattle.nc_read_policy.specs.Lists.{list_name_says}
 use Rattle.nc_read_policy.specs.CommunityEntries.{community_name_says}
 use Rattle.nc_reader.specs.declared.topic.Topic.TheVariants as topics

@@ -9,7 +9,7 @@ use Rattle.nc_lines.specs.Lines.{line_at}
 use Rattle.nc_read_policy.specs.Results.{ok_map}
 use Rattle.nc_read_policy.specs.CommunityEntries.{community_entry_at}
 use Rattle.nc_reader.specs.Things.{CommunityPart, community_part, communities_in, ok_of, element_at}
-use Rattle.nc_reader.proofs.Members.{Has, pairs_weaker, Ascends, ascends_kept, ascends_within, ascends_pairs, kept_map}
+use Rattle.nc_lines.proofs.Pairs.{Has, pairs_weaker, Ascends, ascends_kept, ascends_within, ascends_pairs, kept_map}
 use Rattle.nc_reader.proofs.PieceLemmas.{LinesAscend, IsWhole, Apart, AreElements, elements_of}
 use Rattle.nc_reader.proofs.ReadLemmas.{all_read_is, some_read}
 

@@ -10,7 +10,7 @@ use Rattle.nc_types.specs.declared.fault.Cause.TheVariants.{NoName}
 use Rattle.nc_lines.specs.declared.block.Block.{Block}
 use Rattle.nc_reader.specs.declared.topic.Topic.{Topic}
 use Rattle.nc_reader.specs.Arranging.{Things, things_of}
-use Rattle.nc_reader.specs.Groups.{Group}
+use Rattle.nc_lines.specs.Groups.{Group}
 use Rattle.nc_reader.specs.Roles.{roles_from}
 use Rattle.nc_reader.specs.Configuration.{name_of, faults_of, parts_of, pieces_of, in_order, place_of, config_of, configuration}
 use Rattle.nc_reader.specs.Parts.{parts_by}

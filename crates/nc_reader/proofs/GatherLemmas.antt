@@ -11,14 +11,14 @@ use Rattle.nc_lines.specs.declared.block.Block.{Block}
 use Rattle.nc_reader.specs.Roles.{Role, Passed, Wrong, Names, Within, Placed, block_of, role_of, roles_from}
 use Rattle.nc_reader.specs.declared.topic.Topic.{Topic}
 use Rattle.nc_reader.specs.Topics.{same_topic, has_block}
-use Rattle.nc_reader.specs.Groups.{Group, of_key, groups, with_key}
+use Rattle.nc_lines.specs.Groups.{Group, of_key, groups, with_key}
 use Rattle.nc_reader.specs.Configuration.{spoken}
 use Rattle.nc_reader.specs.Gathering.{IsLine, Gathers, sketch}
 use Rattle.nc_reader.specs.Readings.{lines_in}
 use Rattle.nc_reader.specs.Steps.{Kind, Banner, Idle, Member, Heads, kind_of, Sketch, IsSteady, blank, with_value, put_at, joined, stepped}
 use Rattle.nc_reader.specs.declared.gather.Draft.{Draft}
 use Rattle.nc_reader.specs.declared.gather.Gathered.{Gathered}
-use Rattle.nc_reader.proofs.GroupLemmas.{keys_of, place_known, place_with_key, known-with_key}
+use Rattle.nc_lines.proofs.GroupLemmas.{keys_of, place_known, place_with_key, known-with_key}
 use Rattle.nc_reader.proofs.KindLemmas.{role_by, open_by, block_by, role_is, open_is, block_is}
 use Rattle.nc_reader.proofs.SeenLemmas.{Sees, IsBlock, sees_more}
 use Rattle.nc_reader.proofs.TopicLemmas.{same_topic_equiv}

@@ -1,6 +1,4 @@
-pub mod Members
 pub mod GroupLemmas
-pub mod Grouping
 pub mod TopicLemmas
 pub mod PieceLemmas
 pub mod LineOrder

@@ -7,12 +7,12 @@ use Rattle.nc_types.specs.declared.fault.Cause.TheVariants.{Syntax}
 use Rattle.nc_lines.specs.Lines.{words_of, is_indented, line_at}
 use Rattle.nc_lines.specs.Blocks.{is_idle, begins_banner, has_mark, is_open, is_passed, header_of}
 use Rattle.nc_reader.specs.declared.topic.Topic.{Topic}
-use Rattle.nc_reader.specs.Groups.{Keyed, of_key}
+use Rattle.nc_lines.specs.Groups.{Keyed, of_key}
 use Rattle.nc_reader.specs.Roles.{Role, Passed, Wrong, Names, Within, Placed, header_role, opened_by, block_of, member_role, role_of, roles_from}
 use Rattle.nc_reader.specs.Topics.{same_topic, has_block}
 use Rattle.nc_reader.specs.Configuration.{spoken_at, spoken}
-use Rattle.nc_reader.proofs.Members.{Ascends, ascends_kept}
-use Rattle.nc_reader.proofs.GroupLemmas.{passed_by, taken}
+use Rattle.nc_lines.proofs.Pairs.{Ascends, ascends_kept}
+use Rattle.nc_lines.proofs.GroupLemmas.{passed_by, taken}
 use Rattle.nc_reader.proofs.TopicLemmas.{topics_same}
 
 -- ---- numbers

@@ -11,7 +11,7 @@ use Rattle.nc_read_policy.specs.Lists.{EntryPart, stated_from, parts_of, list_in
 use Rattle.nc_read_policy.proofs.EntryLaws.{ascend, filled}
 use Rattle.nc_read_policy.proofs.LineLaws.{stated_lines, whole, apart}
 use Rattle.nc_reader.specs.Things.{element_at}
-use Rattle.nc_reader.proofs.Members.{Has, pairs_all, pairs_weaker, ascends_within, ascends_from, increasing}
+use Rattle.nc_lines.proofs.Pairs.{Has, pairs_all, pairs_weaker, ascends_within, ascends_from, increasing}
 use Rattle.nc_reader.proofs.PieceLemmas.{LinesAscend, IsWhole, Apart, AreElements, elements_of, ok_mapped, numbers_of}
 
 module _ (lines : List (List ℕ)) (ks : List ℕ) (ps : List EntryPart) (made : list_in (numbered lines ks) ≡ Ok ps) where

@@ -8,7 +8,7 @@ use Rattle.nc_lines.specs.Lines.{line_at}
 use Rattle.nc_lines.specs.Parts.{Numbered, numbered}
 use Rattle.nc_read_policy.specs.Results.{ok_map}
 use Rattle.nc_reader.specs.Things.{element_at}
-use Rattle.nc_reader.proofs.Members.{Has, Pairs, pairs_map, Ascends, ascends_filter}
+use Rattle.nc_lines.proofs.Pairs.{Has, Pairs, pairs_map, Ascends, ascends_filter}
 
 -- no line stands in both
 abbrev pub Apart : List ℕ → List ℕ → Type 0

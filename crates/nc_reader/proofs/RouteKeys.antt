@@ -6,7 +6,7 @@ use Rattle.std.specs.Str.{bytes_eq}
 use Rattle.std.proofs.lemmas.Bool.{and_parts, and_from, eqb-true, eq-eqb}
 use Rattle.std.proofs.lemmas.Slice.Eq.{bytes_eq-Decides}
 use Rattle.nc_reader.specs.Things.{RouteKeyView, same_key}
-use Rattle.nc_reader.proofs.Grouping.{IsSame, equiv_of}
+use Rattle.nc_lines.proofs.Grouping.{IsSame, equiv_of}
 
 same_options : {T : Type 0} (same : T → T → Bool) → IsSame same → IsSame (option_eq same)
 same_options same is None None = ((λ e. refl), (λ e. refl))

@@ -7,13 +7,12 @@ use Rattle.nc_types.specs.Cidr.{Cidr}
 use Rattle.nc_types.specs.declared.addr.Addr.{Addr}
 use Rattle.nc_reader.specs.declared.routes.RouteKey.{RouteKey}
 use Rattle.nc_reader.specs.contracts.routes.RouteKeyPartialEq.TheImpl.{eq-value}
-use Rattle.nc_reader.specs.Groups.{Keyed, Group, with_key, keys_from, groups}
+use Rattle.nc_lines.specs.Groups.{Keyed, Group, with_key, keys_from, groups, changed_at}
 use Rattle.nc_reader.specs.Things.{Routed, RoutePart, RouteKeyView, key_of, same_key, route_part, statics_of}
 use Rattle.nc_reader.specs.Parts.{key_view, keyed, with_statement}
-use Rattle.nc_reader.specs.Steps.{changed_at}
 use Rattle.nc_reader.proofs.PushLemmas.{last_or-push}
 use Rattle.nc_reader.proofs.RouteKeys.{same_key_equiv}
-use Rattle.nc_reader.proofs.GroupLemmas.{groups-new, groups-known, keys_of, keys_of-push, with_key-known, with_key-new, grown, map-changed_at}
+use Rattle.nc_lines.proofs.GroupLemmas.{groups-new, groups-known, keys_of, keys_of-push, with_key-known, with_key-new, grown, map-changed_at}
 
 -- ---- keys
 

@@ -11,10 +11,10 @@ use Rattle.nc_types.specs.declared.config.StaticRoute.{StaticRoute}
 use Rattle.nc_lines.specs.Lines.{line_at}
 use Rattle.nc_read_link.specs.Statics.{static_at}
 use Rattle.nc_read_policy.specs.Results.{ok_map}
-use Rattle.nc_reader.specs.Groups.{Keyed, Group, groups}
+use Rattle.nc_lines.specs.Groups.{Keyed, Group, groups}
 use Rattle.nc_reader.specs.Things.{Routed, RoutePart, RouteKeyView, routed, routes_in, key_of, same_key, route_part, statics_of, ok_of, all_read, element_at}
-use Rattle.nc_reader.proofs.Members.{Has, Pairs, pairs_kept, Ascends, ascends_map, ascends_kept, kept_map}
-use Rattle.nc_reader.proofs.Grouping.{grouped, groups_keys, group_ascends, has_grouped, groups_apart}
+use Rattle.nc_lines.proofs.Pairs.{Has, Pairs, pairs_kept, Ascends, ascends_map, ascends_kept, kept_map}
+use Rattle.nc_lines.proofs.Grouping.{grouped, groups_keys, group_ascends, has_grouped, groups_apart}
 use Rattle.nc_reader.proofs.PieceLemmas.{LinesAscend, IsWhole, Apart, AreElements, elements_of, ok_mapped}
 use Rattle.nc_reader.proofs.ReadLemmas.{all_read_is}
 use Rattle.nc_reader.proofs.RouteKeys.{keys_same}

@@ -16,7 +16,7 @@ use Rattle.nc_reader.specs.declared.topic.Topic.{Topic}
 use Rattle.nc_reader.specs.declared.topic.Topic.TheVariants as topics
 use Rattle.nc_reader.specs.Roles.{Role, Passed, Wrong, Names, Within, Placed, hostname_role, interface_role, said_role, is_unsupported, read_role, block_of, member_role, role_of, roles_from}
 use Rattle.nc_reader.specs.Configuration.{name_at, name_of}
-use Rattle.nc_reader.proofs.Members.{Has}
+use Rattle.nc_lines.proofs.Pairs.{Has}
 use Rattle.nc_reader.proofs.Addresses.{last_has}
 
 abbrev IsNamed : Role → Type 0

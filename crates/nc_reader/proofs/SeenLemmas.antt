@@ -4,7 +4,7 @@ use Rattle.std.specs.List.{filter_map, last_or, list_any, position_or_len}
 use Rattle.nc_types.specs.Faults.{lowest}
 use Rattle.nc_types.specs.declared.fault.Fault.{Fault}
 use Rattle.nc_types.specs.declared.fault.Cause.{Cause}
-use Rattle.nc_reader.specs.Groups.{Keyed, groups, with_key}
+use Rattle.nc_lines.specs.Groups.{Keyed, groups, with_key}
 use Rattle.nc_reader.specs.Roles.{Role, Passed, Wrong, Names, Within, Placed, member_role}
 use Rattle.nc_reader.specs.declared.topic.Topic.{Topic}
 use Rattle.nc_reader.specs.Topics.{same_topic, has_block}
@@ -12,7 +12,8 @@ use Rattle.nc_reader.specs.Configuration.{name_at, name_of, spoken_at, spoken, w
 use Rattle.nc_reader.specs.Steps.{Kind, Banner, Idle, Member, Heads, Sketch, with_value, put_at, with_fault, headed, joined, stepped}
 use Rattle.nc_reader.proofs.PushLemmas.{last_or-push, filter_map-none, filter_map-some}
 use Rattle.nc_reader.proofs.FaultLemmas.{lowest-push}
-use Rattle.nc_reader.proofs.GroupLemmas.{keys_of, keys_of-push, values_of, groups-more, with_key-known}
+use Rattle.nc_lines.proofs.GroupLemmas.{keys_of, keys_of-push, with_key-known}
+use Rattle.nc_reader.proofs.GroupLemmas.{values_of, groups-more}
 use Rattle.nc_reader.proofs.KindLemmas.{role_by}
 use Rattle.nc_reader.proofs.TopicLemmas.{same_topic_equiv}
 

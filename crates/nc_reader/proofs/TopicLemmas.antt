@@ -9,9 +9,9 @@ use Rattle.nc_reader.specs.contracts.topic.TopicPartialEq.TheImpl.{eq-value}
 use Rattle.nc_reader.specs.declared.topic.Topic.{Topic}
 use Rattle.nc_reader.specs.declared.topic.Topic.TheVariants as topics
 use Rattle.nc_reader.specs.Topics.{same_topic, IsAt}
-use Rattle.nc_reader.proofs.GroupLemmas.{place_here, place_later}
-use Rattle.nc_reader.proofs.Members.{Pairs}
-use Rattle.nc_reader.proofs.Grouping.{IsSame, equiv_of}
+use Rattle.nc_lines.proofs.GroupLemmas.{place_here, place_later}
+use Rattle.nc_lines.proofs.Pairs.{Pairs}
+use Rattle.nc_lines.proofs.Grouping.{IsSame, equiv_of}
 
 -- the equality of the code is that of the definitions
 pub eq_same : (s t : Topic) → (eq-value).it s t ≡ same_topic s t

@@ -12,13 +12,13 @@ use Rattle.nc_read_policy.specs.Clauses.{clause_in}
 use Rattle.nc_read_policy.specs.Lists.{list_in}
 use Rattle.nc_reader.specs.declared.topic.Topic.{Topic}
 use Rattle.nc_reader.specs.declared.topic.Topic.TheVariants as topics
-use Rattle.nc_reader.specs.Groups.{Group}
+use Rattle.nc_lines.specs.Groups.{Group}
 use Rattle.nc_reader.specs.Roles.{roles_from}
 use Rattle.nc_reader.specs.Topics.{same_topic}
 use Rattle.nc_reader.specs.Configuration.{spoken, topics_of, parts_of}
 use Rattle.nc_reader.specs.Things.{Part, AnInterface, Routes, AClause, Entries, Communities, part_in, pieces_in, routes_in, communities_in, ok_of}
-use Rattle.nc_reader.proofs.Members.{Has, Pairs, pairs_kept, kept_map}
-use Rattle.nc_reader.proofs.Grouping.{grouped, groups_keys, group_ascends, groups_apart}
+use Rattle.nc_lines.proofs.Pairs.{Has, Pairs, pairs_kept, kept_map}
+use Rattle.nc_lines.proofs.Grouping.{grouped, groups_keys, group_ascends, groups_apart}
 use Rattle.nc_reader.proofs.LineOrder.{spoken_ascend, Starts, begun}
 use Rattle.nc_reader.proofs.PieceLemmas.{LinesAscend, Apart, AreElements, ok_mapped}
 use Rattle.nc_reader.proofs.TopicLemmas.{topics_same}

@@ -15,7 +15,7 @@ use Rattle.nc_types.specs.declared.config.Interface.{Interface}
 use Rattle.nc_reader.specs.Roles.{roles_from}
 use Rattle.nc_reader.specs.Configuration.{name_of, faults_of, pieces_of, in_order, place_of, interfaces_in, lists_in, community_lists_in, config_of, configuration}
 use Rattle.nc_reader.specs.Things.{Part, pieces_in}
-use Rattle.nc_reader.proofs.Members.{Has, Pairs, all_pairs, pairs_weaker, pairs_map, pairs_either, ascends_within, increasing}
+use Rattle.nc_lines.proofs.Pairs.{Has, Pairs, all_pairs, pairs_weaker, pairs_map, pairs_either, ascends_within, increasing}
 use Rattle.nc_reader.proofs.Elements.{has_in_order, in_order_ascends, length_in_order, few_in_order, place_below, place_less}
 use Rattle.nc_reader.proofs.PieceLemmas.{Apart, IsWhole}
 use Rattle.nc_reader.proofs.Addresses.{IsCovered}

@@ -12,7 +12,7 @@ use Rattle.nc_types.specs.declared.config.ListEntry.{ListEntry}
 use Rattle.nc_types.specs.declared.communities.CommunityEntry.{CommunityEntry}
 use Rattle.nc_types.specs.declared.fault.Cause.TheVariants.{NoName}
 use Rattle.nc_reader.specs.declared.topic.Topic.{Topic}
-use Rattle.nc_reader.specs.Groups.{Keyed, Group, groups}
+use Rattle.nc_lines.specs.Groups.{Keyed, Group, groups}
 use Rattle.nc_reader.specs.Roles.{Role, Wrong, Names, Within, Placed, roles_from}
 use Rattle.nc_reader.specs.Topics.{same_topic}
 use Rattle.nc_reader.specs.Things.{Part, AnInterface, Routes, AClause, Entries, Communities, part_in, pieces_in, ok_of, err_of}

@@ -1,4 +1,3 @@
-pub mod Groups
 pub mod Topics
 pub mod Roles
 pub mod Things

@@ -25,7 +25,7 @@ use Rattle.nc_reader.specs.declared.routes.RouteLines.{RouteLines}
 use Rattle.nc_reader.specs.declared.things.Part.{Part as PartRead}
 use Rattle.nc_reader.specs.declared.things.Part.TheVariants as parts
 use Rattle.nc_reader.specs.declared.topic.Topic.{Topic}
-use Rattle.nc_reader.specs.Groups.{Keyed, keys_from, groups}
+use Rattle.nc_lines.specs.Groups.{Keyed, keys_from, groups}
 use Rattle.nc_reader.specs.Things.{Routed, RoutePart, RouteKeyView, key_of, same_key, route_part, CommunityPart, ok_of, err_of, Part, AnInterface, Routes, AClause, Entries, Communities, part_in}
 
 -- ---- faults

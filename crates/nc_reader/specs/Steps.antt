@@ -1,5 +1,5 @@
 -- What is gathered of the lines so far, and what one more line makes of it.
-use Rattle.std.specs.Prelude.{◌≡◌, ◌<◌, ℕ, zero, suc, Bool, true, false, not, ◌&&◌, List, [], ◌∷◌, ◌++◌, length, Option, Some, None, IfSome, if◌then◌else◌}
+use Rattle.std.specs.Prelude.{◌≡◌, ◌<◌, ℕ, Bool, true, false, not, ◌&&◌, List, [], ◌∷◌, ◌++◌, length, Option, Some, None, IfSome, if◌then◌else◌}
 use Rattle.std.specs.List.{list_any, position_or_len}
 use Rattle.std.specs.Option.{option_map_or}
 use Rattle.nc_types.specs.Faults.{lower}
@@ -8,7 +8,7 @@ use Rattle.nc_types.specs.declared.fault.Cause.{Cause}
 use Rattle.nc_types.specs.declared.fault.Cause.TheVariants.{Syntax, Unsupported}
 use Rattle.nc_lines.specs.Lines.{words_of, is_indented}
 use Rattle.nc_lines.specs.Blocks.{is_idle, begins_banner, has_mark, leaves_open}
-use Rattle.nc_reader.specs.Groups.{with_key}
+use Rattle.nc_lines.specs.Groups.{with_key, changed_at}
 use Rattle.nc_reader.specs.Roles.{Role, Passed, Wrong, Names, Within, header_role}
 use Rattle.nc_reader.specs.declared.topic.Topic.{Topic}
 use Rattle.nc_reader.specs.Topics.{same_topic, has_block}
@@ -58,12 +58,6 @@ blank = record { name = None; topics = []; blocks = []; fault = None; in_banner 
 pub record IsSteady (s : Sketch) : Type 0 where
   pub blocks : length s.blocks ≡ length s.topics
   pub block : IfSome s.block (λ place. place < length s.blocks)
-
--- a list that is changed at one place
-abbrev pub changed_at : {X : Type 0} → (X → X) → ℕ → List X → List X
-changed_at f place [] = []
-changed_at f zero (x ∷ xs) = f x ∷ xs
-changed_at f (suc place) (x ∷ xs) = x ∷ changed_at f place xs
 
 -- one more value in the group at a place
 abbrev pub with_value : {V : Type 0} → V → ℕ → List (List V) → List (List V)

@@ -22,7 +22,7 @@ use Rattle.nc_read_policy.specs.Results.{ok_map}
 use Rattle.nc_read_policy.specs.CommunityEntries.{community_entry_at}
 use Rattle.nc_reader.specs.declared.topic.Topic.{Topic}
 use Rattle.nc_reader.specs.declared.topic.Topic.TheVariants as topics
-use Rattle.nc_reader.specs.Groups.{groups}
+use Rattle.nc_lines.specs.Groups.{groups}
 
 -- ---- readings
 

@@ -3,7 +3,7 @@
 ghost use Rattle.std.specs.Prelude.{◌≡◌, ◌<◌, ◌∷◌, ◌++◌, [], true, not, length, vec_len};
 ghost use Rattle.std.specs.Prelude.{OnOk, IfOk};
 ghost use Rattle.std.specs.List.{list_any, position_or_len};
-ghost use Rattle.nc_reader.specs.Groups.{with_key};
+ghost use Rattle.nc_lines.specs.Groups.{with_key};
 ghost use Rattle.nc_reader.specs.Readings.{lines_in, topic_of};
 ghost use Rattle.nc_reader.specs.Steps.{with_value, with_line};
 ghost use Rattle.nc_reader.specs.Topics.{same_topic, IsAt};

@@ -4,7 +4,7 @@ ghost use Rattle.std.specs.Prelude.{◌≡◌, ◌<◌, vec_len, length, ◌++�
 ghost use Rattle.std.specs.Prelude.{OnOk, IfOk};
 ghost use Rattle.nc_reader.specs.Gathering.{IsLine};
 ghost use Rattle.nc_reader.specs.Parts.{AreStatics, Adds, key_view, static_part, with_statement};
-ghost use Rattle.nc_reader.specs.Steps.{changed_at};
+ghost use Rattle.nc_lines.specs.Groups.{changed_at};
 ghost use Rattle.nc_reader.specs.Things.{key_of, routes_in};
 
 use indexmap::IndexSet;

@@ -1,7 +1,7 @@
 use Rattle.std.proofs.Common.{Bool, not, ap, ◌∙◌}
 use Rattle.std.specs.List.{list_any, position_or_len}
 use Rattle.nc_reader.specs.declared.topic.Topic.{Topic}
-use Rattle.nc_reader.specs.Groups.{with_key}
+use Rattle.nc_lines.specs.Groups.{with_key}
 use Rattle.nc_reader.specs.Topics.{same_topic}
 use Rattle.nc_reader.proofs.TopicLemmas.{eq_is}
 use Rattle.nc_reader.proofs.groups.enter.Goals as goal

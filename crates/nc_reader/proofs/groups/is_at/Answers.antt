@@ -4,7 +4,7 @@ use Rattle.std.proofs.lemmas.Map.Made.{AllPairs-from_IsDistinct}
 use Rattle.nc_reader.specs.declared.topic.Topic.{Topic}
 use Rattle.nc_reader.specs.Readings.{topic_of}
 use Rattle.nc_reader.specs.Topics.{same_topic, IsAt}
-use Rattle.nc_reader.proofs.Members.{Pairs, pairs_all}
+use Rattle.nc_lines.proofs.Pairs.{Pairs, pairs_all}
 use Rattle.nc_reader.proofs.TopicLemmas.{eq_is, topics_same, place_of_topic}
 use Rattle.nc_reader.proofs.groups.is_at.Goals as goal
 

@@ -3,7 +3,7 @@ use Rattle.std.specs.List.{list_any, position_or_len}
 use Rattle.std.proofs.lemmas.Bool.{not-false}
 use Rattle.nc_reader.specs.Readings.{topic_of}
 use Rattle.nc_reader.specs.Topics.{same_topic}
-use Rattle.nc_reader.proofs.GroupLemmas.{place_known}
+use Rattle.nc_lines.proofs.GroupLemmas.{place_known}
 use Rattle.nc_reader.proofs.groups.put.Goals as goal
 
 pub add-requires : goal.add-requires

@@ -5,7 +5,7 @@ use Rattle.std.proofs.lemmas.Bool.{not-false, not-true}
 use Rattle.nc_reader.specs.contracts.routes.RouteKeyPartialEq.TheImpl.{eq-value}
 use Rattle.nc_reader.specs.Things.{Routed}
 use Rattle.nc_reader.specs.Parts.{static_part, key_view, with_statement}
-use Rattle.nc_reader.specs.Steps.{changed_at}
+use Rattle.nc_lines.specs.Groups.{changed_at}
 use Rattle.nc_reader.proofs.GroupLemmas.{length-changed_at}
 use Rattle.nc_reader.proofs.RouteLemmas.{known-new, known-same, made-new, made-same}
 use Rattle.nc_reader.proofs.routes.put.Goals as goal

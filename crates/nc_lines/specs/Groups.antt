@@ -1,5 +1,5 @@
 -- Values that are grouped by a key, the keys in order of first mention.
-use Rattle.std.specs.Prelude.{Bool, List, [], ◌∷◌, ◌++◌, map, filter, if◌then◌else◌}
+use Rattle.std.specs.Prelude.{ℕ, zero, suc, Bool, List, [], ◌∷◌, ◌++◌, map, filter, if◌then◌else◌}
 use Rattle.std.specs.List.{list_any}
 
 -- a value with its key
@@ -28,3 +28,9 @@ of_key same key ps = map (λ p. p.value) (filter (λ p. same key p.key) ps)
 -- the groups, in order of first mention
 abbrev pub groups : {K V : Type 0} → (K → K → Bool) → List (Keyed K V) → List (Group K V)
 groups same ps = map (λ key. record { key = key; values = of_key same key ps }) (keys_from same [] (map (λ p. p.key) ps))
+
+-- a list that is changed at one place
+abbrev pub changed_at : {X : Type 0} → (X → X) → ℕ → List X → List X
+changed_at f place [] = []
+changed_at f zero (x ∷ xs) = f x ∷ xs
+changed_at f (suc place) (x ∷ xs) = x ∷ changed_at f place xs

@@ -9,9 +9,9 @@ use Rattle.std.proofs.lemmas.List.{append-nil}
 use Rattle.std.proofs.lemmas.List.Folds.{list_any-append}
 use Rattle.nc_types.proofs.Members.{in_by_map, in_by_filter}
 use Rattle.nc_types.proofs.Truth.{same_truth}
-use Rattle.nc_reader.specs.Groups.{Keyed, Group, keys_from, of_key, groups}
-use Rattle.nc_reader.proofs.GroupLemmas.{passed_by, taken}
-use Rattle.nc_reader.proofs.Members.{Has, Pairs, pairs_map, Ascends, ascends_map, ascends_filter, ascends_one}
+use Rattle.nc_lines.specs.Groups.{Keyed, Group, keys_from, of_key, groups}
+use Rattle.nc_lines.proofs.GroupLemmas.{passed_by, taken}
+use Rattle.nc_lines.proofs.Pairs.{Has, Pairs, pairs_map, Ascends, ascends_map, ascends_filter, ascends_one}
 
 abbrev pub IsSame : {K : Type 0} → (K → K → Bool) → Type 0
 IsSame {K} same = (a b : K) → Decides (same a b) (a ≡ b)
