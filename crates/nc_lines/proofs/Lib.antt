@@ -7,3 +7,4 @@ pub mod WholeLines
 pub mod Pairs
 pub mod GroupLemmas
 pub mod Grouping
+pub mod FaultLemmas

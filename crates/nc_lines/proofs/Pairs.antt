@@ -5,7 +5,7 @@ use Rattle.std.specs.List.{filter_map, flat_map, cons_option, AllPairs}
 use Rattle.std.specs.List.Sorted.{IsStrictlyIncreasing}
 use Rattle.std.proofs.lemmas.Bool.{cond_both}
 use Rattle.std.proofs.lemmas.List.Kept.{AllPairs-cons}
-use Rattle.nc_types.proofs.Members.{In, in_by_map, in_by_filter_map, in_either, in_by_flat_map, all_by_in, contains_by_in}
+use Rattle.nc_types.proofs.Members.{In, in_by_map, in_by_filter, in_by_filter_map, in_right, in_either, in_by_flat_map, all_by_in, contains_by_in}
 
 -- ---- elements
 
@@ -53,6 +53,18 @@ pairs_append {A} R (x ∷ xs) ys left right cross = (
   ],
   pairs_append R xs ys left.1 right (λ a b ha hb. cross a b (inr ha) hb),
 )
+
+pub pairs_filter : {A : Type 0} (p : A → Bool) (R : A → A → Type 0) (xs : List A) → Pairs R xs → Pairs R (filter p xs)
+pairs_filter p R [] pairs = tt
+pairs_filter {A} p R (x ∷ xs) pairs =
+    let rest = pairs_filter p R xs pairs.1 in
+    cond_both (p x) (x ∷ filter p xs) (filter p xs) (Pairs R) (λ e. ((λ y h. pairs.0 y (in_by_filter p xs y h).0), rest)) (λ e. rest)
+
+-- what holds of each element of one list and each of another behind it
+pub pairs_across : {A : Type 0} (R : A → A → Type 0) (xs ys : List A) → Pairs R (xs ++ ys) → (x y : A) → Has xs x → Has ys y → R x y
+pairs_across R [] ys pairs x y hx hy = absurd hx
+pairs_across {A} R (a ∷ xs) ys pairs x y (inl same) hy = subst (λ (z : A). R z y) same (pairs.0 y (in_right xs ys y hy))
+pairs_across R (a ∷ xs) ys pairs x y (inr later) hy = pairs_across R xs ys pairs.1 x y later hy
 
 -- two elements are one, or they are related
 pub pairs_either : {A : Type 0} (R : A → A → Type 0) (xs : List A) → ((x y : A) → R x y → R y x) → Pairs R xs → (x y : A) → Has xs x → Has xs y → (x ≡ y) ⊎ R x y

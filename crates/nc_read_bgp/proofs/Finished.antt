@@ -5,11 +5,12 @@ use Rattle.nc_types.specs.declared.addr.Addr.{Addr}
 use Rattle.nc_types.specs.declared.fault.Fault.{Fault}
 use Rattle.nc_types.specs.declared.fault.Cause.{Cause}
 use Rattle.nc_lines.specs.Statements.{Outside, Faulty, Says}
+use Rattle.nc_lines.specs.Outcomes.{lower_of}
 use Rattle.nc_lines.specs.Parts.{Numbered, first_of, fault_in, statements_in}
 use Rattle.nc_lines.proofs.PartLemmas.{kept, passed, no_fault, a_fault, not_stated, stated}
 use Rattle.nc_read_bgp.specs.Statements.{ProcessSays, line_says}
 use Rattle.nc_read_bgp.specs.Neighbors.{NeighborFields}
-use Rattle.nc_read_bgp.specs.Processes.{ProcessFields, ProcessMade, process_of, lack_of, lack_in, lower_of}
+use Rattle.nc_read_bgp.specs.Processes.{ProcessFields, ProcessMade, process_of, lack_of, lack_in}
 use Rattle.nc_read_bgp.specs.Steps.{process_with, process_behind, finished}
 
 abbrev made : Option Fault → ProcessFields → Result ProcessMade Fault

@@ -9,13 +9,14 @@ use Rattle.nc_types.specs.declared.addr.Addr.{Addr}
 use Rattle.nc_types.specs.declared.config.Reference.{Reference}
 use Rattle.nc_types.proofs.Sameness.{same_prefix_is}
 use Rattle.nc_types.proofs.Truth.{or_false}
+use Rattle.nc_lines.specs.Outcomes.{lower_of}
 use Rattle.nc_lines.specs.Parts.{Numbered, Stated, fault_in, statements_in}
 use Rattle.nc_lines.specs.Groups.{Keyed}
 use Rattle.nc_lines.proofs.Grouping.{IsSame, equiv_of}
 use Rattle.nc_read_bgp.specs.Kept.{put_in}
 use Rattle.nc_read_bgp.specs.Statements.{NeighborSays, ProcessSays, Opens, RouterId, MaxPaths, Relax, Originates, Aggregates, Of, line_says}
 use Rattle.nc_read_bgp.specs.Neighbors.{NeighborFields, neighbor_in, remote_as_by, source_by, map_in_by, map_out_by, is_multihop, is_self_hop, sends_communities, shuts}
-use Rattle.nc_read_bgp.specs.Processes.{things, PrefixFields, prefix_in, ProcessFields, fields_in, process_of, process_in, lack_in, lower_of, same_addr, asn_by, router_id_by, max_paths_by, is_relax, own_by, neighbor_by, network_by, aggregate_by}
+use Rattle.nc_read_bgp.specs.Processes.{things, PrefixFields, prefix_in, ProcessFields, fields_in, process_of, process_in, lack_in, same_addr, asn_by, router_id_by, max_paths_by, is_relax, own_by, neighbor_by, network_by, aggregate_by}
 use Rattle.nc_read_bgp.specs.Steps.{no_neighbor, neighbor_with, no_prefix, prefix_with, no_process, process_with, process_behind, finished}
 use Rattle.nc_read_bgp.proofs.GroupLemmas.{kept_is_things}
 use Rattle.nc_read_bgp.proofs.FieldLemmas.{push_all, field_behind, field_by_all, last_behind, option_behind, flag_behind}

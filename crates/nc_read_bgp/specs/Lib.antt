@@ -8,3 +8,4 @@ pub mod Processes
 pub mod Steps
 pub mod Drafts
 pub mod Outcomes
+pub mod Laws

@@ -4,7 +4,6 @@ use Rattle.std.specs.List.{filter_map, last_or, list_any}
 use Rattle.std.specs.Option.{option_map_or}
 use Rattle.nc_types.specs.Cidr.{Cidr, same_prefix}
 use Rattle.nc_types.specs.Config.{ProcessView}
-use Rattle.nc_types.specs.Faults.{lower}
 use Rattle.nc_types.specs.declared.addr.Addr.{Addr}
 use Rattle.nc_types.specs.declared.fault.Fault.{Fault}
 use Rattle.nc_types.specs.declared.fault.Cause.TheVariants.{Syntax}
@@ -13,6 +12,7 @@ use Rattle.nc_types.specs.declared.config.NetworkStatement.{NetworkStatement}
 use Rattle.nc_types.specs.declared.config.AggregateStatement.{AggregateStatement}
 use Rattle.nc_lines.specs.Parts.{Numbered, Stated, first_of, fault_in, statements_in}
 use Rattle.nc_lines.specs.Groups.{Keyed, groups}
+use Rattle.nc_lines.specs.Outcomes.{lower_of}
 use Rattle.nc_read_bgp.specs.Neighbors.{NeighborFields, neighbor_in}
 use Rattle.nc_read_bgp.specs.Statements.{NeighborSays, ProcessSays, Opens, RouterId, MaxPaths, Relax, Originates, Aggregates, Of, line_says}
 
@@ -162,11 +162,6 @@ lack_of p = if is_some p.remote_as then None else Some (record { line = first_li
 -- the first neighbor that lacks it
 abbrev pub lack_in : List (Addr × NeighborFields) → Option Fault
 lack_in es = first_of (filter_map (λ e. lack_of e.1) es)
-
--- of two faults, where there are any, the one with the lower line
-abbrev pub lower_of : Option Fault → Option Fault → Option Fault
-lower_of None g = g
-lower_of (Some f) g = Some (option_map_or (lower f) g f)
 
 -- the process of a block, or the lower of its first faulty line and the first line of the first neighbor that lacks its number
 unfoldable pub process_in : List Numbered → Result ProcessMade Fault

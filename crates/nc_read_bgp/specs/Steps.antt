@@ -4,10 +4,11 @@ use Rattle.std.specs.List.{fold}
 use Rattle.std.specs.Option.{option_map_or, option_or}
 use Rattle.nc_types.specs.Cidr.{same_prefix}
 use Rattle.nc_types.specs.declared.fault.Fault.{Fault}
+use Rattle.nc_lines.specs.Outcomes.{lower_of}
 use Rattle.nc_lines.specs.Parts.{Numbered, Stated, fault_in, statements_in}
 use Rattle.nc_read_bgp.specs.Kept.{put_in}
 use Rattle.nc_read_bgp.specs.Neighbors.{NeighborFields, remote_as_by, source_by, map_in_by, map_out_by, is_multihop, is_self_hop, sends_communities, shuts}
-use Rattle.nc_read_bgp.specs.Processes.{PrefixFields, ProcessFields, ProcessMade, same_addr, lack_in, lower_of, process_of}
+use Rattle.nc_read_bgp.specs.Processes.{PrefixFields, ProcessFields, ProcessMade, same_addr, lack_in, process_of}
 use Rattle.nc_read_bgp.specs.Statements.{NeighborSays, ProcessSays, Opens, RouterId, MaxPaths, Relax, Agrees, Originates, Aggregates, Of, line_says}
 
 -- a neighbor of which no statement speaks

@@ -9,11 +9,13 @@
 //! [`read_process`] the process that the lines of its block make, with the lines of each
 //! neighbor, network and aggregate: these stand in order of first mention, each made by its own
 //! statements, of each field the last one decides, and the lower is told of the first faulty line
-//! and the first line of a neighbor without `remote-as`.
+//! and the first line of a neighbor without `remote-as`. The laws say what follows of the things,
+//! of their lines and of the fault.
 #![tactic(auto)]
 
 mod first;
 mod header;
+mod laws;
 mod lines;
 mod neighbor;
 mod neighbor_draft;
@@ -26,6 +28,7 @@ mod statement;
 mod things;
 
 pub use header::read_process_header;
+pub use laws::{lowest_faults_of_processes_are_told, things_of_processes_have_their_lines};
 pub use lines::read_bgp_statement;
 pub use processes::{ProcessPart, read_process};
 pub use statement::{BgpStatement, NeighborStatement};

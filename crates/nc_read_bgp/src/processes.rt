@@ -1,9 +1,10 @@
 //! The process that the lines of its block make.
 
 ghost use Rattle.std.specs.Prelude.{◌≡◌, ◌<◌, ◌≤◌, ◌∷◌, [], List, All, length, map, IfOk, OnOk};
+ghost use Rattle.nc_lines.specs.Outcomes.{lower_of};
 ghost use Rattle.nc_lines.specs.Parts.{Numbered, numbered};
 ghost use Rattle.nc_read_bgp.specs.Processes.{network_of, aggregate_of, neighbor_of};
-ghost use Rattle.nc_read_bgp.specs.Processes.{lack_in, lower_of, process_in};
+ghost use Rattle.nc_read_bgp.specs.Processes.{lack_in, process_in};
 ghost use Rattle.nc_read_bgp.specs.Steps.{finished};
 ghost use Rattle.nc_read_bgp.specs.Drafts.{neighbors_of, prefixes_of, process_fields};
 ghost use Rattle.nc_read_bgp.specs.Outcomes.{each_lines, IsProcess};

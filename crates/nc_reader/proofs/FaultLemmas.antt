@@ -9,23 +9,10 @@ use Rattle.nc_types.specs.declared.fault.Fault.{Fault}
 use Rattle.nc_types.specs.declared.fault.ConfigFault.{ConfigFault}
 use Rattle.nc_types.specs.declared.fault.ConfigFault.TheVariants.{Bad, Memory}
 use Rattle.nc_lines.specs.Outcomes.{IsFault}
+use Rattle.nc_lines.proofs.FaultLemmas.{lowest-push}
 use Rattle.nc_reader.specs.Things.{ok_of, err_of}
 use Rattle.nc_reader.specs.Parts.{IsLowest, Notes}
 use Rattle.nc_reader.proofs.PushLemmas.{filter_map-none, filter_map-some}
-
-lower_lower : (a b c : Fault) → lower (lower a b) c ≡ lower a (lower b c)
-lower_lower a b c = grind (arith, nat_tests)
-
--- one more fault behind the others
-pub lowest-push : (fs : List Fault) (f : Fault) → lowest (fs ++ f ∷ []) ≡ Some (option_map_or (λ g. lower g f) (lowest fs) f)
-lowest-push [] f = refl
-lowest-push (x ∷ fs) f =
-    let on : (o : Option Fault) → Some (lower x (option_map_or (λ g. lower g f) o f)) ≡ Some (lower (option_map_or (lower x) o x) f) =
-    λ o. elim o as (λ (o : Option Fault). Some (lower x (option_map_or (λ g. lower g f) o f)) ≡ Some (lower (option_map_or (lower x) o x) f)) [
-      | None ↦ refl
-      | Some g ↦ ap (λ (h : Fault). Some h) (sym (lower_lower x g f))
-    ] in
-    ap (λ (o : Option Fault). Some (option_map_or (lower x) o x)) (lowest-push fs f) ∙ on (lowest fs)
 
 -- one more part, which has no fault
 pub ok-push : {A : Type 0} (rs : List (Result A Fault)) (r : Result A Fault) (x : A) → r ≡ Ok x → filter_map ok_of (rs ++ r ∷ []) ≡ filter_map ok_of rs ++ x ∷ []

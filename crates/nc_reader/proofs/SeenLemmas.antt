@@ -11,7 +11,7 @@ use Rattle.nc_reader.specs.Topics.{same_topic, has_block}
 use Rattle.nc_reader.specs.Configuration.{name_at, name_of, spoken_at, spoken, wrong_at}
 use Rattle.nc_reader.specs.Steps.{Kind, Banner, Idle, Member, Heads, Sketch, with_value, put_at, with_fault, headed, joined, stepped}
 use Rattle.nc_reader.proofs.PushLemmas.{last_or-push, filter_map-none, filter_map-some}
-use Rattle.nc_reader.proofs.FaultLemmas.{lowest-push}
+use Rattle.nc_lines.proofs.FaultLemmas.{lowest-push}
 use Rattle.nc_lines.proofs.GroupLemmas.{keys_of, keys_of-push, with_key-known}
 use Rattle.nc_reader.proofs.GroupLemmas.{values_of, groups-more}
 use Rattle.nc_reader.proofs.KindLemmas.{role_by}
