@@ -11,7 +11,7 @@ use Rattle.nc_types.proofs.Members.{in_by_map, in_by_filter}
 use Rattle.nc_types.proofs.Truth.{same_truth}
 use Rattle.nc_lines.specs.Groups.{Keyed, Group, keys_from, of_key, groups}
 use Rattle.nc_lines.proofs.GroupLemmas.{passed_by, taken}
-use Rattle.nc_lines.proofs.Pairs.{Has, Pairs, pairs_map, Ascends, ascends_map, ascends_filter, ascends_one}
+use Rattle.nc_lines.proofs.Pairs.{Has, Pairs, pairs_map, pairs_filter, Ascends, ascends_map, ascends_filter, ascends_one}
 
 abbrev pub IsSame : {K : Type 0} → (K → K → Bool) → Type 0
 IsSame {K} same = (a b : K) → Decides (same a b) (a ≡ b)
@@ -135,6 +135,14 @@ pub group_ascends : {K V : Type 0} (same : K → K → Bool) → IsSame same →
 group_ascends {K} {V} same is f low high ps up g h =
     subst (Ascends f low high) (sym (grouped same is ps g h).0)
     (ascends_map (λ (p : Keyed K V). p.value) f low high (filter (λ (p : Keyed K V). same g.key p.key) ps) (ascends_filter (λ (p : Keyed K V). same g.key p.key) (λ (p : Keyed K V). f p.value) low high ps up))
+
+-- what is so of each value and each later one is so in each group
+pub group_pairs : {K V : Type 0} (same : K → K → Bool) → IsSame same → (R : V → V → Type 0) (ps : List (Keyed K V)) → Pairs (λ p q. R p.value q.value) ps
+    → (g : Group K V) → Has (groups same ps) g → Pairs R g.values
+group_pairs {K} {V} same is R ps pairs g h =
+    subst (Pairs R) (sym (grouped same is ps g h).0)
+    (pairs_map (λ (p : Keyed K V). p.value) (λ (p q : Keyed K V). R p.value q.value) R (filter (λ (p : Keyed K V). same g.key p.key) ps) (λ p q hp hq so. so)
+    (pairs_filter (λ (p : Keyed K V). same g.key p.key) (λ (p q : Keyed K V). R p.value q.value) ps pairs))
 
 pub has_grouped : {K V : Type 0} (same : K → K → Bool) → IsSame same → (ps : List (Keyed K V)) (g : Group K V) (v : V) → Has (groups same ps) g → Has g.values v → (p : Keyed K V) × Has ps p × (p.key ≡ g.key) × (p.value ≡ v)
 has_grouped {K} {V} same is ps g v hg hv = has_of_key same is g.key ps v (subst (λ (vs : List V). Has vs v) (grouped same is ps g hg).0 hv)

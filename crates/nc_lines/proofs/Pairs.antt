@@ -5,7 +5,7 @@ use Rattle.std.specs.List.{filter_map, flat_map, cons_option, AllPairs}
 use Rattle.std.specs.List.Sorted.{IsStrictlyIncreasing}
 use Rattle.std.proofs.lemmas.Bool.{cond_both}
 use Rattle.std.proofs.lemmas.List.Kept.{AllPairs-cons}
-use Rattle.nc_types.proofs.Members.{In, in_by_map, in_by_filter, in_by_filter_map, in_right, in_either, in_by_flat_map, all_by_in, contains_by_in}
+use Rattle.nc_types.proofs.Members.{In, in_map, in_by_map, in_by_filter, in_by_filter_map, in_right, in_either, in_by_flat_map, all_by_in, contains_by_in}
 
 -- ---- elements
 
@@ -31,6 +31,11 @@ pub pairs_map : {A B : Type 0} (f : A → B) (R : A → A → Type 0) (S : B →
 pairs_map f R S [] to pairs = tt
 pairs_map {A} {B} f R S (x ∷ xs) to pairs =
     (λ y h. let found = in_by_map f xs y h in subst (S (f x)) found.2 (to x found.0 (inl refl) (inr found.1) (pairs.0 found.0 found.1)), pairs_map f R S xs (λ a b ha hb. to a b (inr ha) (inr hb)) pairs.1)
+
+-- what is made of elements, related as they are
+pub pairs_by_map : {A B : Type 0} (f : A → B) (S : B → B → Type 0) (xs : List A) → Pairs S (map f xs) → Pairs (λ x y. S (f x) (f y)) xs
+pairs_by_map f S [] pairs = tt
+pairs_by_map f S (x ∷ xs) pairs = (λ y h. pairs.0 (f y) (in_map f xs y h), pairs_by_map f S xs pairs.1)
 
 pairs_more : {B : Type 0} (S : B → B → Type 0) (o : Option B) (ys : List B) → ((u : B) → o ≡ Some u → (v : B) → Has ys v → S u v) → Pairs S ys → Pairs S (cons_option o ys)
 pairs_more S None ys first rest = rest

@@ -3,3 +3,6 @@ mod GroupLemmas
 mod FieldLemmas
 mod ProcessLemmas
 mod Finished
+mod PathLemmas
+mod LawLemmas
+mod LowestLemmas

@@ -1,0 +1,398 @@
+-- The things of a process: their keys, and the lines of each.
+use Rattle.std.proofs.Common.{◌≡◌, ℕ, ◌+◌, ◌<◌, Bool, false, List, [], ◌∷◌, ◌++◌, length, map, Option, Some, None, Ok, Err, All, Contains, refl, sym, ap, ◌∙◌, subst, arith, inl, inr}
+use Rattle.std.specs.Prelude.{◌≢◌}
+use Rattle.std.specs.List.{filter_map, cons_option}
+use Rattle.std.specs.List.Sorted.{IsStrictlyIncreasing}
+use Rattle.std.specs.Option.{option_map, option_map_or}
+use Rattle.std.proofs.lemmas.List.{map-append}
+use Rattle.std.proofs.lemmas.List.Kept.{AllPairs-from_increasing}
+use Rattle.std.proofs.lemmas.Simd.{map-map}
+use Rattle.nc_types.specs.Cidr.{Cidr, same_prefix}
+use Rattle.nc_types.specs.WellFormed.{IsProcess}
+use Rattle.nc_types.specs.declared.addr.Addr.{Addr}
+use Rattle.nc_types.specs.declared.fault.Fault.{Fault}
+use Rattle.nc_types.specs.declared.config.Neighbor.{Neighbor}
+use Rattle.nc_types.specs.declared.config.NetworkStatement.{NetworkStatement}
+use Rattle.nc_types.specs.declared.config.AggregateStatement.{AggregateStatement}
+use Rattle.nc_types.proofs.Members.{In, in_by_contains, contains_by_in, all_by_in, in_either, in_map, in_by_map, in_by_filter_map}
+use Rattle.nc_lines.specs.Groups.{Keyed, Group, groups}
+use Rattle.nc_lines.specs.Outcomes.{lower_of}
+use Rattle.nc_lines.specs.Statements.{Reading, Says, said_of}
+use Rattle.nc_lines.specs.Parts.{Numbered, Stated, fault_in, statements_in}
+use Rattle.nc_lines.proofs.Pairs.{Pairs, all_pairs, pairs_all, pairs_weaker, pairs_map, pairs_by_map, pairs_kept, pairs_append, pairs_either}
+use Rattle.nc_lines.proofs.PartLemmas.{kept}
+use Rattle.nc_lines.proofs.Grouping.{IsSame, grouped, groups_keys, group_pairs, has_grouped}
+use Rattle.nc_read_bgp.specs.Statements.{NeighborSays, ProcessSays, Opens, Originates, Aggregates, Of, line_says}
+use Rattle.nc_read_bgp.specs.Neighbors.{neighbor_in}
+use Rattle.nc_read_bgp.specs.Processes.{prefix_in, ProcessMade, fields_in, process_of, process_in, lack_in, same_addr, own_by, neighbor_by, network_by, aggregate_by, neighbor_of, network_of, aggregate_of}
+use Rattle.nc_read_bgp.specs.Laws.{lines_in, lines_of_things, lines_of_each, HaveLines, AreWithin, Ascend, AreApart}
+use Rattle.nc_read_bgp.proofs.ProcessLemmas.{addrs_same, prefixes_same}
+use Rattle.nc_read_bgp.proofs.PathLemmas.{few_paths}
+
+-- ---- statements and their lines
+
+abbrev pub LineAscend : {S : Type 0} → List (Stated S) → Type 0
+LineAscend ss = Pairs (λ s t. s.line < t.line) ss
+
+-- what a line says, with its number
+abbrev stated_at : Numbered → Option (Stated ProcessSays)
+stated_at l = option_map (λ s. record { line = l.line; setting = s }) (said_of (line_says l))
+
+stated_line : {S : Type 0} (n : ℕ) (o : Option S) (t : Stated S) → option_map (λ (s : S). record { line = n; setting = s }) o ≡ Some t → n ≡ t.line
+stated_line n None t e = absurd (cc)
+stated_line n (Some s) t e = cc
+
+in_block : (block : List Numbered) (s : Stated ProcessSays) → In s (statements_in line_says block) → In s.line (lines_in block)
+in_block block s i =
+    let l = in_by_filter_map stated_at block s i in
+    subst (λ (k : ℕ). In k (lines_in block)) (stated_line l.0.line (said_of (line_says l.0)) s l.2) (in_map (λ (l : Numbered). l.line) block l.0 l.1)
+
+pub block_ascends : (block : List Numbered) → IsStrictlyIncreasing (lines_in block) → Pairs (λ l m. l.line < m.line) block
+block_ascends block up =
+    pairs_by_map (λ (l : Numbered). l.line) (λ a b. a < b) block (pairs_all (λ a b. a < b) (lines_in block) (AllPairs-from_increasing (lines_in block) up))
+
+pub statements_ascend : (block : List Numbered) → IsStrictlyIncreasing (lines_in block) → LineAscend (statements_in line_says block)
+statements_ascend block up =
+    pairs_kept stated_at (λ (l m : Numbered). l.line < m.line) (λ (s t : Stated ProcessSays). s.line < t.line) block
+    (λ l m s t hl hm less e f.
+    subst (λ (k : ℕ). k < t.line) (stated_line l.line (said_of (line_says l)) s e) (subst (λ (k : ℕ). l.line < k) (stated_line m.line (said_of (line_says m)) t f) less))
+    (block_ascends block up)
+
+-- statements of one line are one
+one_of_line : (ss : List (Stated ProcessSays)) → LineAscend ss → (s t : Stated ProcessSays) → In s ss → In t ss → s.line ≡ t.line → s ≡ t
+one_of_line ss up s t i j same =
+    let apart : Pairs (λ (s t : Stated ProcessSays). s.line ≢ t.line) ss =
+    pairs_weaker (λ (s t : Stated ProcessSays). s.line < t.line) (λ (s t : Stated ProcessSays). s.line ≢ t.line) ss (λ s t hs ht less e. omega (arith, less, e)) up in
+    elim (pairs_either (λ (s t : Stated ProcessSays). s.line ≢ t.line) ss (λ s t other e. other (sym e)) apart s t i j) [
+      | inl one ↦ one
+      | inr other ↦ absurd (other same)
+    ]
+
+-- ---- of what a statement speaks
+
+data Topic : Type 0 where
+  Itself : Topic
+  Near : Addr → Topic
+  Origin : Cidr → Topic
+  Summary : Cidr → Topic
+
+abbrev topic_of : ProcessSays → Topic
+topic_of (Originates p) = Origin p
+topic_of (Aggregates p b) = Summary p
+topic_of (Of a s) = Near (record { 0 = a })
+topic_of s = Itself
+
+-- the number of a topic's kind
+abbrev kind_of : Topic → ℕ
+kind_of Itself = 0
+kind_of (Near a) = 1
+kind_of (Origin p) = 2
+kind_of (Summary p) = 3
+
+own_topic : (line : ℕ) (s : ProcessSays) (k : ℕ) → own_by line s ≡ Some k → (line ≡ k) × (topic_of s ≡ Itself)
+own_topic line (Originates p) k e = absurd (cc)
+own_topic line (Aggregates p b) k e = absurd (cc)
+own_topic line (Of a t) k e = absurd (cc)
+own_topic line s k e = (cc, refl)
+
+-- a statement by its key is one of that line, which speaks of this
+abbrev Speaks : {K V : Type 0} → (Stated ProcessSays → Option (Keyed K (Stated V))) → (K → Topic) → Type 0
+Speaks {K} {V} by topic = (s : Stated ProcessSays) (p : Keyed K (Stated V)) → by s ≡ Some p → (s.line ≡ p.value.line) × (topic_of s.setting ≡ topic p.key)
+
+abbrev pub near : Stated ProcessSays → Option (Keyed Addr (Stated NeighborSays))
+near s = neighbor_by s.line s.setting
+
+abbrev origin : Stated ProcessSays → Option (Keyed Cidr (Stated Bool))
+origin s = network_by s.line s.setting
+
+abbrev summary : Stated ProcessSays → Option (Keyed Cidr (Stated Bool))
+summary s = aggregate_by s.line s.setting
+
+near_topic : (line : ℕ) (s : ProcessSays) (p : Keyed Addr (Stated NeighborSays)) → neighbor_by line s ≡ Some p → (line ≡ p.value.line) × (topic_of s ≡ Near p.key)
+near_topic line (Of a t) p e =
+    let same : record { key = record { 0 = a }; value = record { line = line; setting = t } } ≡ p = cc in (ap (λ (p : Keyed Addr (Stated NeighborSays)). p.value.line) same, ap (λ (p : Keyed Addr (Stated NeighborSays)). Near p.key) same)
+near_topic line s p e = absurd (cc)
+
+origin_topic : (line : ℕ) (s : ProcessSays) (p : Keyed Cidr (Stated Bool)) → network_by line s ≡ Some p → (line ≡ p.value.line) × (topic_of s ≡ Origin p.key)
+origin_topic line (Originates q) p e =
+    let same : record { key = q; value = record { line = line; setting = false } } ≡ p = cc in
+    (ap (λ (p : Keyed Cidr (Stated Bool)). p.value.line) same, ap (λ (p : Keyed Cidr (Stated Bool)). Origin p.key) same)
+origin_topic line s p e = absurd (cc)
+
+summary_topic : (line : ℕ) (s : ProcessSays) (p : Keyed Cidr (Stated Bool)) → aggregate_by line s ≡ Some p → (line ≡ p.value.line) × (topic_of s ≡ Summary p.key)
+summary_topic line (Aggregates q b) p e =
+    let same : record { key = q; value = record { line = line; setting = b } } ≡ p = cc in (ap (λ (p : Keyed Cidr (Stated Bool)). p.value.line) same, ap (λ (p : Keyed Cidr (Stated Bool)). Summary p.key) same)
+summary_topic line s p e = absurd (cc)
+
+near_speaks : Speaks near Near
+near_speaks s p e = near_topic s.line s.setting p e
+
+origin_speaks : Speaks origin Origin
+origin_speaks s p e = origin_topic s.line s.setting p e
+
+summary_speaks : Speaks summary Summary
+summary_speaks s p e = summary_topic s.line s.setting p e
+
+-- ---- the lines of the things of one kind
+
+-- a topic, and the lines that speak of it
+abbrev Told : Type 0
+Told = Topic × List ℕ
+
+abbrev told : {K V : Type 0} → (K → Topic) → Group K (Stated V) → Told
+told topic g = (topic g.key, map (λ s. s.line) g.values)
+
+kind_is : {K V : Type 0} (topic : K → Topic) (n : ℕ) → ((key : K) → kind_of (topic key) ≡ n) → (gs : List (Group K (Stated V))) (t : Told) → In t (map (told topic) gs) → kind_of t.0 ≡ n
+kind_is topic n is gs t i = let g = in_by_map (told topic) gs t i in ap (λ (t : Told). kind_of t.0) (sym g.2) ∙ is g.0.key
+
+-- each line is that of a statement that speaks of this
+abbrev IsSpoken : List (Stated ProcessSays) → Told → Type 0
+IsSpoken ss t = (k : ℕ) → In k t.1 → (s : Stated ProcessSays) × In s ss × (s.line ≡ k) × (topic_of s.setting ≡ t.0)
+
+module _ {K V : Type 0} (same : K → K → Bool) (is : IsSame same) (by : Stated ProcessSays → Option (Keyed K (Stated V))) (topic : K → Topic) (speaks : Speaks by topic) where
+  abbrev keyed : List (Stated ProcessSays) → List (Keyed K (Stated V))
+  keyed ss = filter_map by ss
+
+  abbrev of_kind : List (Stated ProcessSays) → List Told
+  of_kind ss = map (told topic) (groups same (keyed ss))
+
+  kind_spoken : (ss : List (Stated ProcessSays)) (t : Told) → In t (of_kind ss) → IsSpoken ss t
+  kind_spoken ss t i k j =
+      let g = in_by_map (told topic) (groups same (keyed ss)) t i in
+      let v = in_by_map (λ (s : Stated V). s.line) g.0.values k (subst (λ (t : Told). In k t.1) (sym g.2) j) in
+      let p = has_grouped same is (keyed ss) g.0 v.0 g.1 v.1 in
+      let s = in_by_filter_map by ss p.0 p.1 in
+      let of_it = speaks s.0 p.0 s.2 in
+      (s.0, s.1, of_it.0 ∙ ap (λ (v : Stated V). v.line) p.3 ∙ v.2, of_it.1 ∙ ap topic p.2 ∙ ap (λ (t : Told). t.0) g.2)
+
+  keyed_ascend : (ss : List (Stated ProcessSays)) → LineAscend ss → Pairs (λ p q. p.value.line < q.value.line) (keyed ss)
+  keyed_ascend ss up =
+      pairs_kept by (λ (s t : Stated ProcessSays). s.line < t.line) (λ p q. p.value.line < q.value.line) ss
+      (λ s t p q hs ht less e f. subst (λ (k : ℕ). k < q.value.line) (speaks s p e).0 (subst (λ (k : ℕ). s.line < k) (speaks t q f).0 less)) up
+
+  kind_ascends : (ss : List (Stated ProcessSays)) → LineAscend ss → (t : Told) → In t (of_kind ss) → Pairs (λ a b. a < b) t.1
+  kind_ascends ss up t i =
+      let g = in_by_map (told topic) (groups same (keyed ss)) t i in
+      subst (λ (t : Told). Pairs (λ a b. a < b) t.1) g.2
+      (pairs_map (λ (s : Stated V). s.line) (λ s t. s.line < t.line) (λ a b. a < b) g.0.values (λ s t hs ht less. less)
+      (group_pairs same is (λ (s t : Stated V). s.line < t.line) (keyed ss) (keyed_ascend ss up) g.0 g.1))
+
+  kind_has : (ss : List (Stated ProcessSays)) (t : Told) → In t (of_kind ss) → 0 < length t.1
+  kind_has ss t i =
+      let g = in_by_map (told topic) (groups same (keyed ss)) t i in
+      let some = (grouped same is (keyed ss) g.0 g.1).1 in
+      let one : 0 < length (map (λ (s : Stated V). s.line) (some.0 ∷ some.1)) = omega arith in
+      subst (λ (t : Told). 0 < length t.1) g.2 (subst (λ (vs : List (Stated V)). 0 < length (map (λ s. s.line) vs)) (sym some.2) one)
+
+  kind_apart : ((a b : K) → topic a ≡ topic b → a ≡ b) → (ss : List (Stated ProcessSays)) → Pairs (λ t u. t.0 ≢ u.0) (of_kind ss)
+  kind_apart one ss =
+      pairs_map (told topic) (λ (g h : Group K (Stated V)). g.key ≢ h.key) (λ (t u : Told). t.0 ≢ u.0) (groups same (keyed ss)) (λ g h hg hh differ e. differ (one g.key h.key e)) (groups_keys same is (keyed ss))
+
+-- ---- the lines of each
+
+abbrev nears : List (Stated ProcessSays) → List Told
+nears ss = map (told Near) (groups same_addr (filter_map near ss))
+
+abbrev origins : List (Stated ProcessSays) → List Told
+origins ss = map (told Origin) (groups same_prefix (filter_map origin ss))
+
+abbrev summaries : List (Stated ProcessSays) → List Told
+summaries ss = map (told Summary) (groups same_prefix (filter_map summary ss))
+
+abbrev things_told : List (Stated ProcessSays) → List Told
+things_told ss = nears ss ++ (origins ss ++ summaries ss)
+
+abbrev own_lines : List (Stated ProcessSays) → List ℕ
+own_lines ss = filter_map (λ s. own_by s.line s.setting) ss
+
+abbrev all_told : List (Stated ProcessSays) → List Told
+all_told ss = (Itself, own_lines ss) ∷ things_told ss
+
+abbrev made_of : List (Stated ProcessSays) → ProcessMade
+made_of ss = process_of (fields_in ss)
+
+lines_told : (ss : List (Stated ProcessSays)) → map (λ t. t.1) (things_told ss) ≡ lines_of_things (made_of ss)
+lines_told ss =
+    let near_groups = groups same_addr (filter_map near ss) in
+    let origin_groups = groups same_prefix (filter_map origin ss) in
+    let summary_groups = groups same_prefix (filter_map summary ss) in
+    map-append (λ (t : Told). t.1) (nears ss) (origins ss ++ summaries ss)
+    ∙ ap (λ (r : List (List ℕ)). r ++ map (λ (t : Told). t.1) (origins ss ++ summaries ss))
+    (map-map (λ (t : Told). t.1) (told Near) near_groups ∙ sym (map-map (λ e. e.1.lines) (λ g. (g.key, neighbor_in g.values)) near_groups))
+    ∙ ap (λ (r : List (List ℕ)). (made_of ss).neighbors ++ r)
+    (map-append (λ (t : Told). t.1) (origins ss) (summaries ss)
+    ∙ ap (λ (r : List (List ℕ)). r ++ map (λ (t : Told). t.1) (summaries ss))
+    (map-map (λ (t : Told). t.1) (told Origin) origin_groups ∙ sym (map-map (λ e. e.1.lines) (λ g. (g.key, prefix_in g.values)) origin_groups))
+    ∙ ap (λ (r : List (List ℕ)). (made_of ss).networks ++ r)
+    (map-map (λ (t : Told). t.1) (told Summary) summary_groups ∙ sym (map-map (λ e. e.1.lines) (λ g. (g.key, prefix_in g.values)) summary_groups)))
+
+all_lines_told : (ss : List (Stated ProcessSays)) → map (λ t. t.1) (all_told ss) ≡ lines_of_each (made_of ss)
+all_lines_told ss = ap (λ (r : List (List ℕ)). own_lines ss ∷ r) (lines_told ss)
+
+-- the statements of neighbors
+pub near_ascend : (ss : List (Stated ProcessSays)) → LineAscend ss → Pairs (λ p q. p.value.line < q.value.line) (filter_map near ss)
+near_ascend ss up = keyed_ascend same_addr addrs_same near Near near_speaks ss up
+
+-- what holds of the things of each kind holds of each
+module _ (ss : List (Stated ProcessSays)) (P : Told → Type 0) (n : (t : Told) → In t (nears ss) → P t) (o : (t : Told) → In t (origins ss) → P t) (s : (t : Told) → In t (summaries ss) → P t) where
+  each_thing : (t : Told) → In t (things_told ss) → P t
+  each_thing t i =
+      elim (in_either (nears ss) (origins ss ++ summaries ss) t i) [
+        | inl first ↦ n t first
+        | inr later ↦ elim (in_either (origins ss) (summaries ss) t later) [
+          | inl middle ↦ o t middle
+          | inr last ↦ s t last
+        ]
+      ]
+
+  each_told : P (Itself, own_lines ss) → (t : Told) → In t (all_told ss) → P t
+  each_told own t (inl same) = subst P same own
+  each_told own t (inr later) = each_thing t later
+
+own_spoken : (ss : List (Stated ProcessSays)) → IsSpoken ss (Itself, own_lines ss)
+own_spoken ss k i =
+    let s = in_by_filter_map (λ (s : Stated ProcessSays). own_by s.line s.setting) ss k i in
+    let of_it = own_topic s.0.line s.0.setting k s.2 in
+    (s.0, s.1, of_it.0, of_it.1)
+
+own_ascends : (ss : List (Stated ProcessSays)) → LineAscend ss → Pairs (λ a b. a < b) (own_lines ss)
+own_ascends ss up =
+    pairs_kept (λ (s : Stated ProcessSays). own_by s.line s.setting) (λ (s t : Stated ProcessSays). s.line < t.line) (λ a b. a < b) ss
+    (λ s t a b hs ht less e f. subst (λ (k : ℕ). k < b) (own_topic s.line s.setting a e).0 (subst (λ (k : ℕ). s.line < k) (own_topic t.line t.setting b f).0 less)) up
+
+each_spoken : (ss : List (Stated ProcessSays)) (t : Told) → In t (all_told ss) → IsSpoken ss t
+each_spoken ss =
+    each_told ss (IsSpoken ss) (kind_spoken same_addr addrs_same near Near near_speaks ss) (kind_spoken same_prefix prefixes_same origin Origin origin_speaks ss)
+    (kind_spoken same_prefix prefixes_same summary Summary summary_speaks ss) (own_spoken ss)
+
+each_ascends : (ss : List (Stated ProcessSays)) → LineAscend ss → (t : Told) → In t (all_told ss) → Pairs (λ a b. a < b) t.1
+each_ascends ss up =
+    each_told ss (λ (t : Told). Pairs (λ a b. a < b) t.1) (kind_ascends same_addr addrs_same near Near near_speaks ss up)
+    (kind_ascends same_prefix prefixes_same origin Origin origin_speaks ss up) (kind_ascends same_prefix prefixes_same summary Summary summary_speaks ss up) (own_ascends ss up)
+
+each_has : (ss : List (Stated ProcessSays)) (t : Told) → In t (things_told ss) → 0 < length t.1
+each_has ss =
+    each_thing ss (λ (t : Told). 0 < length t.1) (kind_has same_addr addrs_same near Near near_speaks ss) (kind_has same_prefix prefixes_same origin Origin origin_speaks ss)
+    (kind_has same_prefix prefixes_same summary Summary summary_speaks ss)
+
+topics_apart : (ss : List (Stated ProcessSays)) → Pairs (λ t u. t.0 ≢ u.0) (all_told ss)
+topics_apart ss =
+    let kind_near : (t : Told) → In t (nears ss) → kind_of t.0 ≡ 1 = kind_is Near 1 (λ a. refl) (groups same_addr (filter_map near ss)) in
+    let kind_origin : (t : Told) → In t (origins ss) → kind_of t.0 ≡ 2 = kind_is Origin 2 (λ p. refl) (groups same_prefix (filter_map origin ss)) in
+    let kind_summary : (t : Told) → In t (summaries ss) → kind_of t.0 ≡ 3 = kind_is Summary 3 (λ p. refl) (groups same_prefix (filter_map summary ss)) in (
+      λ t i e.
+          let one = ap kind_of e in
+          each_thing ss (λ (t : Told). kind_of t.0 ≡ 0 → ⊥) (λ t i zero. let k = kind_near t i in omega (arith, k, zero)) (λ t i zero. let k = kind_origin t i in omega (arith, k, zero))
+          (λ t i zero. let k = kind_summary t i in omega (arith, k, zero)) t i (sym one),
+      pairs_append (λ (t u : Told). t.0 ≢ u.0) (nears ss) (origins ss ++ summaries ss) (kind_apart same_addr addrs_same near Near near_speaks (λ a b e. cc) ss)
+          (pairs_append (λ (t u : Told). t.0 ≢ u.0) (origins ss) (summaries ss) (kind_apart same_prefix prefixes_same origin Origin origin_speaks (λ a b e. cc) ss)
+          (kind_apart same_prefix prefixes_same summary Summary summary_speaks (λ a b e. cc) ss)
+          (λ t u i j e. let a = kind_origin t i in let b = kind_summary u j in let c = ap kind_of e in omega (arith, a, b, c)))
+          (λ t u i j e.
+          let a = kind_near t i in
+          let c = ap kind_of e in
+          elim (in_either (origins ss) (summaries ss) u j) [
+            | inl middle ↦ let b = kind_origin u middle in omega (arith, a, b, c)
+            | inr last ↦ let b = kind_summary u last in omega (arith, a, b, c)
+          ]),
+    )
+
+-- ---- what was made
+
+was_made : (block : List Numbered) (made : ProcessMade) → process_in block ≡ Ok made → made_of (statements_in line_says block) ≡ made
+unfolding process_in
+was_made block made e =
+    let fields = fields_in (statements_in line_says block) in
+    by_fault (lower_of (fault_in line_says block) (lack_in fields.neighbors)) e
+  where
+    by_fault : (o : Option Fault) → option_map_or Err o (Ok (made_of (statements_in line_says block))) ≡ Ok made → made_of (statements_in line_says block) ≡ made
+    by_fault None e = cc
+    by_fault (Some f) e = absurd (cc)
+
+pub have_lines : (block : List Numbered) (made : ProcessMade) → process_in block ≡ Ok made → HaveLines (lines_of_things made)
+have_lines block made e =
+    let ss = statements_in line_says block in
+    subst (λ (made : ProcessMade). HaveLines (lines_of_things made)) (was_made block made e)
+    (subst HaveLines (lines_told ss)
+    (all_by_in (λ (ks : List ℕ). 0 < length ks) (map (λ t. t.1) (things_told ss))
+    (λ ks i. let t = in_by_map (λ (t : Told). t.1) (things_told ss) ks i in subst (λ (ks : List ℕ). 0 < length ks) t.2 (each_has ss t.0 t.1))))
+
+in_more : {Y : Type 0} (o : Option Y) (ys : List Y) (y : Y) → In y ys → In y (cons_option o ys)
+in_more None ys y i = i
+in_more (Some z) ys y i = inr i
+
+in_kept : {X Y : Type 0} (f : X → Option Y) (xs : List X) (x : X) (y : Y) → In x xs → f x ≡ Some y → In y (filter_map f xs)
+in_kept f [] x y i e = absurd i
+in_kept {X} {Y} f (z ∷ xs) x y (inl same) e = subst (In y) (sym (kept f z y xs (ap f same ∙ e))) (inl refl)
+in_kept f (z ∷ xs) x y (inr later) e = in_more (f z) (filter_map f xs) y (in_kept f xs x y later e)
+
+pub header_stands : (block : List Numbered) (made : ProcessMade) → process_in block ≡ Ok made → (l : Numbered) (asn : ℕ) → Contains block l → line_says l ≡ Says (Opens asn) → Contains made.own l.line
+header_stands block made e l asn within opens =
+    let ss = statements_in line_says block in
+    let s : Stated ProcessSays = record { line = l.line; setting = Opens asn } in
+    let stated : In s ss = in_kept stated_at block l s (in_by_contains block l within) (ap (λ (r : Reading ProcessSays). option_map (λ s. record { line = l.line; setting = s }) (said_of r)) opens) in
+    subst (λ (made : ProcessMade). Contains made.own l.line) (was_made block made e)
+    (contains_by_in (own_lines ss) l.line (in_kept (λ (s : Stated ProcessSays). own_by s.line s.setting) ss s l.line stated refl))
+
+pub are_within : (block : List Numbered) (made : ProcessMade) → process_in block ≡ Ok made → AreWithin (lines_in block) (lines_of_each made)
+are_within block made e =
+    let ss = statements_in line_says block in
+    subst (λ (made : ProcessMade). AreWithin (lines_in block) (lines_of_each made)) (was_made block made e)
+    (subst (AreWithin (lines_in block)) (all_lines_told ss)
+    (all_by_in (λ (ks : List ℕ). All (λ k. Contains (lines_in block) k) ks) (map (λ t. t.1) (all_told ss))
+    (λ ks i.
+    let t = in_by_map (λ (t : Told). t.1) (all_told ss) ks i in
+    all_by_in (λ (k : ℕ). Contains (lines_in block) k) ks
+    (λ k j.
+    let s = each_spoken ss t.0 t.1 k (subst (λ (ks : List ℕ). In k ks) (sym t.2) j) in
+    contains_by_in (lines_in block) k (subst (λ (k : ℕ). In k (lines_in block)) s.2 (in_block block s.0 s.1))))))
+
+increases : (ks : List ℕ) → Pairs (λ a b. a < b) ks → IsStrictlyIncreasing ks
+increases ks up = λ k within. all_pairs (λ a b. a < b) ks up k (k + 1) 0 (omega arith) within
+
+pub ascend : (block : List Numbered) (made : ProcessMade) → process_in block ≡ Ok made → IsStrictlyIncreasing (lines_in block) → Ascend (lines_of_each made)
+ascend block made e up =
+    let ss = statements_in line_says block in
+    subst (λ (made : ProcessMade). Ascend (lines_of_each made)) (was_made block made e)
+    (subst Ascend (all_lines_told ss)
+    (all_by_in (λ (ks : List ℕ). IsStrictlyIncreasing ks) (map (λ t. t.1) (all_told ss))
+    (λ ks i. let t = in_by_map (λ (t : Told). t.1) (all_told ss) ks i in increases ks (subst (Pairs (λ a b. a < b)) t.2 (each_ascends ss (statements_ascend block up) t.0 t.1)))))
+
+pub are_apart : (block : List Numbered) (made : ProcessMade) → process_in block ≡ Ok made → IsStrictlyIncreasing (lines_in block) → AreApart (lines_of_each made)
+are_apart block made e up =
+    let ss = statements_in line_says block in
+    subst (λ (made : ProcessMade). AreApart (lines_of_each made)) (was_made block made e)
+    (subst AreApart (all_lines_told ss)
+    (all_pairs (λ p q. (line : ℕ) → Contains p line → Contains q line → ⊥) (map (λ t. t.1) (all_told ss))
+    (pairs_map (λ (t : Told). t.1) (λ (t u : Told). t.0 ≢ u.0) (λ p q. (line : ℕ) → Contains p line → Contains q line → ⊥) (all_told ss)
+    (λ t u i j differ k c d.
+    let a = each_spoken ss t i k (in_by_contains t.1 k c) in
+    let b = each_spoken ss u j k (in_by_contains u.1 k d) in
+    let one : a.0 ≡ b.0 = one_of_line ss (statements_ascend block up) a.0 b.0 a.1 b.1 (a.2 ∙ sym b.2) in
+    differ (sym a.3 ∙ ap (λ (s : Stated ProcessSays). topic_of s.setting) one ∙ b.3))
+    (topics_apart ss))))
+
+-- things that are made of groups have keys of their own
+keys_apart : {K V X : Type 0} (same : K → K → Bool) → IsSame same → (f : Group K V → X) (R : X → X → Type 0) (ps : List (Keyed K V)) → ((g h : Group K V) → g.key ≢ h.key → R (f g) (f h)) → Pairs R (map f (groups same ps))
+keys_apart {K} {V} same is f R ps to = pairs_map f (λ (g h : Group K V). g.key ≢ h.key) R (groups same ps) (λ g h hg hh differ. to g h differ) (groups_keys same is ps)
+
+pub well_formed : (block : List Numbered) (made : ProcessMade) → process_in block ≡ Ok made → IsProcess made.process
+well_formed block made e =
+    let ss = statements_in line_says block in
+    let fields = fields_in ss in
+    subst (λ (made : ProcessMade). IsProcess made.process) (was_made block made e)
+    (record {
+      neighbors =
+          all_pairs (λ (m n : Neighbor). m.addr.0 ≢ n.addr.0) (made_of ss).process.neighbors
+          (pairs_map neighbor_of (λ a b. a.0 ≢ b.0) (λ m n. m.addr.0 ≢ n.addr.0) fields.neighbors (λ a b ha hb differ same. differ (ap (λ (n : ℕ). record { 0 = n }) same))
+          (keys_apart same_addr addrs_same (λ g. (g.key, neighbor_in g.values)) (λ a b. a.0 ≢ b.0) (filter_map near ss) (λ g h differ. differ)));
+      networks =
+          all_pairs (λ (m n : NetworkStatement). m.prefix ≢ n.prefix) (made_of ss).process.networks
+          (pairs_map network_of (λ a b. a.0 ≢ b.0) (λ m n. m.prefix ≢ n.prefix) fields.networks (λ a b ha hb differ. differ)
+          (keys_apart same_prefix prefixes_same (λ g. (g.key, prefix_in g.values)) (λ a b. a.0 ≢ b.0) (filter_map origin ss) (λ g h differ. differ)));
+      aggregates =
+          all_pairs (λ (m n : AggregateStatement). m.prefix ≢ n.prefix) (made_of ss).process.aggregates
+          (pairs_map aggregate_of (λ a b. a.0 ≢ b.0) (λ m n. m.prefix ≢ n.prefix) fields.aggregates (λ a b ha hb differ. differ)
+          (keys_apart same_prefix prefixes_same (λ g. (g.key, prefix_in g.values)) (λ a b. a.0 ≢ b.0) (filter_map summary ss) (λ g h differ. differ)));
+      paths = few_paths block;
+    })
