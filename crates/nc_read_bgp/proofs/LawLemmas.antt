@@ -1,10 +1,11 @@
 -- The things of a process: their keys, and the lines of each.
-use Rattle.std.proofs.Common.{◌≡◌, ℕ, ◌+◌, ◌<◌, Bool, false, List, [], ◌∷◌, ◌++◌, length, map, Option, Some, None, Ok, Err, All, Contains, refl, sym, ap, ◌∙◌, subst, arith, inl, inr}
-use Rattle.std.specs.Prelude.{◌≢◌}
-use Rattle.std.specs.List.{filter_map, cons_option}
+use Rattle.std.proofs.Common.{◌≡◌, ℕ, ◌+◌, ◌<◌, Bool, false, cond, List, [], ◌∷◌, ◌++◌, length, map, Option, Some, None, Ok, Err, All, Contains, refl, sym, ap, ◌∙◌, subst, arith, inl, inr}
+use Rattle.std.specs.Prelude.{◌≢◌, unwrap_or}
+use Rattle.std.specs.List.{filter_map, last_or, cons_option}
 use Rattle.std.specs.List.Sorted.{IsStrictlyIncreasing}
 use Rattle.std.specs.Option.{option_map, option_map_or}
-use Rattle.std.proofs.lemmas.List.{map-append}
+use Rattle.std.proofs.lemmas.Bool.{cases_Bool}
+use Rattle.std.proofs.lemmas.List.{map-append, length-map}
 use Rattle.std.proofs.lemmas.List.Kept.{AllPairs-from_increasing}
 use Rattle.std.proofs.lemmas.Simd.{map-map}
 use Rattle.nc_types.specs.Cidr.{Cidr, same_prefix}
@@ -14,20 +15,21 @@ use Rattle.nc_types.specs.declared.fault.Fault.{Fault}
 use Rattle.nc_types.specs.declared.config.Neighbor.{Neighbor}
 use Rattle.nc_types.specs.declared.config.NetworkStatement.{NetworkStatement}
 use Rattle.nc_types.specs.declared.config.AggregateStatement.{AggregateStatement}
-use Rattle.nc_types.proofs.Members.{In, in_by_contains, contains_by_in, all_by_in, in_either, in_map, in_by_map, in_by_filter_map}
+use Rattle.nc_types.proofs.Members.{In, some_in, in_by_contains, contains_by_in, all_in, all_by_in, in_either, in_map, in_by_map, in_by_filter_map}
 use Rattle.nc_lines.specs.Groups.{Keyed, Group, groups}
+use Rattle.nc_lines.specs.Lines.{words_of, is_indented}
 use Rattle.nc_lines.specs.Outcomes.{lower_of}
-use Rattle.nc_lines.specs.Statements.{Reading, Says, said_of}
+use Rattle.nc_lines.specs.Statements.{Reading, Outside, Faulty, Says, said_as, said_of}
 use Rattle.nc_lines.specs.Parts.{Numbered, Stated, fault_in, statements_in}
 use Rattle.nc_lines.proofs.Pairs.{Pairs, all_pairs, pairs_all, pairs_weaker, pairs_map, pairs_by_map, pairs_kept, pairs_append, pairs_either}
 use Rattle.nc_lines.proofs.PartLemmas.{kept}
 use Rattle.nc_lines.proofs.Grouping.{IsSame, grouped, groups_keys, group_pairs, has_grouped}
-use Rattle.nc_read_bgp.specs.Statements.{NeighborSays, ProcessSays, Opens, Originates, Aggregates, Of, line_says}
+use Rattle.nc_read_bgp.specs.Statements.{NeighborSays, ProcessSays, Opens, Originates, Aggregates, Of, header_says, statement_says, line_says}
 use Rattle.nc_read_bgp.specs.Neighbors.{neighbor_in}
-use Rattle.nc_read_bgp.specs.Processes.{prefix_in, ProcessMade, fields_in, process_of, process_in, lack_in, same_addr, own_by, neighbor_by, network_by, aggregate_by, neighbor_of, network_of, aggregate_of}
-use Rattle.nc_read_bgp.specs.Laws.{lines_in, lines_of_things, lines_of_each, HaveLines, AreWithin, Ascend, AreApart}
+use Rattle.nc_read_bgp.specs.Processes.{prefix_in, ProcessMade, fields_in, process_of, process_in, lack_in, same_addr, asn_by, own_by, neighbor_by, network_by, aggregate_by, neighbor_of, network_of, aggregate_of}
+use Rattle.nc_read_bgp.specs.Laws.{lines_in, lines_of_things, lines_of_each, IsBlockOf, HaveLinesBeside, HaveLines, AreWithin, Ascend, AreApart}
 use Rattle.nc_read_bgp.proofs.ProcessLemmas.{addrs_same, prefixes_same}
-use Rattle.nc_read_bgp.proofs.PathLemmas.{few_paths}
+use Rattle.nc_read_bgp.proofs.StatementLemmas.{opens_nothing, few_paths}
 
 -- ---- statements and their lines
 
@@ -326,13 +328,92 @@ in_kept f [] x y i e = absurd i
 in_kept {X} {Y} f (z ∷ xs) x y (inl same) e = subst (In y) (sym (kept f z y xs (ap f same ∙ e))) (inl refl)
 in_kept f (z ∷ xs) x y (inr later) e = in_more (f z) (filter_map f xs) y (in_kept f xs x y later e)
 
-pub header_stands : (block : List Numbered) (made : ProcessMade) → process_in block ≡ Ok made → (l : Numbered) (asn : ℕ) → Contains block l → line_says l ≡ Says (Opens asn) → Contains made.own l.line
-header_stands block made e l asn within opens =
+-- the statement of a header
+header_stated : (block : List Numbered) (l : Numbered) (asn : ℕ) → Contains block l → line_says l ≡ Says (Opens asn) → In (record { line = l.line; setting = Opens asn }) (statements_in line_says block)
+header_stated block l asn within opens =
+    in_kept stated_at block l (record { line = l.line; setting = Opens asn }) (in_by_contains block l within)
+    (ap (λ (r : Reading ProcessSays). option_map (λ s. record { line = l.line; setting = s }) (said_of r)) opens)
+
+-- beside each thing stand its lines
+pub have_lines_beside : (block : List Numbered) (made : ProcessMade) → process_in block ≡ Ok made → HaveLinesBeside made
+have_lines_beside block made e =
+    let fields = fields_in (statements_in line_says block) in
+    subst HaveLinesBeside (was_made block made e)
+    (record {
+      neighbors = length-map fields.neighbors (λ e. e.1.lines) ∙ sym (length-map fields.neighbors neighbor_of);
+      networks = length-map fields.networks (λ e. e.1.lines) ∙ sym (length-map fields.networks network_of);
+      aggregates = length-map fields.aggregates (λ e. e.1.lines) ∙ sym (length-map fields.aggregates aggregate_of);
+    })
+
+-- ---- the number of a process
+
+says_of : (n : ℕ) (r : Reading ProcessSays) (s : Stated ProcessSays) → option_map (λ (s : ProcessSays). record { line = n; setting = s }) (said_of r) ≡ Some s → r ≡ Says s.setting
+says_of n Outside s e = absurd (cc)
+says_of n (Faulty cause) s e = absurd (cc)
+says_of n (Says t) s e =
+    let same : record { line = n; setting = t } ≡ s = cc in
+    ap (λ (s : Stated ProcessSays). Says s.setting) same
+
+opens_by : (s : ProcessSays) (n : ℕ) → asn_by s ≡ Some n → s ≡ Opens n
+opens_by (Opens m) n e = cc
+opens_by s n e = absurd (cc)
+
+-- the last of numbers that are all one
+last_is : (o : Option ℕ) (ks : List ℕ) (n : ℕ) → unwrap_or o 0 ≡ n → ((k : ℕ) → In k ks → k ≡ n) → unwrap_or (last_or o ks) 0 ≡ n
+last_is o [] n is each = is
+last_is o (k ∷ ks) n is each = last_is (Some k) ks n (each k (inl refl)) (λ j i. each j (inr i))
+
+last_is_one : (ks : List ℕ) (n : ℕ) → In n ks → ((k : ℕ) → In k ks → k ≡ n) → unwrap_or (last_or None ks) 0 ≡ n
+last_is_one [] n i each = absurd i
+last_is_one (k ∷ ks) n i each = last_is (Some k) ks n (each k (inl refl)) (λ j i. each j (inr i))
+
+-- ---- the block of a file
+
+header_opens : (l : Numbered) (asn : ℕ) → is_indented l.text ≡ false → header_says (words_of l.text) ≡ Says asn → line_says l ≡ Says (Opens asn)
+header_opens l asn outer says =
+    let opened : Reading ℕ → Reading ProcessSays = λ r. said_as (λ n. Opens n) r in
+    ap (λ (b : Bool). cond b (statement_says (words_of l.text)) (opened (header_says (words_of l.text)))) outer ∙ ap opened says
+
+one_number : (r : Reading ProcessSays) (m n : ℕ) → r ≡ Says (Opens m) → r ≡ Says (Opens n) → n ≡ m
+one_number r m n e f = let same : Says (Opens m) ≡ Says (Opens n) = sym e ∙ f in cc
+
+-- what opens a process in its block has its number
+opens_it : (l : Numbered) (asn n : ℕ) → (is_indented l.text ≡ false → header_says (words_of l.text) ≡ Says asn) → line_says l ≡ Says (Opens n) → n ≡ asn
+opens_it l asn n header opens =
+    elim (cases_Bool (is_indented l.text)) [
+      | inl inner ↦ absurd (opens_nothing (words_of l.text) n (sym (ap (λ (b : Bool). cond b (statement_says (words_of l.text)) (said_as (λ n. Opens n) (header_says (words_of l.text)))) inner) ∙ opens))
+      | inr outer ↦ one_number (line_says l) asn n (header_opens l asn outer (header outer)) opens
+    ]
+
+-- the statement of its first line
+first_stated : (asn : ℕ) (block : List Numbered) → IsBlockOf asn block → (n : ℕ) × In (record { line = n; setting = Opens asn }) (statements_in line_says block)
+first_stated asn [] is = absurd is
+first_stated asn (l ∷ block) is =
+    (l.line, header_stated (l ∷ block) l asn (contains_by_in (l ∷ block) l (inl refl)) (header_opens l asn is.0 (all_in (λ (l : Numbered). is_indented l.text ≡ false → header_says (words_of l.text) ≡ Says asn) (l ∷ block) is.1 l (inl refl) is.0)))
+
+block_headers : (asn : ℕ) (block : List Numbered) → IsBlockOf asn block → (l : Numbered) → In l block → is_indented l.text ≡ false → header_says (words_of l.text) ≡ Says asn
+block_headers asn [] is l i = absurd is
+block_headers asn (m ∷ block) is l i = all_in (λ (l : Numbered). is_indented l.text ≡ false → header_says (words_of l.text) ≡ Says asn) (m ∷ block) is.1 l i
+
+pub own_line : (asn : ℕ) (block : List Numbered) (made : ProcessMade) → process_in block ≡ Ok made → IsBlockOf asn block → 0 < length made.own
+own_line asn block made e is =
     let ss = statements_in line_says block in
-    let s : Stated ProcessSays = record { line = l.line; setting = Opens asn } in
-    let stated : In s ss = in_kept stated_at block l s (in_by_contains block l within) (ap (λ (r : Reading ProcessSays). option_map (λ s. record { line = l.line; setting = s }) (said_of r)) opens) in
-    subst (λ (made : ProcessMade). Contains made.own l.line) (was_made block made e)
-    (contains_by_in (own_lines ss) l.line (in_kept (λ (s : Stated ProcessSays). own_by s.line s.setting) ss s l.line stated refl))
+    let first = first_stated asn block is in
+    subst (λ (made : ProcessMade). 0 < length made.own) (was_made block made e)
+    (some_in (own_lines ss) first.0 (in_kept (λ (s : Stated ProcessSays). own_by s.line s.setting) ss (record { line = first.0; setting = Opens asn }) first.0 first.1 refl))
+
+pub own_number : (asn : ℕ) (block : List Numbered) (made : ProcessMade) → process_in block ≡ Ok made → IsBlockOf asn block → made.process.asn ≡ asn
+own_number asn block made e is =
+    let ss = statements_in line_says block in
+    let first = first_stated asn block is in
+    let numbers = filter_map (λ (s : Stated ProcessSays). asn_by s.setting) ss in
+    let some : In asn numbers = in_kept (λ (s : Stated ProcessSays). asn_by s.setting) ss (record { line = first.0; setting = Opens asn }) asn first.1 refl in
+    subst (λ (made : ProcessMade). made.process.asn ≡ asn) (was_made block made e)
+    (last_is_one numbers asn some
+    (λ k i.
+    let s = in_by_filter_map (λ (s : Stated ProcessSays). asn_by s.setting) ss k i in
+    let m = in_by_filter_map stated_at block s.0 s.1 in
+    opens_it m.0 asn k (block_headers asn block is m.0 m.1) (says_of m.0.line (line_says m.0) s.0 m.2 ∙ ap (λ (s : ProcessSays). Says s) (opens_by s.0.setting k s.2))))
 
 pub are_within : (block : List Numbered) (made : ProcessMade) → process_in block ≡ Ok made → AreWithin (lines_in block) (lines_of_each made)
 are_within block made e =

@@ -3,6 +3,6 @@ mod GroupLemmas
 mod FieldLemmas
 mod ProcessLemmas
 mod Finished
-mod PathLemmas
+mod StatementLemmas
 mod LawLemmas
 mod LowestLemmas

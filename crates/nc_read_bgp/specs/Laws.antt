@@ -1,13 +1,14 @@
 -- What holds of each process that lines make.
-use Rattle.std.specs.Prelude.{ℕ, ◌<◌, List, ◌∷◌, ◌++◌, length, map, Result, Ok, Err, All, Contains}
+use Rattle.std.specs.Prelude.{◌≡◌, ℕ, ◌<◌, false, List, [], ◌∷◌, ◌++◌, length, map, Result, Ok, Err, All, Contains}
 use Rattle.std.specs.List.{filter_map, AllPairs}
 use Rattle.std.specs.List.Sorted.{IsStrictlyIncreasing}
 use Rattle.std.specs.Option.{option_map, option_map_or}
 use Rattle.nc_types.specs.Faults.{lowest}
 use Rattle.nc_types.specs.declared.fault.Fault.{Fault}
-use Rattle.nc_lines.specs.Statements.{fault_of}
+use Rattle.nc_lines.specs.Lines.{words_of, is_indented}
+use Rattle.nc_lines.specs.Statements.{Says, fault_of}
 use Rattle.nc_lines.specs.Parts.{Numbered, statements_in}
-use Rattle.nc_read_bgp.specs.Statements.{line_says}
+use Rattle.nc_read_bgp.specs.Statements.{header_says, line_says}
 use Rattle.nc_read_bgp.specs.Processes.{ProcessMade, fields_in, lack_of, process_of}
 
 -- the lines of a block
@@ -21,6 +22,17 @@ lines_of_things made = made.neighbors ++ (made.networks ++ made.aggregates)
 -- and before them those of the process itself
 abbrev pub lines_of_each : ProcessMade → List (List ℕ)
 lines_of_each made = made.own ∷ lines_of_things made
+
+-- the lines of the process of this number: the first isn't indented, and each that isn't is a header with the number
+abbrev pub IsBlockOf : ℕ → List Numbered → Type 0
+IsBlockOf asn [] = ⊥
+IsBlockOf asn (l ∷ block) = (is_indented l.text ≡ false) × All (λ l. is_indented l.text ≡ false → header_says (words_of l.text) ≡ Says asn) (l ∷ block)
+
+-- beside each neighbor, network and aggregate stand its lines
+pub record HaveLinesBeside (made : ProcessMade) : Type 0 where
+  pub neighbors : length made.neighbors ≡ length made.process.neighbors
+  pub networks : length made.networks ≡ length made.process.networks
+  pub aggregates : length made.aggregates ≡ length made.process.aggregates
 
 -- each of these has a line
 abbrev pub HaveLines : List (List ℕ) → Type 0
