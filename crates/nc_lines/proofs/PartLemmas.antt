@@ -1,11 +1,11 @@
--- What a line in front of others adds to what they say.
+-- What a line says as a statement, and what it adds in front of others to what they say.
 use Rattle.std.proofs.Common.{◌≡◌, List, [], ◌∷◌, Option, Some, None, refl, ap, ◌∙◌}
 use Rattle.std.specs.Prelude.{unwrap_or}
 use Rattle.std.specs.List.{filter_map, last_or, cons_option}
 use Rattle.std.specs.Option.{option_map}
 use Rattle.nc_types.specs.declared.fault.Fault.{Fault}
 use Rattle.nc_types.specs.declared.fault.Cause.{Cause}
-use Rattle.nc_lines.specs.Statements.{Reading, Faulty, Says, fault_of, said_of}
+use Rattle.nc_lines.specs.Statements.{Reading, Outside, Faulty, Says, fault_of, said_of}
 use Rattle.nc_lines.specs.Parts.{Numbered, Stated, first_of, fault_in, statements_in}
 
 -- ---- lists
@@ -27,8 +27,16 @@ last_from x (y ∷ ys) = refl
 abbrev fault_by : {S : Type 0} → Numbered → Reading S → Option Fault
 fault_by l r = option_map (λ (cause : Cause). record { line = l.line; cause = cause }) (fault_of r)
 
-abbrev stated_by : {S : Type 0} → Numbered → Reading S → Option (Stated S)
+abbrev pub stated_by : {S : Type 0} → Numbered → Reading S → Option (Stated S)
 stated_by {S} l r = option_map (λ (s : S). record { line = l.line; setting = s }) (said_of r)
+
+-- a statement has the line, and is what the line says
+pub stated_is : {S : Type 0} (l : Numbered) (r : Reading S) (s : Stated S) → stated_by l r ≡ Some s → (l.line ≡ s.line) × (r ≡ Says s.setting)
+stated_is l Outside s e = absurd (cc)
+stated_is l (Faulty cause) s e = absurd (cc)
+stated_is {S} l (Says t) s e =
+    let same : record { line = l.line; setting = t } ≡ s = cc in
+    (ap (λ (s : Stated S). s.line) same, ap (λ (s : Stated S). Says s.setting) same)
 
 pub no_fault : {S : Type 0} (says : Numbered → Reading S) (l : Numbered) (block : List Numbered) (r : Reading S) → says l ≡ r → fault_by l r ≡ None → fault_in says (l ∷ block) ≡ fault_in says block
 no_fault says l block r e none = ap (λ (fs : List Fault). first_of fs) (passed (λ (l : Numbered). fault_by l (says l)) l block (ap (fault_by l) e ∙ none))

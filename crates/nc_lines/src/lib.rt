@@ -4,7 +4,8 @@
 //! number, an address or a prefix; a statement is told by the words that it begins with. Beside std the crate
 //! stands on `nc_types`, and on `memchr` for line feeds. Its contract promises that the lines, the words and the
 //! numbers are those of the definitions in `specs/`, which also say which lines belong to a banner, in which
-//! block an indented line stands, and what the lines of a part of a file say by a rule for one line.
+//! block an indented line stands, what the lines of a part of a file say by a rule for one line, and how what
+//! they say is grouped by a key.
 #![tactic(auto)]
 
 pub mod banner;

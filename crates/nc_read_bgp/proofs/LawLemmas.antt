@@ -3,7 +3,7 @@ use Rattle.std.proofs.Common.{◌≡◌, ℕ, ◌+◌, ◌<◌, Bool, false, con
 use Rattle.std.specs.Prelude.{◌≢◌, unwrap_or}
 use Rattle.std.specs.List.{filter_map, last_or, cons_option}
 use Rattle.std.specs.List.Sorted.{IsStrictlyIncreasing}
-use Rattle.std.specs.Option.{option_map, option_map_or}
+use Rattle.std.specs.Option.{option_map_or}
 use Rattle.std.proofs.lemmas.Bool.{cases_Bool}
 use Rattle.std.proofs.lemmas.List.{map-append, length-map}
 use Rattle.std.proofs.lemmas.List.Kept.{AllPairs-from_increasing}
@@ -19,10 +19,10 @@ use Rattle.nc_types.proofs.Members.{In, some_in, in_by_contains, contains_by_in,
 use Rattle.nc_lines.specs.Groups.{Keyed, Group, groups}
 use Rattle.nc_lines.specs.Lines.{words_of, is_indented}
 use Rattle.nc_lines.specs.Outcomes.{lower_of}
-use Rattle.nc_lines.specs.Statements.{Reading, Outside, Faulty, Says, said_as, said_of}
+use Rattle.nc_lines.specs.Statements.{Reading, Says, said_as}
 use Rattle.nc_lines.specs.Parts.{Numbered, Stated, fault_in, statements_in}
 use Rattle.nc_lines.proofs.Pairs.{Pairs, all_pairs, pairs_all, pairs_weaker, pairs_map, pairs_by_map, pairs_kept, pairs_append, pairs_either}
-use Rattle.nc_lines.proofs.PartLemmas.{kept}
+use Rattle.nc_lines.proofs.PartLemmas.{kept, stated_by, stated_is}
 use Rattle.nc_lines.proofs.Grouping.{IsSame, grouped, groups_keys, group_pairs, has_grouped}
 use Rattle.nc_read_bgp.specs.Statements.{NeighborSays, ProcessSays, Opens, Originates, Aggregates, Of, header_says, statement_says, line_says}
 use Rattle.nc_read_bgp.specs.Neighbors.{neighbor_in}
@@ -38,16 +38,12 @@ LineAscend ss = Pairs (λ s t. s.line < t.line) ss
 
 -- what a line says, with its number
 abbrev stated_at : Numbered → Option (Stated ProcessSays)
-stated_at l = option_map (λ s. record { line = l.line; setting = s }) (said_of (line_says l))
-
-stated_line : {S : Type 0} (n : ℕ) (o : Option S) (t : Stated S) → option_map (λ (s : S). record { line = n; setting = s }) o ≡ Some t → n ≡ t.line
-stated_line n None t e = absurd (cc)
-stated_line n (Some s) t e = cc
+stated_at l = stated_by l (line_says l)
 
 in_block : (block : List Numbered) (s : Stated ProcessSays) → In s (statements_in line_says block) → In s.line (lines_in block)
 in_block block s i =
     let l = in_by_filter_map stated_at block s i in
-    subst (λ (k : ℕ). In k (lines_in block)) (stated_line l.0.line (said_of (line_says l.0)) s l.2) (in_map (λ (l : Numbered). l.line) block l.0 l.1)
+    subst (λ (k : ℕ). In k (lines_in block)) (stated_is l.0 (line_says l.0) s l.2).0 (in_map (λ (l : Numbered). l.line) block l.0 l.1)
 
 pub block_ascends : (block : List Numbered) → IsStrictlyIncreasing (lines_in block) → Pairs (λ l m. l.line < m.line) block
 block_ascends block up =
@@ -57,7 +53,7 @@ pub statements_ascend : (block : List Numbered) → IsStrictlyIncreasing (lines_
 statements_ascend block up =
     pairs_kept stated_at (λ (l m : Numbered). l.line < m.line) (λ (s t : Stated ProcessSays). s.line < t.line) block
     (λ l m s t hl hm less e f.
-    subst (λ (k : ℕ). k < t.line) (stated_line l.line (said_of (line_says l)) s e) (subst (λ (k : ℕ). l.line < k) (stated_line m.line (said_of (line_says m)) t f) less))
+    subst (λ (k : ℕ). k < t.line) (stated_is l (line_says l) s e).0 (subst (λ (k : ℕ). l.line < k) (stated_is m (line_says m) t f).0 less))
     (block_ascends block up)
 
 -- statements of one line are one
@@ -332,7 +328,7 @@ in_kept f (z ∷ xs) x y (inr later) e = in_more (f z) (filter_map f xs) y (in_k
 header_stated : (block : List Numbered) (l : Numbered) (asn : ℕ) → Contains block l → line_says l ≡ Says (Opens asn) → In (record { line = l.line; setting = Opens asn }) (statements_in line_says block)
 header_stated block l asn within opens =
     in_kept stated_at block l (record { line = l.line; setting = Opens asn }) (in_by_contains block l within)
-    (ap (λ (r : Reading ProcessSays). option_map (λ s. record { line = l.line; setting = s }) (said_of r)) opens)
+    (ap (stated_by l) opens)
 
 -- beside each thing stand its lines
 pub have_lines_beside : (block : List Numbered) (made : ProcessMade) → process_in block ≡ Ok made → HaveLinesBeside made
@@ -346,13 +342,6 @@ have_lines_beside block made e =
     })
 
 -- ---- the number of a process
-
-says_of : (n : ℕ) (r : Reading ProcessSays) (s : Stated ProcessSays) → option_map (λ (s : ProcessSays). record { line = n; setting = s }) (said_of r) ≡ Some s → r ≡ Says s.setting
-says_of n Outside s e = absurd (cc)
-says_of n (Faulty cause) s e = absurd (cc)
-says_of n (Says t) s e =
-    let same : record { line = n; setting = t } ≡ s = cc in
-    ap (λ (s : Stated ProcessSays). Says s.setting) same
 
 opens_by : (s : ProcessSays) (n : ℕ) → asn_by s ≡ Some n → s ≡ Opens n
 opens_by (Opens m) n e = cc
@@ -413,7 +402,7 @@ own_number asn block made e is =
     (λ k i.
     let s = in_by_filter_map (λ (s : Stated ProcessSays). asn_by s.setting) ss k i in
     let m = in_by_filter_map stated_at block s.0 s.1 in
-    opens_it m.0 asn k (block_headers asn block is m.0 m.1) (says_of m.0.line (line_says m.0) s.0 m.2 ∙ ap (λ (s : ProcessSays). Says s) (opens_by s.0.setting k s.2))))
+    opens_it m.0 asn k (block_headers asn block is m.0 m.1) ((stated_is m.0 (line_says m.0) s.0 m.2).1 ∙ ap (λ (s : ProcessSays). Says s) (opens_by s.0.setting k s.2))))
 
 pub are_within : (block : List Numbered) (made : ProcessMade) → process_in block ≡ Ok made → AreWithin (lines_in block) (lines_of_each made)
 are_within block made e =

@@ -1,5 +1,5 @@
 -- What the lines of a process may say: an indented one is no header, and the routes that are used at once are no more than they may be.
-use Rattle.std.proofs.Common.{◌≡◌, ℕ, zero, suc, ◌≤◌, Bool, true, false, ◌&&◌, ◌==◌, cond, nat_le, List, [], ◌∷◌, Option, Some, None, refl, ap, subst, arith, inl, inr}
+use Rattle.std.proofs.Common.{◌≡◌, ℕ, zero, suc, ◌≤◌, Bool, true, false, ◌&&◌, ◌==◌, cond, nat_le, List, [], ◌∷◌, Option, Some, None, refl, subst, arith, inl, inr}
 use Rattle.std.specs.Prelude.{unwrap_or, option_and_then, codes}
 use Rattle.std.specs.Str.{bytes_eq}
 use Rattle.std.specs.List.{filter_map, last_or}
@@ -11,8 +11,9 @@ use Rattle.nc_types.proofs.Members.{In, in_by_filter_map}
 use Rattle.nc_types.specs.declared.fault.Cause.TheVariants.{Syntax, Unsupported}
 use Rattle.nc_lines.specs.Lines.{words_of, is_indented}
 use Rattle.nc_lines.specs.Numbers.{is_plain, value_after, number_of, address_of, masked_prefix}
-use Rattle.nc_lines.specs.Statements.{Reading, Outside, Faulty, Says, said_of, after, alone_says, or_syntax, said_as}
+use Rattle.nc_lines.specs.Statements.{Reading, Outside, Faulty, Says, after, alone_says, or_syntax, said_as}
 use Rattle.nc_lines.specs.Parts.{Numbered, Stated, statements_in}
+use Rattle.nc_lines.proofs.PartLemmas.{stated_by, stated_is}
 use Rattle.nc_read_bgp.specs.Prefixes.{class_prefix}
 use Rattle.nc_read_bgp.specs.Statements.{NeighborSays, ProcessSays, Opens, RouterId, MaxPaths, Relax, Agrees, Aggregates, Of, or_unsupported, header_says, router_id_says, bestpath_says, max_paths_says, family_says, originates, masked_says, network_says, aggregates, summary_says, aggregate_says, neighbor_says, any_neighbor_says, is_unsupported, statement_says, text_says, line_says}
 use Rattle.nc_read_bgp.specs.Processes.{max_paths_by, fields_in}
@@ -180,13 +181,6 @@ text_few text =
     cond_both (is_indented text) (statement_says (words_of text)) (said_as (λ (n : ℕ). Opens n) (header_says (words_of text))) ReadsFew (λ inner. few_inside (statement_says (words_of text)) (statement_inside (words_of text)))
     (λ outer. header_few (header_says (words_of text)))
 
-said_few : (n : ℕ) (r : Reading ProcessSays) (s : Stated ProcessSays) → ReadsFew r → option_map (λ (s : ProcessSays). record { line = n; setting = s }) (said_of r) ≡ Some s → SaysFew s.setting
-said_few n Outside s few e = absurd (cc)
-said_few n (Faulty cause) s few e = absurd (cc)
-said_few n (Says t) s few e =
-    let same : record { line = n; setting = t } ≡ s = cc in
-    subst SaysFew (ap (λ (s : Stated ProcessSays). s.setting) same) few
-
 number_few : (s : ProcessSays) (k : ℕ) → max_paths_by s ≡ Some k → SaysFew s → IsFew k
 number_few (MaxPaths n) k e few = let same : n ≡ k = cc in subst IsFew same few
 number_few s k e few = absurd (cc)
@@ -201,5 +195,5 @@ few_paths block =
     last_few None (filter_map (λ (s : Stated ProcessSays). max_paths_by s.setting) ss) (omega arith, omega arith)
     (λ k i.
     let r = in_by_filter_map (λ (s : Stated ProcessSays). max_paths_by s.setting) ss k i in
-    let l = in_by_filter_map (λ (l : Numbered). option_map (λ (s : ProcessSays). record { line = l.line; setting = s }) (said_of (line_says l))) block r.0 r.1 in
-    number_few r.0.setting k r.2 (said_few l.0.line (line_says l.0) r.0 (text_few l.0.text) l.2))
+    let l = in_by_filter_map (λ (l : Numbered). stated_by l (line_says l)) block r.0 r.1 in
+    number_few r.0.setting k r.2 (subst ReadsFew (stated_is l.0 (line_says l.0) r.0 l.2).1 (text_few l.0.text)))
