@@ -15,6 +15,10 @@ pub record Numbered : Type 0 where
 abbrev pub numbered : List (List ℕ) → List ℕ → List Numbered
 numbered lines ks = map (λ k. record { line = k; text = line_at k lines }) ks
 
+-- the numbers of the lines of a part
+abbrev pub lines_in : List Numbered → List ℕ
+lines_in block = map (λ l. l.line) block
+
 -- a line with what it says
 pub record Stated (S : Type 0) : Type 0 where
   pub line : ℕ

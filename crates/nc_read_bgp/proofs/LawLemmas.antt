@@ -20,14 +20,14 @@ use Rattle.nc_lines.specs.Groups.{Keyed, Group, groups}
 use Rattle.nc_lines.specs.Lines.{words_of, is_indented}
 use Rattle.nc_lines.specs.Outcomes.{lower_of}
 use Rattle.nc_lines.specs.Statements.{Reading, Says, said_as}
-use Rattle.nc_lines.specs.Parts.{Numbered, Stated, fault_in, statements_in}
+use Rattle.nc_lines.specs.Parts.{Numbered, lines_in, Stated, fault_in, statements_in}
 use Rattle.nc_lines.proofs.Pairs.{Pairs, all_pairs, pairs_all, pairs_weaker, pairs_map, pairs_by_map, pairs_kept, pairs_append, pairs_either}
 use Rattle.nc_lines.proofs.PartLemmas.{kept, stated_by, stated_is}
 use Rattle.nc_lines.proofs.Grouping.{IsSame, grouped, groups_keys, group_pairs, has_grouped}
 use Rattle.nc_read_bgp.specs.Statements.{NeighborSays, ProcessSays, Opens, Originates, Aggregates, Of, header_says, statement_says, line_says}
 use Rattle.nc_read_bgp.specs.Neighbors.{neighbor_in}
 use Rattle.nc_read_bgp.specs.Processes.{prefix_in, ProcessMade, fields_in, process_of, process_in, lack_in, same_addr, asn_by, own_by, neighbor_by, network_by, aggregate_by, neighbor_of, network_of, aggregate_of}
-use Rattle.nc_read_bgp.specs.Laws.{lines_in, lines_of_things, lines_of_each, IsBlockOf, HaveLinesBeside, HaveLines, AreWithin, Ascend, AreApart}
+use Rattle.nc_read_bgp.specs.Laws.{lines_of_things, lines_of_each, IsBlockOf, HaveLinesBeside, HaveLines, AreWithin, Ascend, AreApart}
 use Rattle.nc_read_bgp.proofs.ProcessLemmas.{addrs_same, prefixes_same}
 use Rattle.nc_read_bgp.proofs.StatementLemmas.{opens_nothing, few_paths}
 

@@ -4,5 +4,5 @@ mod FieldLemmas
 mod ProcessLemmas
 mod Finished
 mod StatementLemmas
-mod LawLemmas
-mod LowestLemmas
+pub mod LawLemmas
+pub mod LowestLemmas

@@ -14,7 +14,7 @@ use Rattle.nc_types.proofs.Members.{In, in_by_map}
 use Rattle.nc_lines.specs.Groups.{Keyed, Group, groups, changed_at}
 use Rattle.nc_lines.specs.Outcomes.{lower_of}
 use Rattle.nc_lines.specs.Statements.{fault_of}
-use Rattle.nc_lines.specs.Parts.{Numbered, Stated, first_of, statements_in}
+use Rattle.nc_lines.specs.Parts.{Numbered, lines_in, Stated, first_of, statements_in}
 use Rattle.nc_lines.proofs.FaultLemmas.{lowest_append, lowest_first}
 use Rattle.nc_lines.proofs.GroupLemmas.{keys_of, grown, groups-known, groups-new}
 use Rattle.nc_lines.proofs.Grouping.{IsSame, equiv_of, grouped, has_grouped}
@@ -22,7 +22,7 @@ use Rattle.nc_lines.proofs.Pairs.{Pairs, pairs_map, pairs_by_map, pairs_kept, pa
 use Rattle.nc_read_bgp.specs.Statements.{NeighborSays, line_says}
 use Rattle.nc_read_bgp.specs.Neighbors.{NeighborFields, neighbor_in}
 use Rattle.nc_read_bgp.specs.Processes.{ProcessMade, fields_in, process_of, process_in, lack_of, first_line, same_addr}
-use Rattle.nc_read_bgp.specs.Laws.{lines_in, faults_in, lacks_in, lowest_or_process}
+use Rattle.nc_read_bgp.specs.Laws.{faults_in, lacks_in, lowest_or_process}
 use Rattle.nc_read_bgp.proofs.ProcessLemmas.{addrs_same}
 use Rattle.nc_read_bgp.proofs.LawLemmas.{near, near_ascend, block_ascends, statements_ascend}
 

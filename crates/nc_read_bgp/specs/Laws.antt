@@ -1,5 +1,5 @@
 -- What holds of each process that lines make.
-use Rattle.std.specs.Prelude.{◌≡◌, ℕ, ◌<◌, false, List, [], ◌∷◌, ◌++◌, length, map, Result, Ok, Err, All, Contains}
+use Rattle.std.specs.Prelude.{◌≡◌, ℕ, ◌<◌, false, List, [], ◌∷◌, ◌++◌, length, Result, Ok, Err, All, Contains}
 use Rattle.std.specs.List.{filter_map, AllPairs}
 use Rattle.std.specs.List.Sorted.{IsStrictlyIncreasing}
 use Rattle.std.specs.Option.{option_map, option_map_or}
@@ -10,10 +10,6 @@ use Rattle.nc_lines.specs.Statements.{Says, fault_of}
 use Rattle.nc_lines.specs.Parts.{Numbered, statements_in}
 use Rattle.nc_read_bgp.specs.Statements.{header_says, line_says}
 use Rattle.nc_read_bgp.specs.Processes.{ProcessMade, fields_in, lack_of, process_of}
-
--- the lines of a block
-abbrev pub lines_in : List Numbered → List ℕ
-lines_in block = map (λ l. l.line) block
 
 -- the lines of each neighbor, network and aggregate
 abbrev pub lines_of_things : ProcessMade → List (List ℕ)

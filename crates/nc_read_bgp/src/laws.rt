@@ -3,9 +3,9 @@
 ghost use Rattle.std.specs.Prelude.{◌≡◌, ◌<◌, ℕ, List, Ok, length};
 ghost use Rattle.std.specs.List.Sorted.{IsStrictlyIncreasing};
 ghost use Rattle.nc_types.specs.WellFormed.{IsProcess};
-ghost use Rattle.nc_lines.specs.Parts.{Numbered};
+ghost use Rattle.nc_lines.specs.Parts.{Numbered, lines_in};
 ghost use Rattle.nc_read_bgp.specs.Processes.{ProcessMade, process_in};
-ghost use Rattle.nc_read_bgp.specs.Laws.{lines_in, lines_of_things, lines_of_each, IsBlockOf};
+ghost use Rattle.nc_read_bgp.specs.Laws.{lines_of_things, lines_of_each, IsBlockOf};
 ghost use Rattle.nc_read_bgp.specs.Laws.{HaveLinesBeside, HaveLines, AreWithin, Ascend, AreApart, lowest_or_process};
 
 /// A process is well formed: each of its things has an address or a prefix of its own, and no more

@@ -13,13 +13,13 @@ use Rattle.nc_types.proofs.Members.{In, in_at, all_by_in, in_map, in_by_map, in_
 use Rattle.nc_lines.specs.Lines.{words_of}
 use Rattle.nc_lines.specs.Numbers.{around_of}
 use Rattle.nc_lines.specs.Statements.{after}
-use Rattle.nc_lines.specs.Parts.{Numbered}
+use Rattle.nc_lines.specs.Parts.{Numbered, lines_in}
 use Rattle.nc_community.proofs.SetLemmas.{IsBelow, IsAscending, by_places, to_places}
 use Rattle.nc_read_policy.specs.Results.{on_ok, ok_map}
 use Rattle.nc_read_policy.specs.Clauses.{action_of}
 use Rattle.nc_read_policy.specs.Entries.{bounds_of, seq_of, counted_seq, entry_of, numbered_entry, any_entry}
 use Rattle.nc_read_policy.specs.Lists.{EntryPart, higher, of_seq, parts_of, behind_name, statement_at, stated_from, list_in}
-use Rattle.nc_read_policy.specs.Laws.{lines_in, HasLines, AreApart}
+use Rattle.nc_read_policy.specs.Laws.{HasLines, AreApart}
 use Rattle.nc_read_policy.proofs.EntryLaws.{part_lines, part_some, own_part, ascend}
 
 -- ---- the line of a statement

@@ -1,13 +1,8 @@
 -- What holds of the entries of each prefix list.
-use Rattle.std.specs.Prelude.{ℕ, ◌<◌, List, length, map, All, Contains}
+use Rattle.std.specs.Prelude.{ℕ, ◌<◌, List, length, All, Contains}
 use Rattle.std.specs.List.{AllPairs}
 use Rattle.std.specs.List.Sorted.{IsStrictlyIncreasing}
-use Rattle.nc_lines.specs.Parts.{Numbered}
 use Rattle.nc_read_policy.specs.Lists.{EntryPart}
-
--- the line of each statement
-abbrev pub lines_in : List Numbered → List ℕ
-lines_in block = map (λ l. l.line) block
 
 -- an entry has a line, its lines ascend, and each is one of the list's
 pub record HasLines (ks : List ℕ) (p : EntryPart) : Type 0 where

@@ -5,10 +5,10 @@ ghost use Rattle.std.specs.Prelude.{◌≡◌, ◌<◌, ◌==◌, ℕ, List, Ok,
 ghost use Rattle.std.specs.List.{find};
 ghost use Rattle.std.specs.List.Sorted.{IsStrictlyIncreasing};
 ghost use Rattle.nc_types.specs.declared.config.ListEntry.{ListEntry};
-ghost use Rattle.nc_lines.specs.Parts.{Numbered};
+ghost use Rattle.nc_lines.specs.Parts.{Numbered, lines_in};
 ghost use Rattle.nc_read_policy.specs.Lists.{EntryPart, of_seq, part_of, parts_of, stated_from};
 ghost use Rattle.nc_read_policy.specs.Lists.{list_in};
-ghost use Rattle.nc_read_policy.specs.Laws.{lines_in, HasLines, AreApart};
+ghost use Rattle.nc_read_policy.specs.Laws.{HasLines, AreApart};
 
 /// The entries of a list stand in order of their numbers. Each is what the statements of its number
 /// make, and what the statements of a number make is the entry of that number. A list of lines has

@@ -5,8 +5,8 @@ use Rattle.std.proofs.lemmas.List.{length-map}
 use Rattle.nc_types.proofs.Members.{all_in, in_by_contains, contains_by_in}
 use Rattle.nc_types.specs.declared.config.Kind.TheVariants as kinds
 use Rattle.nc_types.specs.declared.config.ListEntry.{ListEntry}
-use Rattle.nc_lines.specs.Parts.{Numbered, numbered}
-use Rattle.nc_read_policy.specs.Laws.{lines_in, HasLines}
+use Rattle.nc_lines.specs.Parts.{numbered, lines_in}
+use Rattle.nc_read_policy.specs.Laws.{HasLines}
 use Rattle.nc_read_policy.specs.Lists.{EntryPart, stated_from, parts_of, list_in}
 use Rattle.nc_read_policy.proofs.EntryLaws.{ascend, filled}
 use Rattle.nc_read_policy.proofs.LineLaws.{stated_lines, whole, apart}
