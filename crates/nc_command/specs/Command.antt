@@ -48,6 +48,18 @@ abbrev pub rib_of : List (List ℕ) → Option TestCommand
 rib_of (name ∷ prefix ∷ words) = option_and_then (λ p. option_map (λ via. Rib name p via) (address_behind (codes "via") words)) (prefix_of prefix)
 rib_of words = None
 
+-- the test that the words behind a command for an address make: a name, the address, and nothing more
+abbrev pub address_test_of : (List ℕ → Addr → TestCommand) → List (List ℕ) → Option TestCommand
+address_test_of make (name ∷ address ∷ []) = option_map (make name) (addr_of address)
+address_test_of make words = None
+
+-- the test that a command's first word and the words behind it make, if they make one
+abbrev pub test_of : List ℕ → List (List ℕ) → Option TestCommand
+test_of word words =
+    if bytes_eq word (codes "rib") then rib_of words
+    else (if bytes_eq word (codes "session") then address_test_of Session words
+    else None)
+
 -- `quit` and nothing behind it
 abbrev pub quit_of : List (List ℕ) → Line
 quit_of [] = Asks Quit
@@ -58,8 +70,8 @@ abbrev pub asked_by : List (List ℕ) → Line
 asked_by [] = Passed
 asked_by (word ∷ words) =
     if begins_note word then Passed
-    else (if bytes_eq word (codes "rib") then option_map_or (λ test. Asks (Test test)) (rib_of words) Unread
-    else (if bytes_eq word (codes "quit") then quit_of words else Unread))
+    else (if bytes_eq word (codes "quit") then quit_of words
+    else option_map_or (λ test. Asks (Test test)) (test_of word words) Unread)
 
 -- what a line of a session is, by its bytes
 unfoldable pub command_of : List ℕ → Line

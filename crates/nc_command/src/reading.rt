@@ -1,9 +1,13 @@
 //! What a line of a session asks, read word by word.
 
-ghost use Rattle.std.specs.Prelude.{◌≡◌, IfOk};
+ghost use Rattle.std.specs.Prelude.{◌≡◌, ℕ, List, IfOk};
 ghost use Rattle.std.specs.Option.{option_map};
 ghost use Rattle.nc_lines.specs.Lines.{words_of};
-ghost use Rattle.nc_command.specs.Command.{address_behind, rib_of, command_of, IsRead};
+ghost use Rattle.nc_command.specs.Command.{address_behind, rib_of, address_test_of};
+ghost use Rattle.nc_command.specs.Command.{test_of, command_of, IsRead};
+ghost use Rattle.nc_types.specs.declared.addr.Addr.{Addr};
+ghost use Rattle.nc_types.specs.declared.command.TestCommand.{TestCommand};
+ghost use Rattle.nc_types.specs.declared.command.TestCommand.TheVariants as command;
 
 use crate::LINE_LIMIT;
 use crate::command::Command;
@@ -49,6 +53,49 @@ fn read_rib(alloc: Global, rest: &[u8]) -> Result<Option<TestCommand>, AllocErro
     Ok(Some(TestCommand::Rib(name, prefix, via)))
 }
 
+// The name and the address behind a command for an address; None where another thing stands there.
+fn read_target(rest: &[u8]) -> Option<(&[u8], Addr)>
+    ensures { (make : List ℕ → Addr → TestCommand)
+        → option_map (λ target. make target.0.now target.1) result
+        ≡ address_test_of make (words_of rest.now) }
+{
+    let (name, rest) = cut_word(rest)?;
+    let (address, rest) = cut_word(rest)?;
+    if cut_word(rest).is_some() {
+        return None;
+    }
+    let address = read_address(address)?;
+    Some((name, address))
+}
+
+// The test that the words behind `session` make, if they make one.
+fn read_session(alloc: Global, rest: &[u8]) -> Result<Option<TestCommand>, AllocError>
+    ensures { IfOk result (λ test. test ≡ address_test_of command.Session (words_of rest.now)) }
+{
+    let Some((name, addr)) = read_target(rest) else {
+        return Ok(None);
+    };
+    let name = Text::new(alloc, name)?;
+    Ok(Some(TestCommand::Session(name, addr)))
+}
+
+// The test that a command's first word and the words behind it make, if they make one.
+fn read_test(
+    alloc: Global,
+    word: &[u8],
+    rest: &[u8],
+) -> Result<Option<TestCommand>, AllocError>
+    ensures { IfOk result (λ test. test ≡ test_of word.now (words_of rest.now)) }
+{
+    if word == b"rib".as_slice() {
+        return read_rib(alloc, rest);
+    }
+    if word == b"session".as_slice() {
+        return read_session(alloc, rest);
+    }
+    Ok(None)
+}
+
 /// What a line asks, given without its line end; `None` where it is blank or its first word begins with
 /// `#`, so that it is passed over.
 ///
@@ -69,14 +116,14 @@ pub fn read_command(alloc: Global, line: &[u8]) -> Result<Option<Command>, Comma
     if word.first() == Some(&b'#') {
         return Ok(None);
     }
-    if word == b"rib".as_slice() {
-        let Some(test) = read_rib(alloc, rest)? else {
+    if word == b"quit".as_slice() {
+        if cut_word(rest).is_some() {
             return Err(CommandFault::Syntax);
-        };
-        return Ok(Some(Command::Test(test)));
-    }
-    if word == b"quit".as_slice() && cut_word(rest).is_none() {
+        }
         return Ok(Some(Command::Quit));
     }
-    Err(CommandFault::Syntax)
+    let Some(test) = read_test(alloc, word, rest)? else {
+        return Err(CommandFault::Syntax);
+    };
+    Ok(Some(Command::Test(test)))
 }

@@ -10,9 +10,10 @@ use Rattle.nc_tables.specs.declared.bgp.MainFrom.{MainFrom}
 use Rattle.nc_tables.specs.declared.bgp.MainFrom.TheVariants as main
 use Rattle.nc_tables.specs.Base.{same_prefix, static_at}
 use Rattle.nc_tables.specs.Reach.{hits, leads_to, reaches}
+use Rattle.nc_tables.specs.Rounds.{session_by}
 use Rattle.nc_tables.specs.State.{StateView}
 use Rattle.nc_fact.specs.declared.fact.Fact.{Fact}
-use Rattle.nc_fact.specs.declared.fact.Fact.TheVariants.{Element, Connected, Static, Base, Resolve, NetSource, Reach, Hop, Main}
+use Rattle.nc_fact.specs.declared.fact.Fact.TheVariants.{Element, Connected, Static, Base, Resolve, NetSource, Reach, Hop, Session, Main}
 
 -- the base row that a main row is of
 abbrev pub base_place : MainFrom → Option ℕ
@@ -49,6 +50,7 @@ module _ (s : StateView) where
   holds (NetSource router prefix) = list_any (λ row. same_prefix row.prefix prefix) (base_rows router.0)
   holds (Reach router addr hops) = nat_le hops HOP_LIMIT && reaches s.routers s.base hops router.0 addr.0
   holds (Hop router addr row hops) = hops_by router.0 addr.0 row hops
+  holds (Session router place) = is_some (session_by s.sessions router.0 place)
   holds (Main router row) = is_some (base_of router.0 row)
 
   -- the rank of a fact, which is above that of each fact from which it follows; the gaps are for the kinds of facts that are to come
@@ -61,4 +63,5 @@ module _ (s : StateView) where
   rank (NetSource router prefix) = 4
   rank (Reach router addr hops) = 6 + 2 * hops
   rank (Hop router addr row hops) = 5 + 2 * hops
+  rank (Session router place) = 70
   rank (Main router row) = 140000

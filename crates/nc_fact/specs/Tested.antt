@@ -1,5 +1,5 @@
 -- The facts that a test tests.
-use Rattle.std.specs.Prelude.{ℕ, Bool, true, false, ◌&&◌, ◌==◌, List, [], map, filter, Option, Some, None, slice_get}
+use Rattle.std.specs.Prelude.{ℕ, Bool, true, false, ◌&&◌, ◌==◌, List, [], ◌∷◌, map, filter, Option, Some, None, slice_get}
 use Rattle.std.specs.Option.{option_map_or}
 use Rattle.nc_types.specs.Network.{router_named}
 use Rattle.nc_types.specs.Cidr.{Cidr}
@@ -14,6 +14,7 @@ use Rattle.nc_tables.specs.declared.bgp.MainFrom.TheVariants as main
 use Rattle.nc_tables.specs.Base.{same_prefix}
 use Rattle.nc_tables.specs.Longest.{places_from}
 use Rattle.nc_tables.specs.Reach.{next_hop}
+use Rattle.nc_tables.specs.Sessions.{place_for}
 use Rattle.nc_tables.specs.State.{StateView}
 use Rattle.nc_fact.specs.declared.fact.Fact.{Fact}
 use Rattle.nc_fact.specs.declared.fact.Fact.TheVariants as fact
@@ -43,11 +44,15 @@ module _ (s : StateView) where
   abbrev pub asked_rows : ℕ → Cidr → Option Addr → List Fact
   asked_rows router prefix via = map (fact.Main (record { 0 = router })) (places_from (is_asked router prefix via) 0 (main_rows s router))
 
-  -- what a test names; of tests of routes alone there are facts yet
+  -- the session of a router's neighbor statement for an address, which a test of a session tests
+  abbrev pub asked_session : ℕ → Addr → List Fact
+  asked_session router addr = option_map_or (λ place. fact.Session (record { 0 = router }) place ∷ []) (place_for s.routers router addr.0) []
+
+  -- what a test names; of tests of routes and of sessions alone there are facts yet
   abbrev pub named_facts : TestCommand → List Fact
   named_facts (Rib name prefix via) = option_map_or (λ router. asked_rows router prefix via) (router_named s.routers name) []
   named_facts (Bgp name prefix from) = []
-  named_facts (Session name addr) = []
+  named_facts (Session name addr) = option_map_or (λ router. asked_session router addr) (router_named s.routers name) []
   named_facts (Reach name addr) = []
   named_facts (Every name addr) = []
   named_facts (Element name line) = []

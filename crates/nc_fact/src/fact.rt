@@ -20,6 +20,8 @@ pub enum Fact {
     Reach(RouterId, Addr, u8),
     /// That it does by the row at a place of the base table, the hop by that row counted.
     Hop(RouterId, Addr, u32, u8),
+    /// That the BGP session of the neighbor statement at a place of the process is established.
+    Session(RouterId, u32),
     /// The row at a place of the main table.
     Main(RouterId, u32),
 }

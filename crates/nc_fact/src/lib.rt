@@ -13,6 +13,7 @@
 mod exits;
 mod fact;
 mod rows;
+mod statements;
 mod tested;
 mod truth;
 

@@ -1,10 +1,11 @@
 //! Whether a fact holds, and its rank.
 
-ghost use Rattle.std.specs.Prelude.{◌≡◌, ◌≤◌, ◌&&◌, true, length, nat_le};
+ghost use Rattle.std.specs.Prelude.{◌≡◌, ◌≤◌, ◌&&◌, true, is_some, length, nat_le};
 ghost use Rattle.std.specs.List.{list_any};
 ghost use Rattle.nc_types.specs.declared.TheConstants.{HOP_LIMIT};
 ghost use Rattle.nc_tables.specs.Base.{same_prefix};
 ghost use Rattle.nc_tables.specs.Reach.{reaches};
+ghost use Rattle.nc_tables.specs.Rounds.{session_by};
 ghost use Rattle.nc_fact.specs.Facts.{base_rows, base_of, hops_by, holds, rank};
 
 use crate::exits::{has_hit, hits, leads_to};
@@ -46,6 +47,16 @@ fn hops_by(state: &Stable, router: RouterId, addr: Addr, row: u32, hops: u8) -> 
     }
 }
 
+// Whether the session of the neighbor statement at a place of a router is established.
+fn has_session(state: &Stable, router: RouterId, place: u32) -> bool
+    ensures { result ≡ is_some (session_by state.now.sessions router.0 place) }
+{
+    if !has_router(state, router) {
+        return false;
+    }
+    state.sessions().get(router, place).is_some()
+}
+
 /// The place of the base row that the main row at a place of a router is of; `None` where the row is of BGP,
 /// and where there is no such row or router.
 pub fn base_of(state: &Stable, router: RouterId, row: u32) -> Option<u32>
@@ -58,8 +69,8 @@ pub fn base_of(state: &Stable, router: RouterId, row: u32) -> Option<u32>
     }
 }
 
-/// Whether a fact holds. A fact of a router, an interface, an element or a row that doesn't exist doesn't
-/// hold. Takes no memory.
+/// Whether a fact holds. A fact of a router, an interface, an element, a statement or a row that doesn't
+/// exist doesn't hold. Takes no memory.
 #[tactic(auto, unfolding(crate::specs::Facts::holds))]
 pub fn holds(state: &Stable, fact: &Fact) -> bool
     ensures { result ≡ holds state.now fact.now }
@@ -73,6 +84,7 @@ pub fn holds(state: &Stable, fact: &Fact) -> bool
         Fact::NetSource(router, prefix) => has_prefix(state, router, prefix),
         Fact::Reach(router, addr, hops) => reaches(state, router, addr, hops),
         Fact::Hop(router, addr, row, hops) => hops_by(state, router, addr, row, hops),
+        Fact::Session(router, place) => has_session(state, router, place),
         Fact::Main(router, row) => base_of(state, router, row).is_some(),
     }
 }
@@ -91,6 +103,7 @@ pub fn rank(_state: &Stable, fact: &Fact) -> u32
         Fact::Resolve(_, _) | Fact::NetSource(_, _) => 4,
         Fact::Hop(_, _, _, hops) => 5 + 2 * u32::from(hops),
         Fact::Reach(_, _, hops) => 6 + 2 * u32::from(hops),
+        Fact::Session(_, _) => 70,
         Fact::Main(_, _) => 140_000,
     }
 }

@@ -7,7 +7,7 @@ use Rattle.nc_types.specs.Cidr.{Cidr}
 use Rattle.nc_tables.specs.Base.{same_prefix}
 use Rattle.nc_types.proofs.Sameness.{same_prefix_is}
 use Rattle.nc_fact.specs.declared.fact.Fact.{Fact}
-use Rattle.nc_fact.specs.declared.fact.Fact.TheVariants.{Element, Connected, Static, Base, Resolve, NetSource, Reach, Hop, Main}
+use Rattle.nc_fact.specs.declared.fact.Fact.TheVariants.{Element, Connected, Static, Base, Resolve, NetSource, Reach, Hop, Session, Main}
 use Rattle.nc_rules.specs.Rules.{same_fact}
 
 both : (a b : Bool) → (a && b) ≡ true → (a ≡ true) × (b ≡ true)
@@ -40,6 +40,7 @@ same_is (Hop r a k m) (Hop s b l n) h =
     let more = both (nat_eq a.0 b.0) (nat_eq k l && nat_eq m n) parts.1 in
     let last = both (nat_eq k l) (nat_eq m n) more.1 in
     ap (λ (id : RouterId). Hop id a k m) (same_router r s parts.0) ∙ ap (λ (addr : Addr). Hop s addr k m) (same_address a b more.0) ∙ ap (λ (row : ℕ). Hop s b row m) (eqb-true k l last.0) ∙ ap (Hop s b l) (eqb-true m n last.1)
+same_is (Session r k) (Session s l) h = same_two Session r s k l h
 same_is (Main r k) (Main s l) h = same_two Main r s k l h
 same_is f g h = absurd cc
 
@@ -55,6 +56,7 @@ same_itself (Resolve r a) = rw (itself r.0, itself a.0) refl
 same_itself (NetSource r p) = rw (itself r.0, itself p.base, itself p.len) refl
 same_itself (Reach r a m) = rw (itself r.0, itself a.0, itself m) refl
 same_itself (Hop r a k m) = rw (itself r.0, itself a.0, itself k, itself m) refl
+same_itself (Session r k) = rw (itself r.0, itself k) refl
 same_itself (Main r k) = rw (itself r.0, itself k) refl
 
 -- the test of facts tells them apart

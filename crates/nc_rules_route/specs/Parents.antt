@@ -1,6 +1,7 @@
 -- From which facts a fact follows, and how.
 use Rattle.std.specs.Prelude.{ℕ, ◌-◌, List, [], ◌∷◌, ◌++◌, map, filter, option_and_then, slice_get}
 use Rattle.std.specs.Option.{option_map_or}
+use Rattle.nc_types.specs.declared.TheConstants.{HOP_LIMIT}
 use Rattle.nc_types.specs.Network.{number_at}
 use Rattle.nc_types.specs.declared.addr.Addr.{Addr}
 use Rattle.nc_types.specs.declared.config.RouterId.{RouterId}
@@ -9,11 +10,13 @@ use Rattle.nc_tables.specs.declared.base.BaseFrom.TheVariants as row
 use Rattle.nc_tables.specs.Base.{same_prefix, static_at}
 use Rattle.nc_tables.specs.Longest.{places_from}
 use Rattle.nc_tables.specs.Reach.{hits, leads_to, own_place}
+use Rattle.nc_tables.specs.Sessions.{End}
+use Rattle.nc_tables.specs.Rounds.{Link, link_at}
 use Rattle.nc_tables.specs.State.{StateView}
 use Rattle.nc_graph.specs.declared.node.NodeKind.{NodeKind}
 use Rattle.nc_graph.specs.declared.node.NodeKind.TheVariants.{Leaf, Every, Any}
 use Rattle.nc_fact.specs.declared.fact.Fact.{Fact}
-use Rattle.nc_fact.specs.declared.fact.Fact.TheVariants.{Element, Connected, Static, Base, Resolve, NetSource, Reach, Hop, Main}
+use Rattle.nc_fact.specs.declared.fact.Fact.TheVariants.{Element, Connected, Static, Base, Resolve, NetSource, Reach, Hop, Session, Main}
 use Rattle.nc_fact.specs.Facts.{base_rows, base_of, holds}
 
 -- an element is the leaf of its number; what more than one row or hop can give follows from any of them; all else from all parents together
@@ -26,6 +29,7 @@ kind (Resolve router addr) = Any
 kind (NetSource router prefix) = Any
 kind (Reach router addr hops) = Any
 kind (Hop router addr row hops) = Every
+kind (Session router place) = Every
 kind (Main router row) = Every
 
 -- the connected route through which a static route's next hop is reached; one that discards has none
@@ -64,6 +68,17 @@ module _ (s : StateView) where
       option_map_or (λ next. Base router row ∷ Connected (record { 0 = next.router }) (record { 0 = next.place }) ∷ Reach (record { 0 = next.router }) addr (hops - 1) ∷ [])
       (leads_to s.routers s.base router.0 addr.0 row) []
 
+  -- the elements of a router's process and of one of its neighbor statements
+  abbrev pub end_elements : ℕ → End → List Fact
+  end_elements router e = element_in router e.process.element ∷ element_in router e.statement.element ∷ []
+
+  -- what a session rests on, on each side: process and neighbor statement, the interface from which it starts, and that a packet comes to the address of the statement
+  abbrev pub session_parents : RouterId → Link → List Fact
+  session_parents router k =
+      end_elements router.0 k.receiver ++ (end_elements k.session.peer.0 k.sender
+      ++ (Connected router k.session.source ∷ Connected k.session.peer k.session.peer_source
+      ∷ Reach router k.receiver.statement.addr HOP_LIMIT ∷ Reach k.session.peer k.sender.statement.addr HOP_LIMIT ∷ []))
+
   -- the parents of a fact that holds, in order
   unfoldable pub parents : Fact → List Fact
   parents (Element e) = []
@@ -74,4 +89,5 @@ module _ (s : StateView) where
   parents (NetSource router prefix) = map (Base router) (places_from (λ r. same_prefix r.prefix prefix) 0 (base_rows s router.0))
   parents (Reach router addr hops) = option_map_or (λ iface. Connected router (record { 0 = iface }) ∷ []) (own_place s.routers router.0 addr.0) (hops_of router addr hops)
   parents (Hop router addr row hops) = hop_parents router addr row hops
+  parents (Session router place) = option_map_or (session_parents router) (link_at s.routers s.sessions router.0 place) []
   parents (Main router row) = option_map_or (λ place. Base router place ∷ []) (base_of s router.0 row) []

@@ -7,6 +7,7 @@ ghost use Rattle.nc_rules_route.specs.Parents.{kind, parents};
 use crate::reach::{push_hop, push_reach};
 use crate::routes::{push_base, push_connected, push_main, push_static};
 use crate::rows::{push_resolve, push_source};
+use crate::sessions::push_session;
 use nc_fact::Fact;
 use nc_graph::node::NodeKind;
 use nc_tables::Stable;
@@ -24,6 +25,7 @@ fn kind_of(fact: &Fact) -> NodeKind
         | Fact::Static(_, _)
         | Fact::Base(_, _)
         | Fact::Hop(_, _, _, _)
+        | Fact::Session(_, _)
         | Fact::Main(_, _) => NodeKind::Every,
     }
 }
@@ -44,6 +46,7 @@ fn push_parents(state: &Stable, fact: &Fact, into: &mut Vec<Fact>) -> Result<(),
         Fact::NetSource(router, prefix) => push_source(state, router, prefix, into),
         Fact::Reach(router, addr, hops) => push_reach(state, router, addr, hops, into),
         Fact::Hop(router, addr, row, hops) => push_hop(state, router, addr, row, hops, into),
+        Fact::Session(router, place) => push_session(state, router, place, into),
         Fact::Main(router, row) => push_main(state, router, row, into),
     }
 }
