@@ -15,12 +15,12 @@ use Rattle.nc_types.specs.Cidr.{Cidr}
 use Rattle.nc_types.specs.Masks.{network_of}
 use Rattle.nc_types.specs.declared.addr.Addr.{Addr}
 use Rattle.nc_types.specs.declared.command.TestCommand.{TestCommand}
-use Rattle.nc_types.specs.declared.command.TestCommand.TheVariants.{Rib}
+use Rattle.nc_types.specs.declared.command.TestCommand.TheVariants.{Rib, Session}
 use Rattle.nc_lines.specs.Lines.{words_of}
 use Rattle.nc_lines.specs.Numbers.{is_digit, value_after, is_plain, number_of, address_of, address_of_parts, prefix_of, prefix_of_parts}
 use Rattle.nc_lines.proofs.NumberLemmas.{value_after-ge}
 use Rattle.nc_command.specs.declared.command.Command.TheVariants.{Test}
-use Rattle.nc_command.specs.Command.{Passed, TooLong, Unread, Asks, begins_note, addr_of, address_behind, rib_of, quit_of, asked_by, command_of, dotted, cidr_text, spaced, prefix_text, text_of}
+use Rattle.nc_command.specs.Command.{Passed, TooLong, Unread, Asks, begins_note, addr_of, address_behind, rib_of, address_test_of, test_of, quit_of, asked_by, command_of, dotted, cidr_text, spaced, prefix_text, address_text, text_of}
 
 -- ---- numbers
 
@@ -185,30 +185,55 @@ rib-text (name ∷ word ∷ words) test at =
     ∙ behind-text (codes "rib") name p (codes "via") words via.0 via.1
     ∙ ap (λ w. spaced (codes "rib" ∷ name ∷ w ∷ words)) (prefix-text word p is-p))
 
+-- a name and an address behind a command
+address-test-text : (command : List ℕ) (make : List ℕ → Addr → TestCommand) → ((name : List ℕ) (a : Addr) → text_of (make name a) ≡ address_text command name a) → (words : List (List ℕ)) (test : TestCommand) → address_test_of make words ≡ Some test
+    → text_of test ≡ spaced (command ∷ words)
+address-test-text command make texts [] test at = absurd (cc)
+address-test-text command make texts (name ∷ []) test at = absurd (cc)
+address-test-text command make texts (name ∷ word ∷ more ∷ words) test at = absurd (cc)
+address-test-text command make texts (name ∷ word ∷ []) test at =
+    let made = map-some (make name) (addr_of word) test at in
+    let addr = map-some (λ (a : ℕ). let r : Addr = record { 0 = a } in r) (address_of word) made.0 made.1 in
+    ap text_of (sym made.2) ∙ texts name made.0 ∙ ap (address_text command name) (sym addr.2)
+    ∙ ap (λ w. spaced (command ∷ name ∷ w ∷ [])) (address-text word addr.0 addr.1)
+
+-- the words of a command, when its first is known
+first-word : (word command : List ℕ) (words : List (List ℕ)) → bytes_eq word command ≡ true → spaced (command ∷ words) ≡ spaced (word ∷ words)
+first-word word command words same = ap (λ w. spaced (w ∷ words)) (sym ((bytes_eq-Decides word command).0 same))
+
+test-text : (word : List ℕ) (words : List (List ℕ)) (test : TestCommand) → test_of word words ≡ Some test → text_of test ≡ spaced (word ∷ words)
+test-text word words test at = by_rib (bytes_eq word (codes "rib")) refl at
+  where
+    by_session : (b : Bool) → bytes_eq word (codes "session") ≡ b → cond b (address_test_of Session words) None ≡ Some test → text_of test ≡ spaced (word ∷ words)
+    by_session false same is = absurd (cc)
+    by_session true same is = address-test-text (codes "session") Session (λ name a. refl) words test is ∙ first-word word (codes "session") words same
+
+    by_rib : (b : Bool) → bytes_eq word (codes "rib") ≡ b → cond b (rib_of words) (cond (bytes_eq word (codes "session")) (address_test_of Session words) None) ≡ Some test
+        → text_of test ≡ spaced (word ∷ words)
+    by_rib false same is = by_session (bytes_eq word (codes "session")) refl is
+    by_rib true same is = rib-text words test is ∙ first-word word (codes "rib") words same
+
 -- a test that words ask has the words as its text
 asked-text : (words : List (List ℕ)) (test : TestCommand) → asked_by words ≡ Asks (Test test) → text_of test ≡ spaced words
 asked-text [] test at = absurd (cc)
 asked-text (word ∷ words) test at = by_note (begins_note word) at
   where
-    by_quit : (b : Bool) (ws : List (List ℕ)) → cond b (quit_of ws) Unread ≡ Asks (Test test) → text_of test ≡ spaced (word ∷ words)
-    by_quit false ws is = absurd (cc)
-    by_quit true [] is = absurd (cc)
-    by_quit true (w ∷ ws) is = absurd (cc)
-
-    by_test : (o : Option TestCommand) → rib_of words ≡ o → option_map_or (λ test. Asks (Test test)) o Unread ≡ Asks (Test test) → rib_of words ≡ Some test
+    by_test : (o : Option TestCommand) → test_of word words ≡ o → option_map_or (λ test. Asks (Test test)) o Unread ≡ Asks (Test test) → text_of test ≡ spaced (word ∷ words)
     by_test None found is = absurd (cc)
-    by_test (Some t) found is = let same : t ≡ test = cc in found ∙ ap Some same
+    by_test (Some t) found is = let same : t ≡ test = cc in test-text word words test (found ∙ ap Some same)
 
-    by_rib : (b : Bool) → bytes_eq word (codes "rib") ≡ b
-        → cond b (option_map_or (λ test. Asks (Test test)) (rib_of words) Unread) (cond (bytes_eq word (codes "quit")) (quit_of words) Unread) ≡ Asks (Test test)
-        → text_of test ≡ spaced (word ∷ words)
-    by_rib false test is = by_quit (bytes_eq word (codes "quit")) words is
-    by_rib true same is = rib-text words test (by_test (rib_of words) refl is) ∙ ap (λ w. spaced (w ∷ words)) (sym ((bytes_eq-Decides word (codes "rib")).0 same))
+    quits-not : (ws : List (List ℕ)) → quit_of ws ≡ Asks (Test test) → text_of test ≡ spaced (word ∷ words)
+    quits-not [] is = absurd (cc)
+    quits-not (w ∷ ws) is = absurd (cc)
 
-    by_note : (b : Bool) → cond b Passed (cond (bytes_eq word (codes "rib")) (option_map_or (λ test. Asks (Test test)) (rib_of words) Unread) (cond (bytes_eq word (codes "quit")) (quit_of words) Unread)) ≡ Asks (Test test)
+    by_quit : (b : Bool) → cond b (quit_of words) (option_map_or (λ test. Asks (Test test)) (test_of word words) Unread) ≡ Asks (Test test) → text_of test ≡ spaced (word ∷ words)
+    by_quit true is = quits-not words is
+    by_quit false is = by_test (test_of word words) refl is
+
+    by_note : (b : Bool) → cond b Passed (cond (bytes_eq word (codes "quit")) (quit_of words) (option_map_or (λ test. Asks (Test test)) (test_of word words) Unread)) ≡ Asks (Test test)
         → text_of test ≡ spaced (word ∷ words)
     by_note true is = absurd (cc)
-    by_note false is = by_rib (bytes_eq word (codes "rib")) refl is
+    by_note false is = by_quit (bytes_eq word (codes "quit")) is
 
 pub line-text : (line : List ℕ) (test : TestCommand) → command_of line ≡ Asks (Test test) → text_of test ≡ spaced (words_of line)
 unfolding command_of

@@ -117,10 +117,10 @@ pub fn read_command(alloc: Global, line: &[u8]) -> Result<Option<Command>, Comma
         return Ok(None);
     }
     if word == b"quit".as_slice() {
-        if cut_word(rest).is_some() {
-            return Err(CommandFault::Syntax);
-        }
-        return Ok(Some(Command::Quit));
+        return match cut_word(rest) {
+            Some(_) => Err(CommandFault::Syntax),
+            None => Ok(Some(Command::Quit)),
+        };
     }
     let Some(test) = read_test(alloc, word, rest)? else {
         return Err(CommandFault::Syntax);

@@ -1,9 +1,15 @@
--- The rows of a base table and the interfaces of a router can be numbered.
-use Rattle.std.proofs.Common.{◌≡◌, ℕ, ◌^◌, ◌<◌, List, [], length, get_or, All, Some, slice_get, ap, arith}
-use Rattle.nc_types.specs.Config.{ConfigView}
+-- The rows of a base table and the neighbor statements of a router can be numbered.
+use Rattle.std.proofs.Common.{◌≡◌, ℕ, ◌^◌, ◌<◌, List, [], length, get_or, All, Option, Some, None, slice_get, sym, ap, arith}
+use Rattle.std.specs.Borrow.{Bor}
+use Rattle.std.specs.Option.{IfSome, option_map}
+use Rattle.std.proofs.lemmas.Option.{option_and_then_some}
+use Rattle.nc_types.specs.declared.config.Process.{Process}
+use Rattle.nc_types.specs.Config.{ConfigView, process_view}
 use Rattle.nc_types.specs.WellFormed.{IsWellFormed}
 use Rattle.nc_types.specs.Network.{element_count}
 use Rattle.nc_types.proofs.Members.{all_in, in_by_get}
+use Rattle.nc_types.proofs.Few.{few_of_process, few_in_network}
+use Rattle.nc_tables.specs.Sessions.{process_of}
 use Rattle.nc_tables.specs.State.{StateView, state_at, IsState}
 use Rattle.nc_tables.proofs.RowCount.{few_base_rows}
 use Rattle.nc_fact.specs.Facts.{base_rows}
@@ -18,3 +24,9 @@ module _ (s : StateView) (is : IsState s) (count : element_count s.routers < 2 ^
   few_rows router =
       let same = ap (λ (t : StateView). length (get_or t.base router [])) is.tables in
       omega (arith, same, few_base_rows s.routers is.valid count router)
+
+  pub few_neighbors : (router : ℕ) (o : Option (Bor Process)) → option_map (λ p. process_view p.now) o ≡ process_of s.routers router → IfSome o (λ p. length p.now.neighbors.items < 2 ^ 32)
+  few_neighbors router None e = tt
+  few_neighbors router (Some p) e =
+      option_and_then_some (λ (c : ConfigView). c.process) (slice_get s.routers router) (process_view p.now) (sym e) (λ c at own.
+      omega (arith, count, few_of_process c (process_view p.now) (formed_at s.routers is.valid.each router c at) own, few_in_network s.routers router c at))

@@ -90,9 +90,9 @@ fn asked_session(
 {
     let mut facts = Vec::new(alloc);
     if let Some(place) = place_for(state, router, addr) {
-        let fact = Fact::Session(router, place);
-        if holds(state, &fact) {
-            facts.push(fact)?;
+        let session = Fact::Session(router, place);
+        if holds(state, &session) {
+            facts.push(session)?;
         }
     }
     Ok(facts)
