@@ -1,35 +1,41 @@
 -- The laws of the rules: each parent holds and has a lower rank, what follows from any parent has one, and an element has none.
-use Rattle.std.proofs.Common.{◌≡◌, ℕ, zero, suc, ◌+◌, ◌-◌, ◌*◌, ◌<◌, ◌≤◌, true, false, ◌&&◌, nat_eq, nat_lt, nat_le, List, [], ◌∷◌, length, map, filter, All, Option, Some, None, refl, sym, ap, subst, ◌∙◌, arith}
+use Rattle.std.proofs.Common.{◌≡◌, ℕ, zero, suc, ◌+◌, ◌-◌, ◌*◌, ◌<◌, ◌≤◌, true, false, ◌&&◌, nat_eq, nat_lt, nat_le, List, [], ◌∷◌, ◌++◌, length, map, filter, All, Option, Some, None, refl, sym, ap, subst, ◌∙◌, arith}
 use Rattle.std.specs.List.{list_any, slice_get, position}
-use Rattle.std.specs.Option.{option_map_or, option_and_then}
+use Rattle.std.specs.Option.{option_map_or, option_and_then, is_some}
 use Rattle.std.proofs.lemmas.Bool.{lt-ltb, ltb-true, leb-true, le-leb, and_parts, and_from}
 use Rattle.std.proofs.lemmas.List.{length-map}
-use Rattle.std.proofs.lemmas.List.Elements.{All-nil, All-append, All-map, All-filter, filter_passes}
-use Rattle.std.proofs.lemmas.Option.{option_and_then_some}
+use Rattle.std.proofs.lemmas.List.Elements.{All-nil, All-cons, All-append, All-map, All-filter, filter_passes}
+use Rattle.std.proofs.lemmas.Option.{option_and_then_some, same_Some}
 use Rattle.nc_types.specs.declared.addr.Addr.{Addr}
 use Rattle.nc_types.specs.declared.config.RouterId.{RouterId}
+use Rattle.nc_types.specs.declared.config.IfaceId.{IfaceId}
 use Rattle.nc_types.specs.declared.config.Interface.{Interface}
 use Rattle.nc_types.specs.declared.config.StaticRoute.{StaticRoute}
 use Rattle.nc_types.specs.declared.TheConstants.{HOP_LIMIT}
 use Rattle.nc_types.specs.Cidr.{Cidr}
 use Rattle.nc_types.specs.Config.{ConfigView}
-use Rattle.nc_types.specs.Network.{PlaceIn, has_address}
+use Rattle.nc_types.specs.Network.{PlaceIn, up_at, has_address}
 use Rattle.nc_tables.specs.declared.base.BaseRow.{BaseRow}
 use Rattle.nc_tables.specs.declared.bgp.MainRow.{MainRow}
 use Rattle.nc_tables.specs.Base.{static_row, static_at, same_prefix}
 use Rattle.nc_tables.specs.Longest.{places_from}
 use Rattle.nc_tables.specs.Reach.{hits, leads_to, own_place, reaches}
+use Rattle.nc_tables.specs.declared.bgp.SessionRow.{SessionRow}
+use Rattle.nc_tables.specs.Sessions.{End}
+use Rattle.nc_tables.specs.Rounds.{Link, session_by, link_at}
 use Rattle.nc_tables.specs.State.{StateView, IsState}
 use Rattle.nc_graph.specs.declared.node.NodeKind.TheVariants.{Leaf, Any}
 use Rattle.nc_fact.specs.declared.fact.Fact.{Fact}
-use Rattle.nc_fact.specs.declared.fact.Fact.TheVariants.{Element, Connected, Static, Base, Resolve, NetSource, Reach, Hop, Main}
+use Rattle.nc_fact.specs.declared.fact.Fact.TheVariants.{Element, Connected, Static, Base, Resolve, NetSource, Reach, Hop, Session, Main}
 use Rattle.nc_fact.specs.Facts.{base_place, base_rows, main_rows, base_of, hops_by, holds, rank}
-use Rattle.nc_rules_route.specs.Parents.{kind, element_in, of_interface, of_static, connected_by, route_of, hops_of, parents}
+use Rattle.nc_rules_route.specs.Parents.{kind, element_in, of_interface, of_static, connected_by, route_of, hops_of, end_elements, ways_between, session_parents, parents}
 use Rattle.nc_types.proofs.Members.{In, in_by_get, in_map, in_filter, some_in, all_by_in, is_among, among_is}
 use Rattle.nc_tables.proofs.Ordered.{some_place, place_within}
 use Rattle.nc_rules_route.proofs.Members.{all_by_option, all_of_one, all_of_three}
 use Rattle.nc_fact.proofs.Few.{formed_at}
 use Rattle.nc_rules_route.proofs.Numbers.{interface_element, static_element}
+use Rattle.nc_rules_route.proofs.Ends.{IsEnd, IsLink, end_is, end_elements_within, link_is}
+use Rattle.nc_rules_route.proofs.Established.{established, has_link}
 use Rattle.nc_rules_route.proofs.BaseRows.{found_up, address_up, row_leads}
 use Rattle.nc_rules_route.proofs.Tables.{base_of_main}
 use Rattle.nc_rules_route.proofs.Holding.{IsBelow, element_holds, connected_holds, base_holds, connected_below, route_below}
@@ -139,6 +145,49 @@ module _ (s : StateView) (is : IsState s) where
       all_by_option (IsBelow s (5 + 2 * hops)) (λ (next : PlaceIn). Base router row ∷ Connected (record { 0 = next.router }) (record { 0 = next.place }) ∷ Reach (record { 0 = next.router }) addr (hops - 1) ∷ []) (leads_to s.routers s.base router.0 addr.0 row) (λ next leads.
       hop_below router addr row hops next e leads)
 
+  -- the elements of one end of a session
+  end_below : (router place : ℕ) (e : End) → IsEnd s.routers router place e → All (IsBelow s 1) (end_elements s router e)
+  unfolding rank
+  end_below router place e end =
+      let within = end_elements_within s.routers router place e (formed_at s.routers is.valid.each router e.config end.config) end in
+      All-cons (IsBelow s 1) (element_in s router e.process.element) (element_in s router e.statement.element ∷ [])
+      (element_holds s router e.config e.process.element end.config within.0, omega arith)
+      (all_of_one (IsBelow s 1) (element_in s router e.statement.element) (element_holds s router e.config e.statement.element end.config within.1, omega arith))
+
+  -- that a packet comes somewhere over as many hops as are looked at
+  reach_below : (router : RouterId) (addr : Addr) → reaches s.routers s.base HOP_LIMIT router.0 addr.0 ≡ true → IsBelow s 70 (Reach router addr HOP_LIMIT)
+  unfolding holds rank
+  reach_below router addr reached = (and_from (nat_le HOP_LIMIT HOP_LIMIT) (reaches s.routers s.base HOP_LIMIT router.0 addr.0) (le-leb HOP_LIMIT HOP_LIMIT (omega arith)) reached, omega arith)
+
+  up_below : (router : RouterId) (iface : IfaceId) → is_some (up_at s.routers router.0 iface.0) ≡ true → IsBelow s 70 (Connected router iface)
+  unfolding holds rank
+  up_below router iface up = (up, omega arith)
+
+  link_below : (router : RouterId) (place : ℕ) (k : Link) → IsLink s.routers s.sessions router.0 place k → All (IsBelow s 70) (session_parents s router k)
+  link_below router place k link =
+      let below = IsBelow s 70 in
+      let peer = k.session.peer in
+      let both = established s is router.0 place k.session link.session in
+      let own : both.own ≡ k.receiver = same_Some both.own k.receiver (sym both.own_end ∙ link.receiver) in
+      let other : both.peer ≡ k.sender = same_Some both.peer k.sender (sym both.peer_end ∙ link.sender) in
+      let reach = subst (λ (e : End). reaches s.routers s.base HOP_LIMIT router.0 e.statement.addr.0 ≡ true) own both.reach in
+      let peer_reach = subst (λ (e : End). reaches s.routers s.base HOP_LIMIT peer.0 e.statement.addr.0 ≡ true) other both.peer_reach in
+      let source = Connected router k.session.source in
+      let peer_source = Connected peer k.session.peer_source in
+      let on = Reach router k.receiver.statement.addr HOP_LIMIT in
+      let back = Reach peer k.sender.statement.addr HOP_LIMIT in
+      let ways : All below (ways_between s router k) =
+      All-cons below source (peer_source ∷ on ∷ back ∷ []) (up_below router k.session.source both.source)
+      (all_of_three below peer_source on back (up_below peer k.session.peer_source both.peer_source) (reach_below router k.receiver.statement.addr reach) (reach_below peer k.sender.statement.addr peer_reach)) in
+      let ends = all_higher 1 70 (omega arith) (end_elements s router.0 k.receiver) (end_below router.0 place k.receiver (end_is s.routers router.0 place k.receiver link.receiver)) in
+      let peer_ends = all_higher 1 70 (omega arith) (end_elements s peer.0 k.sender) (end_below peer.0 k.session.peer_neighbor k.sender (end_is s.routers peer.0 k.session.peer_neighbor k.sender link.sender)) in
+      All-append below (end_elements s router.0 k.receiver) (end_elements s peer.0 k.sender ++ ways_between s router k) ends (All-append below (end_elements s peer.0 k.sender) (ways_between s router k) peer_ends ways)
+
+  session_below : (router : RouterId) (place : ℕ) → All (IsBelow s 70) (parents s (Session router place))
+  unfolding parents
+  session_below router place =
+      all_by_option (IsBelow s 70) (session_parents s router) (link_at s.routers s.sessions router.0 place) (λ k found. link_below router place k (link_is s.routers s.sessions router.0 place k found))
+
   main_parents : (router : RouterId) (row : ℕ) → All (IsBelow s 4) (parents s (Main router row))
   unfolding parents rank
   main_parents router row =
@@ -159,6 +208,7 @@ module _ (s : StateView) (is : IsState s) where
   parents_below (NetSource router prefix) h = source_parents router prefix
   parents_below (Reach router addr hops) h = reach_parents router addr hops
   parents_below (Hop router addr row hops) h = hop_parents_below router addr row hops h
+  parents_below (Session router place) h = session_below router place
   parents_below (Main router row) h = all_higher 4 140000 (omega arith) (parents s (Main router row)) (main_parents router row)
 
   -- a hop by which a packet comes to the owner of an address that is not the router's own
@@ -199,7 +249,17 @@ module _ (s : StateView) (is : IsState s) where
       omega (arith, length-map places (Base router))
   parents_some (Reach router addr hops) h k = reach_chosen router addr hops h
   parents_some (Hop router addr row hops) h k = absurd (cc)
+  parents_some (Session router place) h k = absurd (cc)
   parents_some (Main router row) h k = absurd (cc)
+
+  -- a session that is established rests on all that its link gives
+  pub session_rests : (router : RouterId) (place : ℕ) → holds s (Session router place) ≡ true → (k : Link) × (link_at s.routers s.sessions router.0 place ≡ Some k) × (parents s (Session router place) ≡ session_parents s router k)
+  unfolding holds parents
+  session_rests router place h = by_row (session_by s.sessions router.0 place) refl h
+    where
+      by_row : (o : Option SessionRow) → session_by s.sessions router.0 place ≡ o → is_some o ≡ true → (k : Link) × (link_at s.routers s.sessions router.0 place ≡ Some k) × (option_map_or (session_parents s router) (link_at s.routers s.sessions router.0 place) [] ≡ session_parents s router k)
+      by_row None found there = absurd (cc)
+      by_row (Some row) found there = let link = has_link s is router.0 place row found in (link.0, link.1, ap (λ (o : Option Link). option_map_or (session_parents s router) o []) link.1)
 
 -- an element has no parents
 pub parents_none : (s : StateView) (f : Fact) (e : ℕ) → kind f ≡ Leaf e → parents s f ≡ []
@@ -212,4 +272,5 @@ parents_none s (Resolve router addr) number k = absurd (cc)
 parents_none s (NetSource router prefix) number k = absurd (cc)
 parents_none s (Reach router addr hops) number k = absurd (cc)
 parents_none s (Hop router addr row hops) number k = absurd (cc)
+parents_none s (Session router place) number k = absurd (cc)
 parents_none s (Main router row) number k = absurd (cc)

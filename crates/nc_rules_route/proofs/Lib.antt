@@ -1,5 +1,7 @@
 pub mod Members
 pub mod Numbers
+pub mod Ends
+pub mod Established
 pub mod ElementFacts
 pub mod Ranges
 pub mod BaseRows

@@ -1,11 +1,12 @@
 -- Items of lists that a test finds, and that a choice adds.
-use Rattle.std.proofs.Common.{◌≡◌, ℕ, zero, suc, ◌+◌, ◌<◌, ◌≤◌, Bool, true, false, cond, not, ◌||◌, List, [], ◌∷◌, length, get_or, map, Option, Some, None, All, refl, sym, ap, ◌∙◌, arith}
-use Rattle.std.specs.List.{list_any, range_with_len, slice_get, position, position_or_len}
-use Rattle.std.specs.Option.{option_map_or}
-use Rattle.std.proofs.lemmas.Bool.{lt-ltb}
+use Rattle.std.proofs.Common.{◌≡◌, ℕ, zero, suc, ◌+◌, ◌<◌, ◌≤◌, Bool, true, false, cond, not, ◌||◌, List, [], ◌∷◌, length, get_or, map, Option, Some, None, All, refl, sym, ap, subst, ◌∙◌, arith, inl, inr}
+use Rattle.std.specs.List.{find, list_any, range_with_len, slice_get, slice_index_or, position, position_or_len}
+use Rattle.std.specs.Option.{option_map_or, unwrap_or}
+use Rattle.std.proofs.lemmas.Bool.{lt-ltb, cases_lt}
 use Rattle.std.proofs.lemmas.List.Elements.{All-nil, All-cons}
 use Rattle.std.proofs.lemmas.List.Quantifiers.{position-Some}
-use Rattle.std.proofs.lemmas.Option.{slice_get-get_or, none-some}
+use Rattle.std.proofs.lemmas.Option.{slice_get-get_or, get_or_from_slice_get, unwrap_or-slice_get, none-some}
+use Rattle.nc_types.proofs.Members.{In}
 
 module _ {X : Type 0} where
   -- the first item that passes
@@ -33,6 +34,15 @@ module _ {X : Type 0} where
           let found : position p xs ≡ Some (position_or_len p xs) = ap (λ (b : Bool). cond b (Some (position_or_len p xs)) None) (lt-ltb _ _ (found_place p xs e)) in
           absurd (none-some (position_or_len p xs) (sym none ∙ found))
 
+  -- the item that is found passes
+  pub in_by_find : (p : X → Bool) (xs : List X) (x : X) → find p xs ≡ Some x → In x xs × (p x ≡ true)
+  in_by_find p [] x e = absurd (cc)
+  in_by_find p (y ∷ xs) x e = by_test (in_by_find p xs x) (p y) refl e
+    where
+      by_test : (find p xs ≡ Some x → In x xs × (p x ≡ true)) → (b : Bool) → p y ≡ b → cond b (Some y) (find p xs) ≡ Some x → In x (y ∷ xs) × (p x ≡ true)
+      by_test rest true test is = let same : y ≡ x = cc in (inl same, subst (λ (z : X). p z ≡ true) same test)
+      by_test rest false test is = let later = rest is in (inr later.0, later.1)
+
   -- ---- what holds of each item that a choice adds
 
   pub all_of_one : (P : X → Type 0) (x : X) → P x → All P (x ∷ [])
@@ -55,3 +65,10 @@ pub get_past : {X : Type 0} (f : ℕ → X) (from count k : ℕ) → count ≤ k
 get_past f from zero k le = refl
 get_past f from (suc count) zero le = absurd (omega arith)
 get_past f from (suc count) (suc k) le = get_past f (from + 1) count k (omega arith)
+
+-- an item of the list that is made for a number is in what is made of the number
+pub in_by_router : {X : Type 0} (f : ℕ → List X) (count router : ℕ) (x : X) → In x (slice_index_or (map f (range_with_len 0 count)) router []) → In x (f router)
+in_by_router f count router x i = elim (cases_lt router count) [
+  | inl lt ↦ let e : 0 + router ≡ router = omega arith in subst (In x) (get_or_from_slice_get (map f (range_with_len 0 count)) router (f (0 + router)) [] (get_by_range f 0 count router lt) ∙ ap f e) i
+  | inr le ↦ absurd (subst (In x) (sym (unwrap_or-slice_get (map f (range_with_len 0 count)) router []) ∙ ap (λ o. unwrap_or o []) (get_past f 0 count router le)) i)
+]

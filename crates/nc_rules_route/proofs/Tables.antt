@@ -13,7 +13,7 @@ use Rattle.nc_tables.specs.State.{StateView, state_at, IsState}
 use Rattle.nc_tables.specs.CaseRelations.{state_base}
 use Rattle.nc_fact.specs.Facts.{base_place, base_rows, main_rows}
 use Rattle.nc_types.proofs.Members.{In}
-use Rattle.nc_rules_route.proofs.Members.{get_by_range, get_past}
+use Rattle.nc_rules_route.proofs.Members.{in_by_router}
 use Rattle.nc_rules_route.proofs.MainRows.{main_of_row}
 
 module _ (s : StateView) (is : IsState s) where
@@ -42,18 +42,7 @@ module _ (s : StateView) (is : IsState s) where
   main_is = ap (λ (t : StateView). t.main) is.tables
 
   in_main : (router : ℕ) (m : MainRow) → In m (main_rows s router) → In m (Mains router)
-  in_main router m i = elim (cases_lt router (length s.routers)) [
-    | inl lt ↦ let e : 0 + router ≡ router = omega arith in subst (In m) (table_is router (get_by_range Mains 0 (length s.routers) router lt) ∙ ap Mains e) i
-    | inr le ↦ absurd (subst (In m) (none router (get_past Mains 0 (length s.routers) router le)) i)
-  ]
-    where
-      table_is : (router : ℕ) {rows : List MainRow} → slice_get (map Mains (range_with_len 0 (length s.routers))) router ≡ Some rows → main_rows s router ≡ rows
-      table_is router {rows} at = ap (λ (t : List (List MainRow)). slice_index_or t router []) main_is ∙ get_or_from_slice_get (map Mains (range_with_len 0 (length s.routers))) router rows [] at
-
-      none : (router : ℕ) → slice_get (map Mains (range_with_len 0 (length s.routers))) router ≡ None → main_rows s router ≡ []
-      none router at =
-          ap (λ (t : List (List MainRow)). slice_index_or t router []) main_is ∙ sym (unwrap_or-slice_get (map Mains (range_with_len 0 (length s.routers))) router [])
-          ∙ ap (λ (o : Option (List MainRow)). unwrap_or o []) at
+  in_main router m i = in_by_router Mains (length s.routers) router m (subst (λ (t : List (List MainRow)). In m (slice_index_or t router [])) main_is i)
 
   -- the base row that a main row is of exists
   pub base_of_main : (router : ℕ) (m : MainRow) → In m (main_rows s router) → (place : ℕ) → base_place m.from ≡ Some place → place < length (base_rows s router)

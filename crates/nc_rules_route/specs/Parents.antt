@@ -72,12 +72,15 @@ module _ (s : StateView) where
   abbrev pub end_elements : ℕ → End → List Fact
   end_elements router e = element_in router e.process.element ∷ element_in router e.statement.element ∷ []
 
-  -- what a session rests on, on each side: process and neighbor statement, the interface from which it starts, and that a packet comes to the address of the statement
+  -- the interfaces from which the two sides of a session start, and that a packet comes from each to the address of its statement
+  abbrev pub ways_between : RouterId → Link → List Fact
+  ways_between router k =
+      Connected router k.session.source ∷ Connected k.session.peer k.session.peer_source
+      ∷ Reach router k.receiver.statement.addr HOP_LIMIT ∷ Reach k.session.peer k.sender.statement.addr HOP_LIMIT ∷ []
+
+  -- what a session rests on, the own side first: process and neighbor statement of each side, and the ways between them
   abbrev pub session_parents : RouterId → Link → List Fact
-  session_parents router k =
-      end_elements router.0 k.receiver ++ (end_elements k.session.peer.0 k.sender
-      ++ (Connected router k.session.source ∷ Connected k.session.peer k.session.peer_source
-      ∷ Reach router k.receiver.statement.addr HOP_LIMIT ∷ Reach k.session.peer k.sender.statement.addr HOP_LIMIT ∷ []))
+  session_parents router k = end_elements router.0 k.receiver ++ (end_elements k.session.peer.0 k.sender ++ ways_between router k)
 
   -- the parents of a fact that holds, in order
   unfoldable pub parents : Fact → List Fact
