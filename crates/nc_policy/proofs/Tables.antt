@@ -1,10 +1,13 @@
 -- Tables made one behind the other, each of what stands at its place.
-use Rattle.std.proofs.Common.{◌≡◌, ℕ, ◌<◌, List, [], ◌∷◌, ◌++◌, length, Some, sym, ap, subst, ◌∙◌, arith, inl, inr}
+use Rattle.std.proofs.Common.{◌≡◌, ℕ, ◌<◌, List, [], ◌∷◌, ◌++◌, length, map, get_or, Some, refl, sym, ap, subst, ◌∙◌, arith, inl, inr}
 use Rattle.std.specs.Prelude.{slice_get}
 use Rattle.std.proofs.lemmas.Bool.{cases_eq}
-use Rattle.std.proofs.lemmas.List.{length_push}
+use Rattle.std.proofs.lemmas.List.{length-map, length_push}
 use Rattle.std.proofs.lemmas.Option.{slice_get_within}
+use Rattle.nc_types.specs.Config.{ConfigView, config_view}
+use Rattle.nc_types.specs.declared.config.RouterConfig.{RouterConfig}
 use Rattle.nc_types.proofs.Placing.{slice_get_left, slice_get_middle}
+use Rattle.nc_policy.proofs.Permitting.{seen_at}
 
 -- one table more
 pub pushed : {A X : Type 0} (P : A → X → Type 0) (parts : List A) (xs ys : List X) (a : A) (y : X) → ys ≡ xs ++ y ∷ [] → slice_get parts (length xs) ≡ Some a → P a y
@@ -24,3 +27,10 @@ pushed {A} {X} P parts xs ys a y same at here before k b x got found =
           let lt : k < length xs = omega (arith, length_push xs y) in
           before k b x got (sym (slice_get_left xs (y ∷ []) k lt) ∙ all)
     ]
+
+-- the configuration of the router of a number
+pub config_at : (network : List ConfigView) (configs : List RouterConfig) (router : ℕ) (config : RouterConfig) → map config_view configs ≡ network → router < length network
+    → config ≡ get_or configs router config → slice_get network router ≡ Some (config_view config)
+config_at network configs router config same lt read =
+    let within : router < length configs = omega (arith, lt, ap (length {A = ConfigView}) same, length-map configs config_view) in
+    ap (λ (cs : List ConfigView). slice_get cs router) (sym same) ∙ seen_at config_view configs configs router config refl within read

@@ -1,10 +1,17 @@
 -- What is made of a route, by the clause that decides.
-use Rattle.std.proofs.Common.{◌≡◌, ℕ, Bool, true, false, cond, List, Option, Some, None, refl, sym, ap, ◌∙◌}
+use Rattle.std.proofs.Common.{◌≡◌, ℕ, ◌+◌, ◌-◌, ◌<◌, ◌≤◌, ◌++◌, Bool, true, false, cond, ◌||◌, nat_lt, List, length, Option, Some, None, refl, sym, ap, ◌∙◌, arith}
 use Rattle.std.specs.Option.{option_map_or}
-use Rattle.nc_types.specs.Config.{ConfigView}
+use Rattle.std.proofs.lemmas.Bool.Decides.{nat_tests}
+use Rattle.std.proofs.lemmas.List.{length-append}
+use Rattle.nc_types.specs.Cidr.{Cidr}
+use Rattle.nc_types.specs.Communities.{limited}
+use Rattle.nc_types.specs.Config.{ConfigView, ClauseView}
+use Rattle.nc_types.specs.Setting.{set_all}
+use Rattle.nc_types.specs.declared.TheConstants.{PATH_LIMIT, COMMUNITY_LIMIT}
 use Rattle.nc_tables.specs.declared.bgp.Route.{Route}
 use Rattle.nc_tables.specs.declared.policy.Names.{Names}
 use Rattle.nc_tables.specs.Policy.{Placed, Verdict, Deny, Permit, deciding, names_of, set_by, is_over, verdict_by, verdict}
+use Rattle.nc_policy.specs.Views.{asked}
 
 -- what is made of a route by a clause, where one decides
 abbrev by_deciding : ConfigView → Route → Option Placed → Verdict
@@ -35,3 +42,65 @@ module _ (c : ConfigView) (name : List ℕ) (r : Route) (k : Placed) (names : Na
       by_length : (b : Bool) → permitted_as (cond b None (Some (set_by k.clause r))) ≡ cond b Deny (permitted_as (Some (set_by k.clause r)))
       by_length true = refl
       by_length false = refl
+
+-- ---- what clauses ask of a route
+
+module _ (c : ConfigView) (r : Route) (p : Cidr) (held : List ℕ) (same_prefix : r.prefix ≡ p) (same_held : r.communities ≡ held) where
+  pub decides_alike : (name : List ℕ) → deciding c name (asked p held) ≡ deciding c name r
+  decides_alike name =
+      ap (λ (q : Cidr). deciding c name (asked q held)) (sym same_prefix) ∙ ap (λ (l : List ℕ). deciding c name (asked r.prefix l)) (sym same_held)
+
+  pub names_alike : (k : ClauseView) → names_of c (asked p held) k ≡ names_of c r k
+  names_alike k = ap (λ (q : Cidr). names_of c (asked q held) k) (sym same_prefix) ∙ ap (λ (l : List ℕ). names_of c (asked r.prefix l) k) (sym same_held)
+
+-- ---- routes that carry too much
+
+-- a route that goes on by a clause, where it carries no more than it may
+abbrev pub changed_by : ClauseView → Route → Option Route
+changed_by k r = cond (is_over (set_by k r)) None (Some (set_by k r))
+
+too_many : (a : Bool) (s : Route) (b : Bool) → b ≡ true → None ≡ cond (a || b) None (Some s)
+too_many true s b e = refl
+too_many false s b e = sym (ap (λ (t : Bool). cond t None (Some s)) e)
+
+module _ (k : ClauseView) (r : Route) where
+  pub too_long : (count : ℕ) → length r.path ≡ count → PATH_LIMIT - count < length k.prepend → None ≡ changed_by k r
+  too_long count is more =
+      let s = set_by k r in
+      let long : nat_lt PATH_LIMIT (length (k.prepend ++ r.path)) ≡ true = (let over : PATH_LIMIT < length (k.prepend ++ r.path) = omega (arith, length-append k.prepend r.path) in grind (arith, nat_tests)) in
+      sym (ap (λ (b : Bool). cond (b || nat_lt COMMUNITY_LIMIT (length s.communities)) None (Some s)) long)
+
+  pub too_full : (held : List ℕ) → r.communities ≡ held → None ≡ limited (set_all k.communities held) → None ≡ changed_by k r
+  too_full held is none =
+      let s = set_by k r in
+      let left = set_all k.communities r.communities in
+      let over : nat_lt COMMUNITY_LIMIT (length left) ≡ true = on (nat_lt COMMUNITY_LIMIT (length left)) left (none ∙ ap (λ (l : List ℕ). limited (set_all k.communities l)) (sym is)) in
+      too_many (nat_lt PATH_LIMIT (length (k.prepend ++ r.path))) s (nat_lt COMMUNITY_LIMIT (length left)) over
+    where
+      on : (b : Bool) (set : List ℕ) → None ≡ cond b None (Some set) → b ≡ true
+      on true set e = refl
+      on false set e = cc
+
+  pub not_over : (count : ℕ) (held set : List ℕ) → length r.path ≡ count → count ≤ PATH_LIMIT → length k.prepend ≤ PATH_LIMIT - count → r.communities ≡ held → Some set ≡ limited (set_all k.communities held)
+      → Some (set_by k r) ≡ changed_by k r
+  not_over count held set is few fits same some =
+      let s = set_by k r in
+      let left = set_all k.communities r.communities in
+      let short : nat_lt PATH_LIMIT (length (k.prepend ++ r.path)) ≡ false = (let within : length (k.prepend ++ r.path) ≤ PATH_LIMIT = omega (arith, length-append k.prepend r.path) in grind (arith, nat_tests)) in
+      let enough : nat_lt COMMUNITY_LIMIT (length left) ≡ false = on (nat_lt COMMUNITY_LIMIT (length left)) left (some ∙ ap (λ (l : List ℕ). limited (set_all k.communities l)) (sym same)) in
+      sym (
+      ap (λ (b : Bool). cond (b || nat_lt COMMUNITY_LIMIT (length left)) None (Some s)) short
+      ∙ ap (λ (b : Bool). cond b None (Some s)) enough
+      )
+    where
+      on : (b : Bool) (l : List ℕ) → Some set ≡ cond b None (Some l) → b ≡ false
+      on true l e = cc
+      on false l e = refl
+
+-- the same communities are left of the same ones
+pub left_of : (k : ClauseView) (held set : List ℕ) → Some set ≡ limited (set_all k.communities held) → set ≡ set_all k.communities held
+left_of k held set some = on (nat_lt COMMUNITY_LIMIT (length (set_all k.communities held))) (set_all k.communities held) some
+  where
+    on : (b : Bool) (l : List ℕ) → Some set ≡ cond b None (Some l) → set ≡ l
+    on true l e = cc
+    on false l e = cc

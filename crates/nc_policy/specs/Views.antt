@@ -1,7 +1,9 @@
 -- A candidate and a verdict of the code as those of the definition.
-use Rattle.std.specs.Prelude.{◌≡◌, ℕ, ◌<◌, Bool, true, nat_lt, List, length, map, Option, Some, position}
+use Rattle.std.specs.Prelude.{◌≡◌, ℕ, ◌<◌, Bool, true, nat_lt, List, [], length, map, Option, Some, position}
 use Rattle.std.specs.Option.{option_map_or}
 use Rattle.std.specs.Str.{bytes_eq}
+use Rattle.nc_types.specs.Cidr.{Cidr}
+use Rattle.nc_types.specs.declared.config.OriginCode.TheVariants.{Igp}
 use Rattle.nc_types.specs.Config.{ClauseView, CommunityListView, ConfigView, PrefixListView, clause_view}
 use Rattle.nc_tables.specs.declared.bgp.Route.{Route}
 use Rattle.nc_tables.specs.Policy as policy
@@ -25,6 +27,11 @@ named_community_list c name = community_place_of name c.community_lists
 -- the names of the maps of a router's clauses
 abbrev pub map_names : ConfigView → List (List ℕ)
 map_names c = map (λ k. k.map_name) c.clauses
+
+-- a route of which its prefix and its communities are known, all that clauses ask of one
+abbrev pub asked : Cidr → List ℕ → Route
+asked prefix held =
+    record { prefix = prefix; path = []; next_hop = record { 0 = 0 }; preference = 0; metric = 0; origin = Igp; communities = held }
 
 -- a clause with its place
 abbrev pub candidate_view : Candidate → policy.Placed

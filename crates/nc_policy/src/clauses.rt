@@ -7,13 +7,13 @@ ghost use Rattle.nc_types.specs.Config.{ClauseView, config_view, clause_view};
 ghost use Rattle.nc_types.specs.WellFormed.{IsWellFormed};
 ghost use Rattle.nc_tables.specs.Policy.{prefix_place, community_place, first_place, met};
 ghost use Rattle.nc_tables.specs.Policy.{names_of, is_matching, deciding};
-ghost use Rattle.nc_policy.specs.Views.{candidate_view, is_lower, map_names, IsCandidate};
+ghost use Rattle.nc_policy.specs.Views.{asked, candidate_view, is_lower, map_names, IsCandidate};
 ghost use Rattle.nc_policy.specs.Indexes.{place_from, IsIndexed};
 
 use crate::lists::{community_place, prefix_place};
 use crate::router_index::RouterIndex;
-use nc_tables::{Names, Place, Route};
-use nc_types::{Clause, Communities, Prefix, Reference, RouterConfig};
+use nc_tables::{Names, Place};
+use nc_types::{Clause, Prefix, Reference, RouterConfig};
 
 // The entry of the first prefix list, in order of mention, that permits a prefix.
 fn first_prefix_place(
@@ -38,7 +38,7 @@ fn first_prefix_place(
 fn first_community_place(
     config: &RouterConfig,
     index: Option<&RouterIndex>,
-    held: &Communities,
+    held: &[u32],
     references: &[Reference],
 ) -> Option<Place>
     requires indexed { IfSome index (λ x. IsIndexed (config_view config.now) x.now) }
@@ -77,7 +77,7 @@ fn prefixes_met(
 fn communities_met(
     config: &RouterConfig,
     index: Option<&RouterIndex>,
-    held: &Communities,
+    held: &[u32],
     references: &[Reference],
 ) -> Option<Option<Place>>
     requires indexed { IfSome index (λ x. IsIndexed (config_view config.now) x.now) }
@@ -91,19 +91,22 @@ fn communities_met(
     Some(Some(place))
 }
 
-// The entries by which a clause matches a route; `None` where it doesn't match.
+// The entries by which a clause matches a route of a prefix with communities; `None` where it doesn't
+// match.
 fn names_of(
     config: &RouterConfig,
     index: Option<&RouterIndex>,
-    route: &Route,
+    prefix: Prefix,
+    held: &[u32],
     clause: &Clause,
 ) -> Option<Names>
     requires indexed { IfSome index (λ x. IsIndexed (config_view config.now) x.now) }
     requires formed { IsWellFormed (config_view config.now) }
-    ensures { result ≡ names_of (config_view config.now) route.now (clause_view clause.now) }
+    ensures { result
+        ≡ names_of (config_view config.now) (asked prefix held.now) (clause_view clause.now) }
 {
-    let entry = prefixes_met(config, index, route.prefix, &clause.lists)?;
-    let community = communities_met(config, index, &route.communities, &clause.community_lists)?;
+    let entry = prefixes_met(config, index, prefix, &clause.lists)?;
+    let community = communities_met(config, index, held, &clause.community_lists)?;
     Some(Names { entry, community })
 }
 
@@ -131,27 +134,28 @@ fn is_lower(clause: &Clause, best: Option<Candidate<'_>>) -> bool
 fn better<'a>(
     config: &'a RouterConfig,
     index: Option<&RouterIndex>,
-    route: &Route,
+    prefix: Prefix,
+    held: &[u32],
     place: usize,
     best: Option<Candidate<'a>>,
 ) -> Option<Candidate<'a>>
     requires indexed { IfSome index (λ x. IsIndexed (config_view config.now) x.now) }
     requires formed { IsWellFormed (config_view config.now) }
     requires place { place < length config.now.clauses.items }
-    requires best { IfSome best (IsCandidate (config_view config.now) route.now) }
+    requires best { IfSome best (IsCandidate (config_view config.now) (asked prefix held.now)) }
     ensures better { (k : ClauseView) → slice_get (config_view config.now).clauses place ≡ Some k
         → option_map candidate_view result
         ≡ (if is_lower k (option_map candidate_view best.entry)
-        && is_matching (config_view config.now) route.now k
+        && is_matching (config_view config.now) (asked prefix held.now) k
         then Some (record { place = place; clause = k })
         else option_map candidate_view best.entry) }
-    ensures candidate { IfSome result (IsCandidate (config_view config.now) route.now) }
+    ensures candidate { IfSome result (IsCandidate (config_view config.now) (asked prefix held.now)) }
 {
     let clause = &config.clauses[place];
     if !is_lower(clause, best) {
         return best;
     }
-    match names_of(config, index, route, clause) {
+    match names_of(config, index, prefix, held, clause) {
         None => best,
         Some(names) => Some(Candidate {
             place,
@@ -202,24 +206,25 @@ fn clause_behind(
     }
 }
 
-/// The matching clause of a map with the least number. The lists of a clause whose number isn't
+/// The clause of a map with the least number that matches a route of a prefix with communities. The lists of a clause whose number isn't
 /// lower than that of a matching one before it aren't asked.
 pub(crate) fn deciding<'a>(
     config: &'a RouterConfig,
     index: Option<&RouterIndex>,
     map: &[u8],
-    route: &Route,
+    prefix: Prefix,
+    held: &[u32],
 ) -> Option<Candidate<'a>>
     requires indexed { IfSome index (λ x. IsIndexed (config_view config.now) x.now) }
     requires formed { IsWellFormed (config_view config.now) }
     ensures deciding { option_map candidate_view result
-        ≡ deciding (config_view config.now) map.now route.now }
-    ensures candidate { IfSome result (IsCandidate (config_view config.now) route.now) }
+        ≡ deciding (config_view config.now) map.now (asked prefix held.now) }
+    ensures candidate { IfSome result (IsCandidate (config_view config.now) (asked prefix held.now)) }
 {
     let mut best = None;
     let mut next = first_clause(config, index, map);
     'clauses: while let Some(place) = next {
-        best = better(config, index, route, place, best);
+        best = better(config, index, prefix, held, place, best);
         next = clause_behind(config, index, map, place);
     }
     best

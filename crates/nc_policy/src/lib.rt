@@ -15,11 +15,13 @@ mod clauses;
 mod index;
 mod lists;
 mod names;
+mod passing;
 mod policies;
 mod route_map;
 mod router_index;
 mod setting;
 
 pub use nc_tables::Place;
+pub use passing::{ByClause, PassedRoute, Passing, pass};
 pub use policies::Policies;
 pub use route_map::{Verdict, apply};

@@ -14,9 +14,7 @@ use crate::index::ListIndex;
 use crate::router_index::RouterIndex;
 use nc_community::decide;
 use nc_tables::Place;
-use nc_types::{
-    Communities, CommunityList, ListEntry, Prefix, PrefixList, Reference, RouterConfig,
-};
+use nc_types::{CommunityList, ListEntry, Prefix, PrefixList, Reference, RouterConfig};
 
 // Whether an entry is of a prefix.
 fn is_of(prefix: Prefix, entry: &ListEntry) -> bool
@@ -55,11 +53,11 @@ fn permitting_prefix(list: &PrefixList, index: Option<&ListIndex>, prefix: Prefi
 }
 
 // The place of the entry by which a community list permits communities.
-fn permitting_community(list: &CommunityList, held: &Communities) -> Option<usize>
+fn permitting_community(list: &CommunityList, held: &[u32]) -> Option<usize>
     ensures entry { result ≡ permitting_community held.now list.now.entries.items }
     ensures within { IfSome result (λ entry. entry < length list.now.entries.items) }
 {
-    let place = decide(list, held.numbers())?;
+    let place = decide(list, held)?;
     let entry = list.entries.get(place)?;
     if entry.permit { Some(place) } else { None }
 }
@@ -152,7 +150,7 @@ pub(crate) fn prefix_place(
 pub(crate) fn community_place(
     config: &RouterConfig,
     index: Option<&RouterIndex>,
-    held: &Communities,
+    held: &[u32],
     reference: &Reference,
 ) -> Option<Place>
     requires indexed { IfSome index (λ x. IsIndexed (config_view config.now) x.now) }

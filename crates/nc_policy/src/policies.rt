@@ -1,15 +1,22 @@
 //! The tables of all routers of a network, by which route maps are asked again and again.
 
-ghost use Rattle.std.specs.Prelude.{◌≡◌, ◌<◌, List, length, IfOk, IfSome, Some, slice_get};
+ghost use Rattle.std.specs.Prelude.{◌≡◌, ◌+◌, ◌<◌, ◌≤◌, List, length, IfOk, IfSome, Some, slice_get};
+ghost use Rattle.std.specs.Option.{option_map};
 ghost use Rattle.nc_types.specs.Config.{ConfigView};
+ghost use Rattle.nc_types.specs.declared.TheConstants.{PATH_LIMIT};
 ghost use Rattle.nc_tables.specs.Policy.{verdict};
+ghost use Rattle.nc_tables.specs.Rounds.{passed};
+ghost use Rattle.nc_tables.specs.declared.bgp.Route.{Route};
 ghost use Rattle.nc_policy.specs.Indexes.{ArePolicies, IsIndexed};
+ghost use Rattle.nc_policy.specs.Passing.{communities_by, passing_view, prepended_by};
 ghost use Rattle.nc_policy.specs.Views.{verdict_view};
 
+use crate::passing::{PassedRoute, pass_by};
 use crate::route_map::{Verdict, judge};
 use crate::router_index::RouterIndex;
+use nc_community::CommunitySet;
 use nc_tables::Route;
-use nc_types::{Network, RouterId};
+use nc_types::{Network, Prefix, Reference, RouterId};
 use std::alloc::{AllocError, Global};
 
 /// The tables of the maps and lists of a network's routers. They are made once, and by them the
@@ -69,5 +76,32 @@ impl Policies {
         let config = &network.routers()[place];
         let verdict = judge(alloc, config, self.tables(place), map, route)?;
         Ok(verdict)
+    }
+    /// What the map of a neighbor statement of a router, if it has one, makes of a route with this
+    /// prefix, so many numbers in its path and these communities, as [`crate::pass`] says it. The
+    /// tables are those of the network, which has the router. Takes no memory.
+    pub fn pass<'a>(
+        &self,
+        network: &'a Network,
+        router: RouterId,
+        map: &Option<Reference>,
+        prefix: Prefix,
+        count: usize,
+        held: &CommunitySet,
+    ) -> Option<PassedRoute<'a>>
+        requires policies { ArePolicies network.now self.now }
+        requires router { router.0 < length network.now }
+        requires few { count ≤ PATH_LIMIT }
+        ensures passed { (c : ConfigView) (r : Route) → slice_get network.now router.0 ≡ Some c
+            → r.prefix ≡ prefix → length r.path ≡ count → r.communities ≡ held.now
+            → option_map (λ p. passing_view r p.passing) result ≡ passed c map.now r }
+        ensures communities { IfSome result
+            (λ p. p.communities ≡ communities_by p.passing held.now) }
+        ensures short { IfSome result
+            (λ p. length (prepended_by p.passing) + count ≤ PATH_LIMIT) }
+    {
+        let place = router.0 as usize;
+        let config = &network.routers()[place];
+        pass_by(config, self.tables(place), map, prefix, count, held)
     }
 }

@@ -48,7 +48,8 @@ pub(crate) fn judge(
     ensures { IfOk result (λ v. verdict_view v
         ≡ verdict (config_view config.now) map.now route.now) }
 {
-    let Some(found) = deciding(config, index, map, route) else {
+    let held = route.communities.numbers();
+    let Some(found) = deciding(config, index, map, route.prefix, held) else {
         return Ok(Verdict::Deny);
     };
     if !found.clause.permit {

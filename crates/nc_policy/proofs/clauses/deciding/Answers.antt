@@ -8,7 +8,7 @@ use Rattle.std.proofs.lemmas.Option.{slice_get-map, slice_get_cases, slice_get_w
 use Rattle.nc_types.specs.Config.{ClauseView, clause_view, config_view}
 use Rattle.nc_types.specs.declared.config.RouterConfig.{RouterConfig}
 use Rattle.nc_tables.specs.Policy.{Placed, is_matching, deciding}
-use Rattle.nc_policy.specs.Views.{candidate_view, is_lower, map_names}
+use Rattle.nc_policy.specs.Views.{asked, candidate_view, is_lower, map_names}
 use Rattle.nc_policy.proofs.Deciding.{lower_of, rest_of, of_map, one_more, skip_from, named_at, fewer}
 use Rattle.nc_policy.proofs.Spots.{not_before}
 use Rattle.nc_policy.proofs.clauses.deciding.Goals as goal
@@ -30,7 +30,7 @@ pub clauses-init : goal.clauses-init
 clauses-init c =
     let config = config_view c.args.config.now in
     let name = c.args.map.now in
-    let matches = λ (k : Placed). is_matching config c.args.route.now k.clause in
+    let matches = λ (k : Placed). is_matching config (asked c.args.prefix c.args.held.now) k.clause in
     record {
       deciding = ap (rest_of (of_map name matches) config.clauses) c.first_clause-next.ensures ∙ skip_from name matches config.clauses 0;
       named = λ k e. named_at name (map_names config) 0 k (sym c.first_clause-next.ensures ∙ e);
@@ -48,11 +48,11 @@ clauses-preserved c =
     let names = map_names config in
     let place = c.in-Some.place in
     let own : slice_get names place ≡ Some name = c.clauses.invariant.named place c.in-Some.is in
-    let matches = λ (k : Placed). is_matching config c.args.route.now k.clause in
+    let matches = λ (k : Placed). is_matching config (asked c.args.prefix c.args.held.now) k.clause in
     let test = of_map name matches in
     let best = option_map candidate_view c.clauses.best in
     let behind = rest_of test all c.clause_behind-next.result in
-    let decided : (k : ClauseView) → slice_get all place ≡ Some k → lower_of (option_map candidate_view c.better-best.result) behind ≡ deciding config name c.args.route.now =
+    let decided : (k : ClauseView) → slice_get all place ≡ Some k → lower_of (option_map candidate_view c.better-best.result) behind ≡ deciding config name (asked c.args.prefix c.args.held.now) =
     λ k at.
     let this : Placed = record { place = place; clause = k } in
     let low = is_lower k best in

@@ -6,15 +6,8 @@ use Rattle.nc_types.specs.WellFormed.{IsWellFormed}
 use Rattle.nc_types.specs.declared.config.RouterConfig.{RouterConfig}
 use Rattle.nc_types.proofs.Members.{all_in, in_by_get}
 use Rattle.nc_tables.specs.Policy.{verdict}
-use Rattle.nc_policy.proofs.Permitting.{seen_at}
+use Rattle.nc_policy.proofs.Tables.{config_at}
 use Rattle.nc_policy.proofs.policies.Policies.apply.Goals as goal
-
--- the configuration of the router of a number
-config_at : (network : List ConfigView) (configs : List RouterConfig) (router : ℕ) (config : RouterConfig) → map config_view configs ≡ network → router < length network
-    → config ≡ get_or configs router config → slice_get network router ≡ Some (config_view config)
-config_at network configs router config same lt read =
-    let within : router < length configs = omega (arith, lt, ap (length {A = ConfigView}) same, length-map configs config_view) in
-    ap (λ (cs : List ConfigView). slice_get cs router) (sym same) ∙ seen_at config_view configs configs router config refl within read
 
 pub judge-requires-clause-indexed : goal.judge-requires-clause-indexed
 judge-requires-clause-indexed c = c.tables.ensures c.args.network.now (config_view c.index-routers-place.result) c.requires.policies

@@ -1,0 +1,27 @@
+use Rattle.std.proofs.Common.{◌≡◌, ◌<◌, ℕ, List, Some, length, map, get_or, refl, ap, sym, ◌∙◌, arith}
+use Rattle.std.specs.Prelude.{slice_get}
+use Rattle.std.proofs.lemmas.List.{length-map}
+use Rattle.nc_types.specs.Config.{ConfigView, config_view}
+use Rattle.nc_types.specs.WellFormed.{IsWellFormed}
+use Rattle.nc_types.specs.declared.config.RouterConfig.{RouterConfig}
+use Rattle.nc_types.proofs.Members.{all_in, in_by_get}
+use Rattle.nc_tables.specs.Rounds.{passed}
+use Rattle.nc_policy.proofs.Tables.{config_at}
+use Rattle.nc_policy.proofs.policies.Policies.pass.Goals as goal
+
+pub pass_by-requires-clause-indexed : goal.pass_by-requires-clause-indexed
+pass_by-requires-clause-indexed c = c.tables.ensures c.args.network.now (config_view c.index-routers-place.result) c.requires.policies
+    (config_at c.args.network.now c.routers.result.now c.args.router.0 c.index-routers-place.result c.routers.ensures.routers c.requires.router c.index-routers-place.is)
+
+pub pass_by-requires-clause-formed : goal.pass_by-requires-clause-formed
+pass_by-requires-clause-formed c = all_in IsWellFormed c.args.network.now c.routers.ensures.valid.each (config_view c.index-routers-place.result) (in_by_get c.args.network.now c.args.router.0 (config_view c.index-routers-place.result)
+    (config_at c.args.network.now c.routers.result.now c.args.router.0 c.index-routers-place.result c.routers.ensures.routers c.requires.router c.index-routers-place.is))
+
+pub returns-clause-passed : goal.returns-clause-passed
+returns-clause-passed c = λ other r at p l h.
+    let config = config_view c.index-routers-place.result in
+    let here : slice_get c.args.network.now c.args.router.0 ≡ Some config =
+    config_at c.args.network.now c.routers.result.now c.args.router.0 c.index-routers-place.result c.routers.ensures.routers c.requires.router c.index-routers-place.is in
+    let one : Some config ≡ Some other = sym here ∙ at in
+    let same : config ≡ other = cc in
+    c.pass_by.ensures.passed r p l h ∙ ap (λ (k : ConfigView). passed k c.args.map.now r) same
