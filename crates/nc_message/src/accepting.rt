@@ -1,0 +1,125 @@
+//! What is accepted of a message.
+
+ghost use Rattle.std.specs.Prelude.{◌≡◌, ◌==◌, ◌<◌, IfSome, Some, length, slice_get};
+ghost use Rattle.std.specs.List.{list_any};
+ghost use Rattle.std.specs.Option.{option_map};
+ghost use Rattle.nc_tables.specs.Choice.{is_learnt};
+ghost use Rattle.nc_tables.specs.Rounds.{accepted_at, accepted_of, has_own_hop, is_looped};
+ghost use Rattle.nc_message.specs.Given.{AreGiven};
+ghost use Rattle.nc_message.specs.Views.{message_view, taken_view, IsTold, IsTaken};
+
+use crate::given::Given;
+use crate::messages::{Sent, message_at, sent_length};
+use crate::rows::has_hit;
+use nc_community::CommunitySet;
+use nc_policy::Passing;
+use nc_tables::{BgpFrom, BgpTable};
+use nc_types::{Addr, Prefix, RouterId};
+use nc_underlay::own_interface;
+
+/// A message that is accepted, and how its route passed the receiver's neighbor statement.
+#[derive(Drop)]
+pub struct Taken<'a> {
+    pub sent: Sent<'a>,
+    pub into: Passing<'a>,
+    /// The communities that the route has then.
+    pub communities: CommunitySet,
+}
+
+// Whether a number is among others.
+fn has(numbers: &[u32], number: u32) -> bool
+    ensures { result ≡ list_any (λ n. n == number) numbers.now }
+{
+    numbers.iter().any(|other| *other == number)
+}
+
+// Whether the path of a message holds the receiver's own system (RFC 4271, 9.1.2).
+fn is_looped(sent: &Sent) -> bool
+    ensures { result ≡ is_looped (message_view sent.now) }
+{
+    let own = sent.link.receiver.process.asn;
+    let is_sender = !sent.link.session.internal && sent.link.sender.process.asn == own;
+    is_sender || has(sent.out.prepended(), own) || has(sent.best.route.path.numbers(), own)
+}
+
+// Whether a candidate was learnt.
+fn is_learnt(from: BgpFrom) -> bool
+    ensures { result ≡ is_learnt from }
+{
+    matches!(from, BgpFrom::Entry(_))
+}
+
+/// The next hop of a message: the sender, but within the system that of what was learnt stays,
+/// unless the sender's statement says `next-hop-self`.
+pub(crate) fn next_hop(sent: &Sent) -> Addr
+    ensures { result ≡ (message_view sent.now).route.next_hop }
+{
+    let link = &sent.link;
+    let is_kept = link.session.internal
+        && !link.sender.statement.self_hop
+        && is_learnt(sent.best.from);
+    if is_kept {
+        sent.best.route.next_hop
+    } else {
+        link.source
+    }
+}
+
+// Whether an address is that of one of the router's own interfaces that are up.
+fn is_own(given: &Given, router: RouterId, sent: &Sent) -> bool
+    requires { slice_get given.now.network.now router.0
+        ≡ Some (message_view sent.now).link.receiver.config }
+    ensures { result ≡ has_own_hop (message_view sent.now) }
+{
+    own_interface(given.network, router, next_hop(sent)).is_some()
+}
+
+// What is accepted of a message to a router.
+fn accepted_of<'a>(given: &Given<'a>, router: RouterId, sent: Sent<'a>) -> Option<Taken<'a>>
+    requires given { AreGiven given.now }
+    requires receiver { slice_get given.now.network.now router.0
+        ≡ Some (message_view sent).link.receiver.config }
+    requires told { IsTold sent }
+    ensures accepted { option_map taken_view result
+        ≡ accepted_of given.now.base.now router.0 (message_view sent.entry) }
+    ensures taken { IfSome result IsTaken }
+{
+    if is_looped(&sent) || is_own(given, router, &sent) {
+        return None;
+    }
+    if !has_hit(given.network, given.base, router, next_hop(&sent)) {
+        return None;
+    }
+    let prefix = sent.best.route.prefix;
+    let count = sent_length(sent.link.session.internal, sent.best, &sent.out);
+    let map = &sent.link.receiver.statement.map_in;
+    let into = given.policies.pass(given.network, router, map, prefix, count, &sent.communities)?;
+    Some(Taken {
+        sent,
+        into: into.passing,
+        communities: into.communities,
+    })
+}
+
+/// What a router accepts of the message to the neighbor statement at a place for a prefix, as
+/// [`message_at`] tells it: the message, unless its path holds the router's own system, its next
+/// hop is one of the router's own addresses or can't be reached by the base table, or the router's
+/// map denies it; `None` also where there is no message. Takes no memory.
+#[tactic(auto, unfolding(nc_tables::specs::Rounds::accepted_at))]
+pub fn accepted_at<'a>(
+    given: &Given<'a>,
+    table: &'a BgpTable,
+    router: RouterId,
+    place: u32,
+    prefix: Prefix,
+) -> Option<Taken<'a>>
+    requires given { AreGiven given.now }
+    requires table { length table.now ≡ length given.now.network.now }
+    ensures accepted { option_map taken_view result
+        ≡ accepted_at given.now.network.now given.now.base.now given.now.sessions.now table.now
+        router.0 place prefix }
+    ensures taken { IfSome result IsTaken }
+{
+    let sent = message_at(given, table, router, place, prefix)?;
+    accepted_of(given, router, sent)
+}

@@ -1,0 +1,26 @@
+//! What a router learns from its neighbors of a prefix, and what it chooses.
+//!
+//! Over a session its peer sends the best of what it has chosen, where its aggregates and its map
+//! let it; the router accepts what isn't its own, leads somewhere and passes its map. Both are told
+//! without memory by [`message_at`] and [`accepted_at`], as the clauses and entries that decided;
+//! [`chosen_anew`] makes the candidates of a prefix of it, with the router's own networks and
+//! active aggregates, and chooses among them. The crate stands on `nc_types` for the network, on
+//! `nc_tables` for the tables and the definitions, on `nc_sessions` for the ends of a session, on
+//! `nc_policy` and `nc_community` for maps and communities, on `nc_underlay` for where base tables
+//! lead, and on `nc_select` for the choice. Its contract promises exactly the message, the
+//! acceptance and the choice of the definitions.
+#![tactic(auto)]
+
+mod accepting;
+mod candidates;
+mod choosing;
+mod entries;
+mod given;
+mod messages;
+mod rows;
+
+pub use accepting::{Taken, accepted_at};
+pub use choosing::chosen_anew;
+pub use entries::entry;
+pub use given::Given;
+pub use messages::{Sent, message_at};

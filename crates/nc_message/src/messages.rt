@@ -1,0 +1,145 @@
+//! The message over a session for a prefix.
+
+ghost use Rattle.std.specs.Prelude.{◌≡◌, ◌+◌, ◌≤◌, ◌<◌, ◌&&◌, [], length, IfSome, Some, slice_get, if◌then◌else◌};
+ghost use Rattle.std.specs.Option.{option_map};
+ghost use Rattle.nc_types.specs.Config.{process_view};
+ghost use Rattle.nc_types.specs.declared.TheConstants.{PATH_LIMIT};
+ghost use Rattle.nc_tables.specs.Rounds.{best_at, is_held_back, message_at, message_of, out_of};
+ghost use Rattle.nc_policy.specs.Passing.{communities_by, prepended_by};
+ghost use Rattle.nc_sessions.specs.Views.{link_view};
+ghost use Rattle.nc_message.specs.Given.{AreGiven};
+ghost use Rattle.nc_message.specs.Views.{message_view, message_with, out_view, IsTold};
+
+use crate::given::{Given, link_of};
+use crate::rows::is_longer_in;
+use nc_community::CommunitySet;
+use nc_policy::{PassedRoute, Passing};
+use nc_sessions::Link;
+use nc_tables::{BgpTable, Chosen};
+use nc_types::{PATH_LIMIT, Prefix, Process, RouterId};
+
+/// A message: over which session, of which candidate of the sender, and how the candidate passed
+/// the sender's neighbor statement.
+#[derive(Drop)]
+pub struct Sent<'a> {
+    pub link: Link<'a>,
+    pub best: &'a Chosen,
+    pub out: Passing<'a>,
+    /// The communities with which the route is sent.
+    pub communities: CommunitySet,
+}
+
+// The best candidate that a router has chosen of a prefix.
+fn best_at(table: &BgpTable, router: RouterId, prefix: Prefix) -> Option<&Chosen>
+    requires { router.0 < length table.now }
+    ensures best { option_map (λ b. b.now) result ≡ best_at table.now router.0 prefix }
+    ensures own { IfSome result (λ b. b.now.route.prefix ≡ prefix) }
+{
+    let _rows = table.rows(router);
+    table.chosen(router, prefix).first()
+}
+
+// Whether an aggregate of the sender holds a prefix back: it sends itself alone (Cisco IOS command
+// reference, `aggregate-address .. summary-only`).
+fn is_held_back(process: &Process, prefix: Prefix) -> bool
+    ensures { result ≡ is_held_back (process_view process.now) prefix }
+{
+    process.aggregates.iter().any(|aggregate| aggregate.summary_only
+        && is_longer_in(prefix, aggregate.prefix))
+}
+
+// How the best candidate passes the sender's statement for the receiver.
+fn out_of<'a>(given: &Given<'a>, link: &Link<'a>, best: &'a Chosen) -> Option<PassedRoute<'a>>
+    requires given { AreGiven given.now }
+    requires sender { slice_get given.now.network.now link.now.session.peer.0
+        ≡ Some (link_view link.now).sender.config }
+    ensures out { option_map (λ p. out_view (link_view link.now) best.now p.passing) result
+        ≡ out_of (link_view link.now) best.now }
+    ensures communities { IfSome result
+        (λ p. p.communities ≡ communities_by p.passing best.now.route.communities) }
+    ensures short { IfSome result
+        (λ p. length (prepended_by p.passing) + length best.now.route.path ≤ PATH_LIMIT) }
+{
+    let held = CommunitySet::of(best.route.communities.numbers());
+    let count = best.route.path.numbers().len();
+    let map = &link.sender.statement.map_out;
+    let peer = link.session.peer;
+    given
+        .policies
+        .pass(given.network, peer, map, best.route.prefix, count, &held)
+}
+
+/// How many numbers the path has of a route as it is sent: toward another system the sender's own
+/// number goes before it.
+pub(crate) fn sent_length(internal: bool, best: &Chosen, out: &Passing) -> usize
+    requires { length (prepended_by out.now) + length best.now.route.path ≤ PATH_LIMIT }
+    ensures { result ≡ (if internal then 0 else 1)
+        + (length (prepended_by out.now) + length best.now.route.path) }
+{
+    let length = out.prepended().len() + best.route.path.numbers().len();
+    if internal { length } else { 1 + length }
+}
+
+// The communities that are carried to a neighbor, where its statement says so.
+fn carried(send: bool, communities: CommunitySet) -> CommunitySet
+    ensures { result ≡ (if send then communities else []) }
+{
+    if send {
+        communities
+    } else {
+        CommunitySet::new()
+    }
+}
+
+// The message over a session of the sender's best candidate.
+fn message_of<'a>(given: &Given<'a>, link: Link<'a>, best: &'a Chosen) -> Option<Sent<'a>>
+    requires given { AreGiven given.now }
+    requires sender { slice_get given.now.network.now link.session.peer.0
+        ≡ Some (link_view link).sender.config }
+    ensures message { option_map message_view result
+        ≡ message_of (link_view link.entry) best.entry.now }
+    ensures told { IfSome result IsTold }
+{
+    if is_held_back(link.sender.process, best.route.prefix) {
+        return None;
+    }
+    if link.session.internal && best.internal {
+        return None;
+    }
+    let out = out_of(given, &link, best)?;
+    if sent_length(link.session.internal, best, &out.passing) > PATH_LIMIT {
+        return None;
+    }
+    Some(Sent {
+        link,
+        best,
+        out: out.passing,
+        communities: carried(link.sender.statement.send_community, out.communities),
+    })
+}
+
+/// The message to the neighbor statement at a place of a router for a prefix: of the best candidate
+/// that the session's peer has chosen in this table, which has a list for each router. It is sent
+/// unless an aggregate of the peer holds the prefix back, it was learnt inside the system and would
+/// stay inside (RFC 4271, 9.2), the peer's map denies it, or its path would be longer than
+/// [`nc_types::PATH_LIMIT`]; `None` also where there is no such router, statement, session or
+/// candidate. Takes no memory.
+#[tactic(auto, unfolding(nc_tables::specs::Rounds::message_at))]
+pub fn message_at<'a>(
+    given: &Given<'a>,
+    table: &'a BgpTable,
+    router: RouterId,
+    place: u32,
+    prefix: Prefix,
+) -> Option<Sent<'a>>
+    requires given { AreGiven given.now }
+    requires table { length table.now ≡ length given.now.network.now }
+    ensures message { option_map message_view result
+        ≡ message_at given.now.network.now given.now.base.now given.now.sessions.now table.now
+        router.0 place prefix }
+    ensures told { IfSome result IsTold }
+{
+    let link = link_of(given, router, place)?;
+    let best = best_at(table, link.session.peer, prefix)?;
+    message_of(given, link, best)
+}

@@ -1,0 +1,62 @@
+//! What rows of tables say of a prefix or an address.
+
+ghost use Rattle.std.specs.Prelude.{◌≡◌, ◌<◌, length, map, nat_lt};
+ghost use Rattle.std.specs.List.{list_any};
+ghost use Rattle.nc_types.specs.Cidr.{IsCidr};
+ghost use Rattle.nc_tables.specs.Base.{same_prefix};
+ghost use Rattle.nc_tables.specs.Reach.{hits, rows_of};
+ghost use Rattle.nc_tables.specs.Rounds.{is_active, is_longer_in};
+
+use nc_tables::{BaseTables, BgpTable};
+use nc_types::{Addr, AggregateStatement, Network, Prefix, RouterId};
+use nc_underlay::is_hit;
+
+/// Whether a prefix is a longer one inside another.
+pub(crate) fn is_longer_in(prefix: Prefix, outer: Prefix) -> bool
+    ensures longer { result ≡ is_longer_in prefix outer }
+    ensures valid { IsCidr prefix.base prefix.len }
+{
+    outer.len() < prefix.len() && outer.covers(prefix.addr())
+}
+
+/// Whether a router's base table has a row of a prefix.
+pub(crate) fn has_row(base: &BaseTables, router: RouterId, prefix: Prefix) -> bool
+    requires { router.0 < length base.now }
+    ensures { result
+        ≡ list_any (λ row. same_prefix row.prefix prefix) (rows_of base.now router.0) }
+{
+    let rows = base.rows_of(router, prefix);
+    rows.from < rows.to
+}
+
+/// Whether some row by which a router sends to an address leads on.
+pub(crate) fn has_hit(network: &Network, base: &BaseTables, router: RouterId, addr: Addr) -> bool
+    requires router { router.0 < length base.now }
+    requires tables { length base.now ≡ length network.now }
+    ensures { result ≡ nat_lt 0 (length (hits base.now router.0 addr.0)) }
+{
+    let rows = base.longest(router, addr);
+    'rows: for place in rows.from..rows.to {
+        if is_hit(network, base, router, place) {
+            return true;
+        }
+    }
+    false
+}
+
+/// Whether an aggregate of a router is active: a longer prefix inside its own has a row. The rows
+/// stand in order of prefix, so such prefixes follow the outer one, and the first that follows it
+/// is inside if any is.
+pub(crate) fn is_active(table: &BgpTable, router: RouterId, aggregate: &AggregateStatement) -> bool
+    requires { router.0 < length table.now }
+    ensures { result ≡ is_active table.now router.0 aggregate.now }
+{
+    let rows = table.rows(router);
+    let outer = aggregate.prefix;
+    let _len = outer.len();
+    let next = rows.partition_point(|row| row.prefix <= outer);
+    match rows.get(next) {
+        Some(row) => is_longer_in(row.prefix, outer),
+        None => false,
+    }
+}
