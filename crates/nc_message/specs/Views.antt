@@ -14,11 +14,11 @@ abbrev pub out_view : Link → Chosen → Passing → Passed
 out_view k b out = passing_view (outgoing k.session.internal b.route) out
 
 -- the message of a candidate over a session, as the sender's map let it pass
-abbrev pub message_with : Link → Chosen → Passing → Message
-message_with k b out = record { link = k; best = b; out = out_view k b out; route = sent_over k b (out_view k b out).route }
+abbrev pub message_by : Link → Chosen → Passing → Message
+message_by k b out = record { link = k; best = b; out = out_view k b out; route = sent_over k b (out_view k b out).route }
 
 abbrev pub message_view : Sent → Message
-message_view s = message_with (link_view s.link) s.best.now s.out
+message_view s = message_by (link_view s.link) s.best.now s.out
 
 -- what the receiver's map made of the message
 abbrev pub taken_view : Taken → Accepted

@@ -1,6 +1,6 @@
 //! What is accepted of a message.
 
-ghost use Rattle.std.specs.Prelude.{◌≡◌, ◌==◌, ◌<◌, IfSome, Some, length, slice_get};
+ghost use Rattle.std.specs.Prelude.{◌≡◌, ◌==◌, ◌&&◌, ◌<◌, not, IfSome, Some, length, slice_get};
 ghost use Rattle.std.specs.List.{list_any};
 ghost use Rattle.std.specs.Option.{option_map};
 ghost use Rattle.nc_tables.specs.Choice.{is_learnt};
@@ -13,6 +13,7 @@ use crate::messages::{Sent, message_at, sent_length};
 use crate::rows::has_hit;
 use nc_community::CommunitySet;
 use nc_policy::Passing;
+use nc_sessions::Link;
 use nc_tables::{BgpFrom, BgpTable};
 use nc_types::{Addr, Prefix, RouterId};
 use nc_underlay::own_interface;
@@ -33,13 +34,26 @@ fn has(numbers: &[u32], number: u32) -> bool
     numbers.iter().any(|other| *other == number)
 }
 
+// Whether a session leads from another system, whose number is the receiver's own all the same.
+fn has_own_sender(link: &Link) -> bool
+    ensures { result ≡ (not link.now.session.internal
+        && (link.now.sender.process.now.asn == link.now.receiver.process.now.asn)) }
+{
+    !link.session.internal && link.sender.process.asn == link.receiver.process.asn
+}
+
 // Whether the path of a message holds the receiver's own system (RFC 4271, 9.1.2).
 fn is_looped(sent: &Sent) -> bool
     ensures { result ≡ is_looped (message_view sent.now) }
 {
     let own = sent.link.receiver.process.asn;
-    let is_sender = !sent.link.session.internal && sent.link.sender.process.asn == own;
-    is_sender || has(sent.out.prepended(), own) || has(sent.best.route.path.numbers(), own)
+    if has_own_sender(&sent.link) {
+        return true;
+    }
+    if has(sent.out.prepended(), own) {
+        return true;
+    }
+    has(sent.best.route.path.numbers(), own)
 }
 
 // Whether a candidate was learnt.
@@ -82,6 +96,7 @@ fn accepted_of<'a>(given: &Given<'a>, router: RouterId, sent: Sent<'a>) -> Optio
     requires told { IsTold sent }
     ensures accepted { option_map taken_view result
         ≡ accepted_of given.now.base.now router.0 (message_view sent.entry) }
+    ensures best { IfSome result (λ t. t.sent.best.now ≡ sent.entry.best.now) }
     ensures taken { IfSome result IsTaken }
 {
     if is_looped(&sent) || is_own(given, router, &sent) {
@@ -118,6 +133,7 @@ pub fn accepted_at<'a>(
     ensures accepted { option_map taken_view result
         ≡ accepted_at given.now.network.now given.now.base.now given.now.sessions.now table.now
         router.0 place prefix }
+    ensures own { IfSome result (λ t. t.sent.best.now.route.prefix ≡ prefix) }
     ensures taken { IfSome result IsTaken }
 {
     let sent = message_at(given, table, router, place, prefix)?;

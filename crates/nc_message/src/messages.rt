@@ -7,8 +7,8 @@ ghost use Rattle.nc_types.specs.declared.TheConstants.{PATH_LIMIT};
 ghost use Rattle.nc_tables.specs.Rounds.{best_at, is_held_back, message_at, message_of, out_of};
 ghost use Rattle.nc_policy.specs.Passing.{communities_by, prepended_by};
 ghost use Rattle.nc_sessions.specs.Views.{link_view};
-ghost use Rattle.nc_message.specs.Given.{AreGiven};
-ghost use Rattle.nc_message.specs.Views.{message_view, message_with, out_view, IsTold};
+ghost use Rattle.nc_message.specs.Given.{AreGiven, IsBetween};
+ghost use Rattle.nc_message.specs.Views.{message_view, message_by, out_view, IsTold};
 
 use crate::given::{Given, link_of};
 use crate::rows::is_longer_in;
@@ -98,6 +98,8 @@ fn message_of<'a>(given: &Given<'a>, link: Link<'a>, best: &'a Chosen) -> Option
         ≡ Some (link_view link).sender.config }
     ensures message { option_map message_view result
         ≡ message_of (link_view link.entry) best.entry.now }
+    ensures link { IfSome result (λ s. link_view s.link ≡ link_view link.entry) }
+    ensures best { IfSome result (λ s. s.best.now ≡ best.entry.now) }
     ensures told { IfSome result IsTold }
 {
     if is_held_back(link.sender.process, best.route.prefix) {
@@ -137,6 +139,9 @@ pub fn message_at<'a>(
     ensures message { option_map message_view result
         ≡ message_at given.now.network.now given.now.base.now given.now.sessions.now table.now
         router.0 place prefix }
+    ensures between { IfSome result
+        (λ s. IsBetween given.now.network.now router.0 (link_view s.link)) }
+    ensures own { IfSome result (λ s. s.best.now.route.prefix ≡ prefix) }
     ensures told { IfSome result IsTold }
 {
     let link = link_of(given, router, place)?;

@@ -1,0 +1,55 @@
+-- What passes a test in a list: whether anything does, and where.
+use Rattle.std.proofs.Common.{◌≡◌, ℕ, zero, suc, ◌+◌, ◌-◌, ◌<◌, ◌≤◌, Bool, true, false, cond, ◌||◌, nat_lt, List, [], ◌∷◌, filter, length, Option, Some, None, refl, sym, ap, ◌∙◌, arith}
+use Rattle.std.specs.Prelude.{position}
+use Rattle.std.specs.List.{list_any, position_from, range_with_len}
+use Rattle.std.specs.Option.{is_some, option_map}
+use Rattle.std.proofs.lemmas.Bool.Decides.{nat_tests}
+use Rattle.std.proofs.lemmas.Iterator.Adapters.{position_from-zero}
+use Rattle.nc_tables.specs.Longest.{places_from}
+
+module _ {A : Type 0} (test : A → Bool) where
+  -- something has a place
+  some_position : (k : ℕ) (xs : List A) → is_some (position_from test k xs) ≡ list_any test xs
+  some_position k [] = refl
+  some_position k (x ∷ xs) = on (test x) (some_position (k + 1) xs)
+    where
+      on : (b : Bool) → is_some (position_from test (k + 1) xs) ≡ list_any test xs → is_some (cond b (Some k) (position_from test (k + 1) xs)) ≡ (b || list_any test xs)
+      on true more = refl
+      on false more = more
+
+  pub is_placed : (xs : List A) → is_some (position test xs) ≡ list_any test xs
+  is_placed xs = ap is_some (position_from-zero test xs) ∙ some_position 0 xs
+
+  -- there is a place at which something passes
+  some_place : (k : ℕ) (xs : List A) → list_any test xs ≡ nat_lt 0 (length (places_from test k xs))
+  some_place k [] = refl
+  some_place k (x ∷ xs) = on (test x) (some_place (k + 1) xs)
+    where
+      on : (b : Bool) → list_any test xs ≡ nat_lt 0 (length (places_from test (k + 1) xs)) → (b || list_any test xs) ≡ nat_lt 0 (length (cond b (k ∷ places_from test (k + 1) xs) (places_from test (k + 1) xs)))
+      on true more = grind (arith, nat_tests)
+      on false more = more
+
+  -- something is kept
+  pub some_kept : (xs : List A) → nat_lt 0 (length (filter test xs)) ≡ list_any test xs
+  some_kept [] = refl
+  some_kept (x ∷ xs) = on (test x) (some_kept xs)
+    where
+      on : (b : Bool) → nat_lt 0 (length (filter test xs)) ≡ list_any test xs → nat_lt 0 (length (cond b (x ∷ filter test xs) (filter test xs))) ≡ (b || list_any test xs)
+      on true more = grind (arith, nat_tests)
+      on false more = more
+
+length_range : (from n : ℕ) → length (range_with_len from n) ≡ n
+length_range from zero = refl
+length_range from (suc n) = let more : length (range_with_len (from + 1) n) ≡ n = length_range (from + 1) n in omega arith
+
+-- something passes, where the places of what passes are these numbers
+pub placed_between : {A : Type 0} (test : A → Bool) (xs : List A) (from to : ℕ) → places_from test 0 xs ≡ range_with_len from (to - from) → nat_lt from to ≡ list_any test xs
+placed_between test xs from to places =
+    let count : length (places_from test 0 xs) ≡ to - from = ap (length {A = ℕ}) places ∙ length_range from (to - from) in
+    let same : nat_lt from to ≡ nat_lt 0 (to - from) = grind (arith, nat_tests) in
+    same ∙ ap (nat_lt 0) (sym count) ∙ sym (some_place test 0 xs)
+
+-- an option is there, also seen through a function
+pub still_some : {A B : Type 0} (f : A → B) (o : Option A) → is_some o ≡ is_some (option_map f o)
+still_some f None = refl
+still_some f (Some x) = refl

@@ -1,0 +1,14 @@
+use Rattle.std.proofs.Common.{◌≡◌, ◌++◌, drop, All}
+use Rattle.nc_tables.specs.declared.bgp.Chosen.{Chosen}
+use Rattle.nc_tables.specs.Rounds.{made_from, entry_at}
+use Rattle.nc_message.specs.Given.{IsOf}
+use Rattle.nc_message.proofs.candidates.add_entries.Given as goal
+
+-- the neighbor statements that are left make what is missing
+abbrev pub invariant-neighbors : goal.invariant-neighbors
+invariant-neighbors l = record {
+  made :
+      l.candidates.items ++ made_from (λ place n. entry_at l.given.network.now l.given.base.now l.given.sessions.now l.table l.router.0 place l.prefix) l.place (drop l.place l.neighbors)
+      ≡ l.fn.candidates.items ++ made_from (λ place n. entry_at l.given.network.now l.given.base.now l.given.sessions.now l.table l.router.0 place l.prefix) 0 l.neighbors;
+  own : All (IsOf l.prefix) l.fn.candidates.items → All (IsOf l.prefix) l.candidates.items;
+}
