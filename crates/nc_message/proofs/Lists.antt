@@ -2,7 +2,7 @@
 use Rattle.std.proofs.Common.{◌≡◌, ℕ, zero, suc, ◌+◌, ◌-◌, ◌<◌, ◌≤◌, Bool, true, false, cond, ◌||◌, nat_lt, List, [], ◌∷◌, filter, length, Option, Some, None, refl, sym, ap, ◌∙◌, arith}
 use Rattle.std.specs.Prelude.{position}
 use Rattle.std.specs.List.{list_any, position_from, range_with_len}
-use Rattle.std.specs.Option.{is_some, option_map}
+use Rattle.std.specs.Option.{is_some}
 use Rattle.std.proofs.lemmas.Bool.Decides.{nat_tests}
 use Rattle.std.proofs.lemmas.Iterator.Adapters.{position_from-zero}
 use Rattle.nc_tables.specs.Longest.{places_from}
@@ -48,8 +48,3 @@ placed_between test xs from to places =
     let count : length (places_from test 0 xs) ≡ to - from = ap (length {A = ℕ}) places ∙ length_range from (to - from) in
     let same : nat_lt from to ≡ nat_lt 0 (to - from) = grind (arith, nat_tests) in
     same ∙ ap (nat_lt 0) (sym count) ∙ sym (some_place test 0 xs)
-
--- an option is there, also seen through a function
-pub still_some : {A B : Type 0} (f : A → B) (o : Option A) → is_some o ≡ is_some (option_map f o)
-still_some f None = refl
-still_some f (Some x) = refl

@@ -1,14 +1,19 @@
 //! All candidates of a prefix at a router.
 
-ghost use Rattle.std.specs.Prelude.{◌≡◌, ◌++◌, ◌+◌, ◌<◌, ◌^◌, All, length, IfOk, OnOk, None, Some, if◌then◌else◌};
+ghost use Rattle.std.specs.Prelude.{◌≡◌, ◌≢◌, ◌++◌, ◌+◌, ◌<◌, ◌^◌, [], ◌∷◌, All, length, position};
+ghost use Rattle.std.specs.Prelude.{IfOk, IfSome, OnOk, slice_index_or};
+ghost use Rattle.std.specs.List.{AllPairs};
 ghost use Rattle.nc_types.specs.Config.{process_view};
-ghost use Rattle.nc_tables.specs.Rounds.{begun, candidates_at, origin_at, aggregate_at, entry_at, made_from};
+ghost use Rattle.nc_types.specs.WellFormed.{IsProcess};
+ghost use Rattle.nc_tables.specs.Base.{same_prefix};
+ghost use Rattle.nc_tables.specs.Rounds.{begun, candidates_at, entry_at, made_from};
+ghost use Rattle.nc_message.specs.Beginning.{has_base_row, has_longer, networks_of, aggregates_of};
 ghost use Rattle.nc_message.specs.Given.{AreGiven, IsOf};
 
 use crate::entries::entry;
 use crate::given::Given;
-use crate::rows::{has_row, is_active};
-use nc_tables::{BgpFrom, BgpTable, Chosen, Path, Route};
+use crate::rows::{has_longer, has_row};
+use nc_tables::{BaseTables, BgpFrom, BgpTable, Chosen, Path, Route};
 use nc_types::{
     Addr, AggregateStatement, Communities, DEFAULT_PREFERENCE, Neighbor, NetworkStatement,
     OriginCode, Prefix, Process, RouterId,
@@ -36,61 +41,85 @@ pub(crate) fn begun(alloc: Global, prefix: Prefix, from: BgpFrom) -> Chosen
     }
 }
 
-// Adds those of a router's networks that are of a prefix and have a row in its base table.
-fn add_networks(
+// The place of the network of a prefix.
+fn network_of(networks: &[NetworkStatement], prefix: Prefix) -> Option<usize>
+    ensures place { result ≡ position (λ n. same_prefix n.prefix prefix) networks.now }
+    ensures within { IfSome result (λ place. place < length networks.now) }
+{
+    networks.iter().position(|network| network.prefix == prefix)
+}
+
+// The place of the aggregate of a prefix.
+fn aggregate_of(aggregates: &[AggregateStatement], prefix: Prefix) -> Option<usize>
+    ensures place { result ≡ position (λ a. same_prefix a.prefix prefix) aggregates.now }
+    ensures within { IfSome result (λ place. place < length aggregates.now) }
+{
+    aggregates
+        .iter()
+        .position(|aggregate| aggregate.prefix == prefix)
+}
+
+// Adds a candidate that a router itself begins.
+fn add_begun(
     alloc: Global,
     candidates: &mut Vec<Chosen>,
-    given: &Given<'_>,
-    table: &BgpTable,
+    prefix: Prefix,
+    from: BgpFrom,
+) -> Result<(), AllocError>
+    ensures { OnOk result (candidates.new.items ≡ candidates.old.items ++ begun prefix from ∷ []) }
+{
+    candidates.push(begun(alloc, prefix, from))?;
+    Ok(())
+}
+
+// Adds the network of a prefix, where the prefix has a row in the router's base table.
+fn add_network(
+    alloc: Global,
+    candidates: &mut Vec<Chosen>,
+    base: &BaseTables,
     router: RouterId,
     networks: &[NetworkStatement],
     prefix: Prefix,
 ) -> Result<(), AllocError>
-    requires given { AreGiven given.now }
-    requires router { router.0 < length given.now.network.now }
+    requires router { router.0 < length base.now }
+    requires single { AllPairs (λ m n. m.prefix ≢ n.prefix) networks.now }
     requires few { length networks.now < 2 ^ 32 }
-    ensures made { OnOk result (candidates.new.items ≡ candidates.old.items
-        ++ made_from (λ place n. origin_at given.now.network.now given.now.base.now
-        given.now.sessions.now table.now router.0 place n prefix) 0 networks.now) }
-    ensures own { All (IsOf prefix) candidates.old.items
-        → OnOk result (All (IsOf prefix) candidates.new.items) }
+    ensures { OnOk result (candidates.new.items ≡ candidates.old.items
+        ++ networks_of (has_base_row base.now router.0 prefix) prefix networks.now) }
 {
-    if !has_row(given.base, router, prefix) {
+    let Some(place) = network_of(networks, prefix) else {
+        return Ok(());
+    };
+    if !has_row(base, router, prefix) {
         return Ok(());
     }
-    'networks: for (place, network) in networks.iter().enumerate() {
-        if network.prefix == prefix {
-            candidates.push(begun(alloc, prefix, BgpFrom::Origin(place as u32)))?;
-        }
-    }
+    add_begun(alloc, candidates, prefix, BgpFrom::Origin(place as u32))?;
     Ok(())
 }
 
-// Adds those of a router's aggregates that are of a prefix and are active.
-fn add_aggregates(
+// Adds the aggregate of a prefix, where it is active: a longer prefix inside has a chosen candidate.
+fn add_aggregate(
     alloc: Global,
     candidates: &mut Vec<Chosen>,
-    given: &Given<'_>,
     table: &BgpTable,
     router: RouterId,
     aggregates: &[AggregateStatement],
     prefix: Prefix,
 ) -> Result<(), AllocError>
-    requires given { AreGiven given.now }
-    requires table { length table.now ≡ length given.now.network.now }
-    requires router { router.0 < length given.now.network.now }
+    requires router { router.0 < length table.now }
+    requires single { AllPairs (λ a b. a.prefix ≢ b.prefix) aggregates.now }
     requires few { length aggregates.now < 2 ^ 32 }
-    ensures made { OnOk result (candidates.new.items ≡ candidates.old.items
-        ++ made_from (λ place a. aggregate_at given.now.network.now given.now.base.now
-        given.now.sessions.now table.now router.0 place a prefix) 0 aggregates.now) }
-    ensures own { All (IsOf prefix) candidates.old.items
-        → OnOk result (All (IsOf prefix) candidates.new.items) }
+    ensures { OnOk result (candidates.new.items ≡ candidates.old.items
+        ++ aggregates_of (has_longer (slice_index_or table.now router.0 []) prefix) prefix
+        aggregates.now) }
 {
-    'aggregates: for (place, aggregate) in aggregates.iter().enumerate() {
-        if aggregate.prefix == prefix && is_active(table, router, aggregate) {
-            candidates.push(begun(alloc, prefix, BgpFrom::Aggregate(place as u32)))?;
-        }
+    let Some(place) = aggregate_of(aggregates, prefix) else {
+        return Ok(());
+    };
+    if !has_longer(table, router, prefix) {
+        return Ok(());
     }
+    add_begun(alloc, candidates, prefix, BgpFrom::Aggregate(place as u32))?;
     Ok(())
 }
 
@@ -135,30 +164,22 @@ pub(crate) fn candidates(
     requires router { router.0 < length given.now.network.now }
     requires few { length process.now.neighbors.items + (length process.now.networks.items
         + length process.now.aggregates.items) < 2 ^ 32 }
+    requires formed { IsProcess (process_view process.now) }
     ensures candidates { IfOk result (λ made. made.items
         ≡ candidates_at given.now.network.now given.now.base.now given.now.sessions.now table.now
         router.0 (process_view process.now) prefix) }
     ensures own { IfOk result (λ made. All (IsOf prefix) made.items) }
 {
     let mut made = Vec::new(alloc);
-    add_networks(
+    add_network(
         alloc,
         &mut made,
-        given,
-        table,
+        given.base,
         router,
         &process.networks,
         prefix,
     )?;
-    add_aggregates(
-        alloc,
-        &mut made,
-        given,
-        table,
-        router,
-        &process.aggregates,
-        prefix,
-    )?;
+    add_aggregate(alloc, &mut made, table, router, &process.aggregates, prefix)?;
     add_entries(
         alloc,
         &mut made,

@@ -1,9 +1,10 @@
 //! What a router chooses of a prefix.
 
-ghost use Rattle.std.specs.Prelude.{◌≡◌, ◌≢◌, ◌+◌, ◌^◌, ◌<◌, ◌≤◌, All, length, slice_get, IfOk};
-ghost use Rattle.std.specs.List.{filter_map, AllPairs};
+ghost use Rattle.std.specs.Prelude.{◌≡◌, ◌+◌, ◌^◌, ◌<◌, ◌≤◌, All, length, nat_eq, slice_get, IfOk};
+ghost use Rattle.std.specs.List.{filter_map, IsDistinct};
 ghost use Rattle.nc_types.specs.Config.{process_view};
 ghost use Rattle.nc_types.specs.declared.TheConstants.{MULTIPATH_LIMIT};
+ghost use Rattle.nc_types.specs.WellFormed.{IsProcess};
 ghost use Rattle.nc_tables.specs.Base.{base_tables};
 ghost use Rattle.nc_tables.specs.Rounds.{candidates_at, chosen_anew, chosen_by};
 ghost use Rattle.nc_policy.specs.Indexes.{ArePolicies};
@@ -26,7 +27,7 @@ fn picked(
     places: &[u32],
     prefix: Prefix,
 ) -> Result<Vec<Chosen>, AllocError>
-    requires { AllPairs (λ a b. a ≢ b) places.now }
+    requires { IsDistinct nat_eq places.now }
     ensures { IfOk result
         (λ picked. picked.items ≡ filter_map (slice_get candidates.items) places.now) }
 {
@@ -55,7 +56,7 @@ fn chosen_by(
     requires router { router.0 < length given.now.network.now }
     requires few { length process.now.neighbors.items + (length process.now.networks.items
         + length process.now.aggregates.items) < 2 ^ 32 }
-    requires paths { process.now.max_paths ≤ MULTIPATH_LIMIT }
+    requires formed { IsProcess (process_view process.now) }
     ensures chosen { IfOk result (λ chosen. chosen.items ≡ chosen_by (process_view process.now)
         (candidates_at given.now.network.now given.now.base.now given.now.sessions.now table.now
         router.0 (process_view process.now) prefix)) }
@@ -101,6 +102,7 @@ pub fn chosen_anew(
         sessions,
         policies,
     };
+    let _count = network.element_count();
     let Some(process) = &network.routers()[router.0 as usize].process else {
         return Ok(Vec::new(alloc));
     };

@@ -1,14 +1,15 @@
 //! What rows of tables say of a prefix or an address.
 
-ghost use Rattle.std.specs.Prelude.{◌≡◌, ◌<◌, length, map, nat_lt};
+ghost use Rattle.std.specs.Prelude.{◌≡◌, ◌<◌, [], length, nat_lt, slice_index_or};
 ghost use Rattle.std.specs.List.{list_any};
 ghost use Rattle.nc_types.specs.Cidr.{IsCidr};
 ghost use Rattle.nc_tables.specs.Base.{same_prefix};
 ghost use Rattle.nc_tables.specs.Reach.{hits, rows_of};
-ghost use Rattle.nc_tables.specs.Rounds.{is_active, is_longer_in};
+ghost use Rattle.nc_tables.specs.Rounds.{is_longer_in};
+ghost use Rattle.nc_message.specs.Beginning.{has_longer};
 
 use nc_tables::{BaseTables, BgpTable};
-use nc_types::{Addr, AggregateStatement, Network, Prefix, RouterId};
+use nc_types::{Addr, Network, Prefix, RouterId};
 use nc_underlay::is_hit;
 
 /// Whether a prefix is a longer one inside another.
@@ -44,15 +45,14 @@ pub(crate) fn has_hit(network: &Network, base: &BaseTables, router: RouterId, ad
     false
 }
 
-/// Whether an aggregate of a router is active: a longer prefix inside its own has a row. The rows
-/// stand in order of prefix, so such prefixes follow the outer one, and the first that follows it
-/// is inside if any is.
-pub(crate) fn is_active(table: &BgpTable, router: RouterId, aggregate: &AggregateStatement) -> bool
+/// Whether a router has chosen candidates of a longer prefix inside another. The rows stand in order
+/// of prefix, so those of longer ones follow the outer one, and the first that follows it is inside
+/// if any is.
+pub(crate) fn has_longer(table: &BgpTable, router: RouterId, outer: Prefix) -> bool
     requires { router.0 < length table.now }
-    ensures { result ≡ is_active table.now router.0 aggregate.now }
+    ensures { result ≡ has_longer (slice_index_or table.now router.0 []) outer }
 {
     let rows = table.rows(router);
-    let outer = aggregate.prefix;
     let _len = outer.len();
     let next = rows.partition_point(|row| row.prefix <= outer);
     match rows.get(next) {

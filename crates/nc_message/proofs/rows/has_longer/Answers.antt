@@ -1,7 +1,8 @@
-use Rattle.std.proofs.Common.{◌≡◌, List, get_or, map, sym, ap, subst, ◌∙◌, rules}
+use Rattle.std.proofs.Common.{◌≡◌, false, List, get_or, map, sym, ap, subst, ◌∙◌, rules}
 use Rattle.std.specs.Ordering.{is_le}
 use Rattle.std.proofs.lemmas.List.Sorted.{IsPartitionPoint-from_clause}
 use Rattle.nc_types.specs.Cidr.{IsCidr}
+use Rattle.nc_types.specs.declared.config.AggregateStatement.{AggregateStatement}
 use Rattle.nc_tables.specs.declared.bgp.BgpRow.{BgpRow}
 use Rattle.nc_tables.specs.Base.{prefix_cmp}
 use Rattle.nc_tables.specs.Rounds.{BgpRowView, bgp_row_view, is_longer_in}
@@ -9,13 +10,13 @@ use Rattle.nc_tables.proofs.BgpRows.{by_prefix}
 use Rattle.nc_tables.proofs.SideBySide.{rises, upto_first}
 use Rattle.nc_main_rib.specs.Sides.{is_active_in}
 use Rattle.nc_main_rib.proofs.Activity.{by_first, not_active}
-use Rattle.nc_message.proofs.rows.is_active.Goals as goal
+use Rattle.nc_message.proofs.rows.has_longer.Goals as goal
 
 pub returns-in-Some : goal.returns-in-Some
 returns-in-Some c =
     let rows = c.rows-rows.result.now in
     let are = c.rows-rows.ensures.valid in
-    let aggregate = c.args.aggregate.now in
+    let aggregate : AggregateStatement = record { prefix = c.args.outer; summary_only = false; element = 0 } in
     let outer = aggregate.prefix in
     let next = c.partition_point-next.result in
     let row = c.in-Some.row.now in
@@ -32,7 +33,7 @@ pub returns-in-None : goal.returns-in-None
 returns-in-None c =
     let rows = c.rows-rows.result.now in
     let are = c.rows-rows.ensures.valid in
-    let aggregate = c.args.aggregate.now in
+    let aggregate : AggregateStatement = record { prefix = c.args.outer; summary_only = false; element = 0 } in
     let outer = aggregate.prefix in
     let next = c.partition_point-next.result in
     let rising = rises (λ (r : BgpRow). r.prefix) rows (by_prefix rows are) in
