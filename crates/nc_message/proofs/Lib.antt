@@ -1,3 +1,5 @@
 pub mod Lists
 pub mod Sending
 pub mod Making
+pub mod Picking
+pub mod Distinct

@@ -7,12 +7,20 @@ use Rattle.std.proofs.Math.Seq.{drop-length}
 use Rattle.std.proofs.lemmas.Iterator.Adapters.{position_from-zero}
 use Rattle.std.proofs.lemmas.List.{append-nil}
 use Rattle.std.proofs.lemmas.List.Elements.{All-nil, All-cons}
+use Rattle.std.proofs.lemmas.Option.{slice_get_cases}
 use Rattle.nc_types.specs.Cidr.{Cidr}
 use Rattle.nc_types.proofs.Members.{In, contains_by_in}
 use Rattle.nc_types.proofs.Sameness.{same_prefix_is}
 use Rattle.nc_types.proofs.Walks.{drop_read}
 use Rattle.nc_tables.specs.Base.{same_prefix}
 use Rattle.nc_tables.specs.Rounds.{made_from}
+
+-- an item within a list
+pub read_within : {Y : Type 0} (ys : List Y) (k : ℕ) → k < length ys → (y : Y) × (y ≡ get_or ys k y)
+read_within ys k lt = elim (slice_get_cases ys k).1 [
+  | inl r ↦ (r.0, sym r.3)
+  | inr r ↦ let past : length ys ≤ k = r.0 in absurd (omega arith)
+]
 
 module _ {X Y : Type 0} (make : ℕ → Y → Option X) where
   -- what the rest makes, one item on
@@ -90,6 +98,13 @@ made_all {X} P make each k (y ∷ ys) = on (make k y) refl (made_all P make each
     on : (o : Option X) → make k y ≡ o → All P (made_from make (suc k) ys) → All P (option_map_or (λ x. x ∷ made_from make (suc k) ys) o (made_from make (suc k) ys))
     on None is rest = rest
     on (Some x) is rest = All-cons P x (made_from make (suc k) ys) (each k y x is) rest
+
+-- the same is made by two that agree
+pub made_alike : {X Y : Type 0} (make other : ℕ → Y → Option X) → ((k : ℕ) (y : Y) → make k y ≡ other k y) → (k : ℕ) (ys : List Y) → made_from make k ys ≡ made_from other k ys
+made_alike make other same k [] = refl
+made_alike {X} make other same k (y ∷ ys) =
+    ap (λ (o : Option X). option_map_or (λ x. x ∷ made_from make (suc k) ys) o (made_from make (suc k) ys)) (same k y)
+    ∙ ap (λ (l : List X). option_map_or (λ x. x ∷ l) (other k y) l) (made_alike make other same (suc k) ys)
 
 pub kept_all : {X Y : Type 0} (P : X → Type 0) (test : Y → Bool) (holds : Bool) (f : ℕ → X) → ((k : ℕ) → P (f k)) → (ys : List Y) → All P (made_from (λ k y. cond (test y && holds) (Some (f k)) None) 0 ys)
 kept_all {X} {Y} P test holds f each ys = made_all P (λ k y. cond (test y && holds) (Some (f k)) None) (λ k y x. on (test y && holds) k x) 0 ys
