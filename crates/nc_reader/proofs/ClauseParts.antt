@@ -14,6 +14,7 @@ use Rattle.nc_lines.specs.Parts.{Numbered, numbered, fault_in, statements_in}
 use Rattle.nc_read_policy.specs.Clauses.{Header, ClauseStatement, Opens, ClauseLine, ClausePart, header_says, statement_says, line_says, head_by, clause_of, name_in, number_in, clause_in}
 use Rattle.nc_read_policy.specs.Lists.{list_name_says}
 use Rattle.nc_read_policy.specs.CommunityEntries.{community_name_says}
+use Rattle.nc_read_bgp.specs.Statements.{header_says as process_header_says}
 use Rattle.nc_reader.specs.declared.topic.Topic.TheVariants as topics
 use Rattle.nc_reader.specs.Roles.{Role, Wrong, Names, Within, hostname_role, interface_role, said_role, is_unsupported, read_role, header_role}
 use Rattle.nc_reader.specs.Things.{element_at}
@@ -53,6 +54,11 @@ module _ (name : List ℕ) (number : ℕ) where
   no_communities (Faulty cause) e = absurd cc
   no_communities (Says a) e = absurd cc
 
+  no_process : (r : Reading ℕ) → said_role topics.Process r ≡ clause → ⊥
+  no_process Outside e = absurd cc
+  no_process (Faulty cause) e = absurd cc
+  no_process (Says n) e = absurd cc
+
   heads : (r : Reading Header) → said_role (λ h. topics.Clause h.map_name h.number) r ≡ clause → Heads name number r
   heads Outside e = absurd cc
   heads (Faulty cause) e = absurd cc
@@ -62,11 +68,12 @@ module _ (name : List ℕ) (number : ℕ) where
   unfolding read_role
   read_heads words e =
       heads (header_says words)
+      (others (λ rest. said_role topics.Process (process_header_says words)) (after (codes "router" ∷ []) words) _ (λ rest. no_process (process_header_says words))
       (others (λ rest. said_role topics.Communities (community_name_says rest)) (after (codes "ip" ∷ codes "community-list" ∷ []) words) _ (λ rest. no_communities (community_name_says rest))
       (others (λ rest. said_role topics.List (list_name_says rest)) (after (codes "ip" ∷ codes "prefix-list" ∷ []) words) _ (λ rest. no_list (list_name_says rest))
       (others (λ rest. Within topics.Statics) (after (codes "ip" ∷ codes "route" ∷ []) words) _ (λ rest e. absurd cc)
       (others interface_role (after (codes "interface" ∷ []) words) _ no_interface
-      (others hostname_role (after (codes "hostname" ∷ []) words) _ no_hostname e)))))
+      (others hostname_role (after (codes "hostname" ∷ []) words) _ no_hostname e))))))
 
   header_heads : (words : List (List ℕ)) → header_role words ≡ clause → Heads name number (header_says words)
   header_heads words = cond_both (is_unsupported words) (Wrong Unsupported) (read_role words) (λ (r : Role). r ≡ clause → Heads name number (header_says words)) (λ _ e. absurd cc) (λ _ e. read_heads words e)

@@ -18,38 +18,38 @@ use Rattle.nc_reader.specs.Things.{Part, part_in, ok_of}
 
 -- ---- what topics make
 
-pub read-blocks : (lines : List (List ℕ)) (topics : List Topic) (blocks : List Block) (gs : List (Group Topic ℕ)) → topics ≡ map (λ g. g.key) gs → map (λ b. b.lines.items) blocks ≡ map (λ g. g.values) gs
-    → parts_by lines topics blocks ≡ map (λ g. part_in lines g.key g.values) gs
-read-blocks lines [] [] [] named same = refl
-read-blocks lines [] [] (g ∷ gs) named same = absurd cc
-read-blocks lines [] (b ∷ blocks) [] named same = refl
-read-blocks lines [] (b ∷ blocks) (g ∷ gs) named same = absurd cc
-read-blocks lines (t ∷ topics) blocks [] named same = absurd cc
-read-blocks lines (t ∷ topics) [] (g ∷ gs) named same = absurd cc
-read-blocks lines (t ∷ topics) (b ∷ blocks) (g ∷ gs) named same =
+pub read-blocks : (lines : List (List ℕ)) (process : Option ℕ) (topics : List Topic) (blocks : List Block) (gs : List (Group Topic ℕ)) → topics ≡ map (λ g. g.key) gs → map (λ b. b.lines.items) blocks ≡ map (λ g. g.values) gs
+    → parts_by lines process topics blocks ≡ map (λ g. part_in lines process g.key g.values) gs
+read-blocks lines process [] [] [] named same = refl
+read-blocks lines process [] [] (g ∷ gs) named same = absurd cc
+read-blocks lines process [] (b ∷ blocks) [] named same = refl
+read-blocks lines process [] (b ∷ blocks) (g ∷ gs) named same = absurd cc
+read-blocks lines process (t ∷ topics) blocks [] named same = absurd cc
+read-blocks lines process (t ∷ topics) [] (g ∷ gs) named same = absurd cc
+read-blocks lines process (t ∷ topics) (b ∷ blocks) (g ∷ gs) named same =
     let key : t ≡ g.key = cc in
     let keys : topics ≡ map (λ (g : Group Topic ℕ). g.key) gs = cc in
     let first : b.lines.items ≡ g.values = cc in
     let rest : map (λ (b : Block). b.lines.items) blocks ≡ map (λ (g : Group Topic ℕ). g.values) gs = cc in
-    ap (λ (ks : List ℕ). part_in lines t ks ∷ parts_by lines topics blocks) first ∙ ap (λ (t : Topic). part_in lines t g.values ∷ parts_by lines topics blocks) key
-    ∙ ap (λ (rs : List (Result Part Fault)). part_in lines g.key g.values ∷ rs) (read-blocks lines topics blocks gs keys rest)
+    ap (λ (ks : List ℕ). part_in lines process t ks ∷ parts_by lines process topics blocks) first ∙ ap (λ (t : Topic). part_in lines process t g.values ∷ parts_by lines process topics blocks) key
+    ∙ ap (λ (rs : List (Result Part Fault)). part_in lines process g.key g.values ∷ rs) (read-blocks lines process topics blocks gs keys rest)
 
 -- the next topic
-pub parts_by-more : (lines : List (List ℕ)) (topics : List Topic) (blocks : List Block) (k : ℕ) (topic : Topic) (block : Block) → length topics ≡ length blocks → k < length blocks → topic ≡ get_or topics k topic → block ≡ get_or blocks k block
-    → parts_by lines (take (k + 1) topics) (take (k + 1) blocks) ≡ parts_by lines (take k topics) (take k blocks) ++ part_in lines topic block.lines.items ∷ []
-parts_by-more lines topics blocks k topic block len lt named read = let e : k + 1 ≡ suc k = omega arith in rw e (by_places topics blocks k len lt named read)
+pub parts_by-more : (lines : List (List ℕ)) (process : Option ℕ) (topics : List Topic) (blocks : List Block) (k : ℕ) (topic : Topic) (block : Block) → length topics ≡ length blocks → k < length blocks → topic ≡ get_or topics k topic → block ≡ get_or blocks k block
+    → parts_by lines process (take (k + 1) topics) (take (k + 1) blocks) ≡ parts_by lines process (take k topics) (take k blocks) ++ part_in lines process topic block.lines.items ∷ []
+parts_by-more lines process topics blocks k topic block len lt named read = let e : k + 1 ≡ suc k = omega arith in rw e (by_places topics blocks k len lt named read)
   where
     by_places : (topics : List Topic) (blocks : List Block) (k : ℕ) → length topics ≡ length blocks → k < length blocks → topic ≡ get_or topics k topic → block ≡ get_or blocks k block
-        → parts_by lines (take (suc k) topics) (take (suc k) blocks) ≡ parts_by lines (take k topics) (take k blocks) ++ part_in lines topic block.lines.items ∷ []
+        → parts_by lines process (take (suc k) topics) (take (suc k) blocks) ≡ parts_by lines process (take k topics) (take k blocks) ++ part_in lines process topic block.lines.items ∷ []
     by_places [] blocks k len lt named read = absurd (omega arith)
     by_places (t ∷ topics) [] k len lt named read = absurd (omega arith)
-    by_places (t ∷ topics) (b ∷ blocks) zero len lt named read = ap (λ (s : Topic). part_in lines s b.lines.items ∷ []) (sym named) ∙ ap (λ (c : Block). part_in lines topic c.lines.items ∷ []) (sym read)
+    by_places (t ∷ topics) (b ∷ blocks) zero len lt named read = ap (λ (s : Topic). part_in lines process s b.lines.items ∷ []) (sym named) ∙ ap (λ (c : Block). part_in lines process topic c.lines.items ∷ []) (sym read)
     by_places (t ∷ topics) (b ∷ blocks) (suc k) len lt named read =
-        ap (λ (rs : List (Result Part Fault)). part_in lines t b.lines.items ∷ rs) (by_places topics blocks k (omega arith) (omega arith) named read)
+        ap (λ (rs : List (Result Part Fault)). part_in lines process t b.lines.items ∷ rs) (by_places topics blocks k (omega arith) (omega arith) named read)
 
 -- all of them
-pub parts_by-all : (lines : List (List ℕ)) (topics : List Topic) (blocks : List Block) (k : ℕ) → length topics ≡ length blocks → length blocks ≤ k → parts_by lines (take k topics) (take k blocks) ≡ parts_by lines topics blocks
-parts_by-all lines topics blocks k len past = ap (λ (ts : List Topic). parts_by lines ts (take k blocks)) (take_all k topics (omega arith)) ∙ ap (parts_by lines topics) (take_all k blocks past)
+pub parts_by-all : (lines : List (List ℕ)) (process : Option ℕ) (topics : List Topic) (blocks : List Block) (k : ℕ) → length topics ≡ length blocks → length blocks ≤ k → parts_by lines process (take k topics) (take k blocks) ≡ parts_by lines process topics blocks
+parts_by-all lines process topics blocks k len past = ap (λ (ts : List Topic). parts_by lines process ts (take k blocks)) (take_all k topics (omega arith)) ∙ ap (parts_by lines process topics) (take_all k blocks past)
 
 -- ---- the configuration
 
@@ -85,7 +85,7 @@ module _ (lines : List (List ℕ)) where
           elements = elements;
           interfaces = ts.interfaces;
           statics = ts.statics;
-          process = None;
+          process = ts.process;
           clauses = ts.clauses;
           lists = ts.lists;
           community_lists = ts.community_lists;

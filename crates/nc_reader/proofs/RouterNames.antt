@@ -12,6 +12,7 @@ use Rattle.nc_lines.specs.Statements.{Reading, Outside, Faulty, Says, after}
 use Rattle.nc_read_policy.specs.Clauses.{header_says}
 use Rattle.nc_read_policy.specs.Lists.{list_name_says}
 use Rattle.nc_read_policy.specs.CommunityEntries.{community_name_says}
+use Rattle.nc_read_bgp.specs.Statements.{header_says as process_header_says}
 use Rattle.nc_reader.specs.declared.topic.Topic.{Topic}
 use Rattle.nc_reader.specs.declared.topic.Topic.TheVariants as topics
 use Rattle.nc_reader.specs.Roles.{Role, Passed, Wrong, Names, Within, Placed, hostname_role, interface_role, said_role, is_unsupported, read_role, block_of, member_role, role_of, roles_from}
@@ -51,7 +52,8 @@ read_named words =
     (either_named (λ rest. Within topics.Statics) (after (codes "ip" ∷ codes "route" ∷ []) words) _ (λ _. tt)
     (either_named (λ rest. said_role topics.List (list_name_says rest)) (after (codes "ip" ∷ codes "prefix-list" ∷ []) words) _ (λ rest. said_named topics.List (list_name_says rest))
     (either_named (λ rest. said_role topics.Communities (community_name_says rest)) (after (codes "ip" ∷ codes "community-list" ∷ []) words) _ (λ rest. said_named topics.Communities (community_name_says rest))
-    (said_named (λ h. topics.Clause h.map_name h.number) (header_says words))))))
+    (either_named (λ rest. said_role topics.Process (process_header_says words)) (after (codes "router" ∷ []) words) _ (λ rest. said_named topics.Process (process_header_says words))
+    (said_named (λ h. topics.Clause h.map_name h.number) (header_says words)))))))
 
 member_named : (o : Option Topic) → IsNamed (member_role o)
 member_named None = tt

@@ -2,20 +2,24 @@
 use Rattle.std.specs.Prelude.{ℕ, ◌==◌, nat_lt, List, [], ◌∷◌, ◌++◌, length, map, Option, Some, None, Result, Ok, Err, count_by}
 use Rattle.std.specs.List.{filter_map, flat_map, find, last_or, range_with_len}
 use Rattle.std.specs.Option.{option_map_or}
-use Rattle.nc_types.specs.Config.{ElementView, ClauseView, PrefixListView, CommunityListView, ConfigView}
+use Rattle.nc_types.specs.Config.{ElementView, ProcessView, ClauseView, PrefixListView, CommunityListView, ConfigView}
 use Rattle.nc_types.specs.WellFormed.{first_line}
 use Rattle.nc_types.specs.Faults.{lowest}
 use Rattle.nc_types.specs.declared.fault.Fault.{Fault}
 use Rattle.nc_types.specs.declared.config.Interface.{Interface}
 use Rattle.nc_types.specs.declared.config.StaticRoute.{StaticRoute}
+use Rattle.nc_types.specs.declared.config.Neighbor.{Neighbor}
+use Rattle.nc_types.specs.declared.config.NetworkStatement.{NetworkStatement}
+use Rattle.nc_types.specs.declared.config.AggregateStatement.{AggregateStatement}
 use Rattle.nc_types.specs.declared.config.ListEntry.{ListEntry}
 use Rattle.nc_types.specs.declared.communities.CommunityEntry.{CommunityEntry}
 use Rattle.nc_types.specs.declared.fault.Cause.TheVariants.{NoName}
+use Rattle.nc_read_bgp.specs.Processes.{ProcessMade}
 use Rattle.nc_reader.specs.declared.topic.Topic.{Topic}
 use Rattle.nc_lines.specs.Groups.{Keyed, Group, groups}
 use Rattle.nc_reader.specs.Roles.{Role, Wrong, Names, Within, Placed, roles_from}
-use Rattle.nc_reader.specs.Topics.{same_topic}
-use Rattle.nc_reader.specs.Things.{Part, AnInterface, Routes, AClause, Entries, Communities, part_in, pieces_in, ok_of, err_of}
+use Rattle.nc_reader.specs.Topics.{same_topic, process_among}
+use Rattle.nc_reader.specs.Things.{Part, AnInterface, Routes, AProcess, AClause, Entries, Communities, first_in, part_in, pieces_in, ok_of, err_of}
 
 -- ---- the router's name
 
@@ -41,9 +45,13 @@ spoken rs = filter_map (λ r. spoken_at r.line r.role) rs
 abbrev pub topics_of : List Placed → List (Group Topic ℕ)
 topics_of rs = groups same_topic (spoken rs)
 
+-- the number of the process that the file has: that of its first header
+abbrev pub process_number : List Placed → Option ℕ
+process_number rs = process_among (map (λ g. g.key) (topics_of rs))
+
 -- what each topic makes of its lines
 abbrev pub parts_of : List (List ℕ) → List Placed → List (Result Part Fault)
-parts_of lines rs = map (λ g. part_in lines g.key g.values) (topics_of rs)
+parts_of lines rs = map (λ g. part_in lines (process_number rs) g.key g.values) (topics_of rs)
 
 -- ---- the whole file
 
@@ -67,11 +75,6 @@ in_order count pieces = filter_map (λ line. find (λ e. first_line e == line) p
 abbrev pub place_of : List ElementView → ℕ → ℕ
 place_of pieces line = count_by (λ e. nat_lt (first_line e) line) pieces
 
--- the first of some lines
-abbrev pub first_in : List ℕ → ℕ
-first_in [] = 0
-first_in (line ∷ lines) = line
-
 -- ---- the things of each kind, where the element that begins at a line has this place
 
 abbrev pub with_place : ℕ → Interface → Interface
@@ -87,6 +90,44 @@ route_with_place place r = record { prefix = r.prefix; via = r.via; distance = r
 abbrev pub statics_in : (ℕ → ℕ) → Part → List StaticRoute
 statics_in place (Routes ps) = map (λ p. route_with_place (place (first_in p.lines)) p.route) ps
 statics_in place part = []
+
+abbrev pub neighbor_with_place : ℕ → Neighbor → Neighbor
+neighbor_with_place place n = record n { element = place }
+
+abbrev pub network_with_place : ℕ → NetworkStatement → NetworkStatement
+network_with_place place n = record n { element = place }
+
+abbrev pub aggregate_with_place : ℕ → AggregateStatement → AggregateStatement
+aggregate_with_place place a = record a { element = place }
+
+-- things to which places are given one by one
+abbrev pub with_places : {T : Type 0} → (ℕ → T → T) → List ℕ → List T → List T
+with_places placed [] things = things
+with_places placed (place ∷ places) [] = []
+with_places placed (place ∷ places) (thing ∷ things) = placed place thing ∷ with_places placed places things
+
+-- the places of elements that have these lines
+abbrev pub places_by : (ℕ → ℕ) → List (List ℕ) → List ℕ
+places_by place each = map (λ lines. place (first_in lines)) each
+
+abbrev pub process_with_places : (ℕ → ℕ) → ProcessMade → ProcessView
+process_with_places place made =
+    let p = made.process in
+    record {
+      asn = p.asn;
+      router_id = p.router_id;
+      max_paths = p.max_paths;
+      relax = p.relax;
+      neighbors = with_places neighbor_with_place (places_by place made.neighbors) p.neighbors;
+      networks = with_places network_with_place (places_by place made.networks) p.networks;
+      aggregates = with_places aggregate_with_place (places_by place made.aggregates) p.aggregates;
+      element = place (first_in made.own);
+    }
+
+-- of a file's topics one at most makes a process
+abbrev pub processes_in : (ℕ → ℕ) → Part → List ProcessView
+processes_in place (AProcess p) = process_with_places place p ∷ []
+processes_in place part = []
 
 abbrev pub clause_with_place : ℕ → ClauseView → ClauseView
 clause_with_place place k = record k { element = place }
@@ -120,7 +161,7 @@ config_of count name parts =
       elements = in_order count (pieces_of parts);
       interfaces = flat_map (interfaces_in place) parts;
       statics = flat_map (statics_in place) parts;
-      process = None;
+      process = last_or None (flat_map (processes_in place) parts);
       clauses = flat_map (clauses_in place) parts;
       lists = flat_map (lists_in place) parts;
       community_lists = flat_map (community_lists_in place) parts;

@@ -15,6 +15,7 @@ use Rattle.nc_types.specs.declared.config.StaticRoute.{StaticRoute}
 use Rattle.nc_lines.specs.declared.block.Block.{Block}
 use Rattle.nc_lines.specs.Outcomes.{IsFault}
 use Rattle.nc_read_link.specs.Interfaces.{InterfacePart}
+use Rattle.nc_read_bgp.specs.Outcomes.{part_view as made_view}
 use Rattle.nc_read_policy.specs.Clauses.{ClausePart}
 use Rattle.nc_read_policy.specs.Outcomes.{entry_part}
 use Rattle.nc_reader.specs.declared.communities.CommunityLine.{CommunityLine}
@@ -26,7 +27,7 @@ use Rattle.nc_reader.specs.declared.things.Part.{Part as PartRead}
 use Rattle.nc_reader.specs.declared.things.Part.TheVariants as parts
 use Rattle.nc_reader.specs.declared.topic.Topic.{Topic}
 use Rattle.nc_lines.specs.Groups.{Keyed, keys_from, groups}
-use Rattle.nc_reader.specs.Things.{Routed, RoutePart, RouteKeyView, key_of, same_key, route_part, CommunityPart, ok_of, err_of, Part, AnInterface, Routes, AClause, Entries, Communities, part_in}
+use Rattle.nc_reader.specs.Things.{Routed, RoutePart, RouteKeyView, key_of, same_key, route_part, CommunityPart, ok_of, err_of, Part, AnInterface, Routes, AProcess, AClause, Entries, Communities, part_in}
 
 -- ---- faults
 
@@ -58,6 +59,7 @@ community_line p = record { entry = p.entry; line = p.line }
 abbrev pub part_view : PartRead → Part
 part_view (parts.AnInterface p) = AnInterface (interface_part p)
 part_view (parts.Routes ps) = Routes (map static_part ps.items)
+part_view (parts.AProcess p) = AProcess (made_view p)
 part_view (parts.AClause p) = AClause (clause_part p)
 part_view (parts.Entries name ps) = Entries name (map entry_part ps.items)
 part_view (parts.Communities name ps) = Communities name (map community_line ps.items)
@@ -79,10 +81,10 @@ abbrev pub Tells : Result Part Fault → Option Fault → Option Fault → Type 
 Tells r old new = (fs : List Fault) (rs : List (Result Part Fault)) → IsLowest fs old rs → IsLowest fs new (rs ++ r ∷ [])
 
 -- what topics make of their lines
-abbrev pub parts_by : List (List ℕ) → List Topic → List Block → List (Result Part Fault)
-parts_by lines [] blocks = []
-parts_by lines (topic ∷ topics) [] = []
-parts_by lines (topic ∷ topics) (block ∷ blocks) = part_in lines topic block.lines.items ∷ parts_by lines topics blocks
+abbrev pub parts_by : List (List ℕ) → Option ℕ → List Topic → List Block → List (Result Part Fault)
+parts_by lines process [] blocks = []
+parts_by lines process (topic ∷ topics) [] = []
+parts_by lines process (topic ∷ topics) (block ∷ blocks) = part_in lines process topic block.lines.items ∷ parts_by lines process topics blocks
 
 -- ---- static routes
 

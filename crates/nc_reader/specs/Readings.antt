@@ -16,6 +16,7 @@ use Rattle.nc_reader.specs.Steps.{Kind, Banner, Idle, Member, Heads}
 abbrev pub topic_of : Subject → Topic
 topic_of (subjects.Interface name) = topics.Interface name.now
 topic_of subjects.Statics = topics.Statics
+topic_of (subjects.Process asn) = topics.Process asn
 topic_of (subjects.Clause name number) = topics.Clause name.now number
 topic_of (subjects.List name) = topics.List name.now
 topic_of (subjects.Communities name) = topics.Communities name.now

@@ -2,12 +2,14 @@
 use Rattle.std.specs.Prelude.{ℕ, ◌+◌, Bool, true, false, not, ◌&&◌, ◌||◌, List, [], ◌∷◌, length, Option, Some, None, option_and_then, if◌then◌else◌, codes}
 use Rattle.std.specs.List.{list_any}
 use Rattle.std.specs.Option.{option_map_or}
+use Rattle.std.specs.Str.{bytes_eq}
 use Rattle.nc_types.specs.WellFormed.{is_name}
 use Rattle.nc_types.specs.declared.fault.Cause.{Cause}
 use Rattle.nc_types.specs.declared.fault.Cause.TheVariants.{Syntax, Unsupported}
 use Rattle.nc_lines.specs.Lines.{words_of, is_indented}
 use Rattle.nc_lines.specs.Blocks.{is_idle, begins_banner, has_mark, leaves_open, is_open, header_of}
 use Rattle.nc_lines.specs.Statements.{Reading, Outside, Faulty, Says, after, begins}
+use Rattle.nc_read_bgp.specs.Statements.{header_says as process_header_says}
 use Rattle.nc_read_policy.specs.Clauses.{header_says}
 use Rattle.nc_read_policy.specs.Lists.{list_name_says}
 use Rattle.nc_read_policy.specs.CommunityEntries.{community_name_says}
@@ -27,10 +29,10 @@ pub data Role : Type 0 where
 
 -- ---- unindented lines
 
--- `router` and the name of a routing protocol
+-- what is behind `router` is the name of a routing protocol other than BGP
 abbrev pub is_router : List (List ℕ) → Bool
 is_router [] = false
-is_router (protocol ∷ words) = true
+is_router (protocol ∷ words) = not (bytes_eq protocol (codes "bgp"))
 
 -- unindented statements that aren't supported
 unfoldable pub is_unsupported : List (List ℕ) → Bool
@@ -65,7 +67,8 @@ read_role words =
     (option_map_or (λ rest. Within topics.Statics) (after (codes "ip" ∷ codes "route" ∷ []) words)
     (option_map_or (λ rest. said_role topics.List (list_name_says rest)) (after (codes "ip" ∷ codes "prefix-list" ∷ []) words)
     (option_map_or (λ rest. said_role topics.Communities (community_name_says rest)) (after (codes "ip" ∷ codes "community-list" ∷ []) words)
-    (said_role (λ h. topics.Clause h.map_name h.number) (header_says words))))))
+    (option_map_or (λ rest. said_role topics.Process (process_header_says words)) (after (codes "router" ∷ []) words)
+    (said_role (λ h. topics.Clause h.map_name h.number) (header_says words)))))))
 
 -- what the words of an unindented statement make of it: what isn't supported is looked at first
 abbrev pub header_role : List (List ℕ) → Role

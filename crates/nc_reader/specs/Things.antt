@@ -1,11 +1,12 @@
 -- What the lines that speak of one topic make, and the elements that it is.
-use Rattle.std.specs.Prelude.{ℕ, Bool, ◌&&◌, ◌==◌, List, [], ◌∷◌, map, Option, Some, None, Result, Ok, Err}
+use Rattle.std.specs.Prelude.{ℕ, Bool, ◌&&◌, ◌==◌, List, [], ◌∷◌, ◌++◌, map, Option, Some, None, Result, Ok, Err, if◌then◌else◌}
 use Rattle.std.specs.List.{filter_map, last_or}
 use Rattle.std.specs.Option.{option_map, option_map_or, option_eq}
 use Rattle.std.specs.Str.{bytes_eq}
 use Rattle.nc_types.specs.Cidr.{Cidr}
 use Rattle.nc_types.specs.Config.{ElementView}
 use Rattle.nc_types.specs.declared.fault.Fault.{Fault}
+use Rattle.nc_types.specs.declared.fault.Cause.TheVariants.{TwoProcesses}
 use Rattle.nc_types.specs.declared.communities.CommunityEntry.{CommunityEntry}
 use Rattle.nc_types.specs.declared.config.Kind.{Kind}
 use Rattle.nc_types.specs.declared.config.Kind.TheVariants as kinds
@@ -20,6 +21,7 @@ use Rattle.nc_read_policy.specs.Clauses.{ClausePart, clause_in}
 use Rattle.nc_read_policy.specs.Lists.{EntryPart, list_in}
 use Rattle.nc_read_policy.specs.Results.{ok_map}
 use Rattle.nc_read_policy.specs.CommunityEntries.{community_entry_at}
+use Rattle.nc_read_bgp.specs.Processes.{ProcessMade, process_in}
 use Rattle.nc_reader.specs.declared.topic.Topic.{Topic}
 use Rattle.nc_reader.specs.declared.topic.Topic.TheVariants as topics
 use Rattle.nc_lines.specs.Groups.{groups}
@@ -37,6 +39,13 @@ err_of (Err fault) = Some fault
 -- all that was read, or the first fault
 abbrev pub all_read : {A : Type 0} → List (Result A Fault) → Result (List A) Fault
 all_read rs = option_map_or Err (first_of (filter_map err_of rs)) (Ok (filter_map ok_of rs))
+
+-- ---- lines
+
+-- the first of some lines
+abbrev pub first_in : List ℕ → ℕ
+first_in [] = 0
+first_in (line ∷ lines) = line
 
 -- ---- static routes
 
@@ -110,28 +119,44 @@ communities_in lines ks = all_read (map (community_part lines) ks)
 pub data Part : Type 0 where
   AnInterface : InterfacePart → Part
   Routes : List RoutePart → Part
+  -- the process with its neighbors, networks and aggregates
+  AProcess : ProcessMade → Part
   AClause : ClausePart → Part
   -- a prefix list and a community list: the name, and the entries
   Entries : List ℕ → List EntryPart → Part
   Communities : List ℕ → List CommunityPart → Part
 
--- what these lines of a file make, which speak of a topic, or the fault of the first faulty one
-abbrev pub part_in : List (List ℕ) → Topic → List ℕ → Result Part Fault
-part_in lines (topics.Interface name) ks = ok_map AnInterface (interface_in name (numbered lines ks))
-part_in lines topics.Statics ks = ok_map Routes (routes_in lines ks)
-part_in lines (topics.Clause name number) ks = ok_map AClause (clause_in (numbered lines ks))
-part_in lines (topics.List name) ks = ok_map (Entries name) (list_in (numbered lines ks))
-part_in lines (topics.Communities name) ks = ok_map (Communities name) (communities_in lines ks)
+-- what the lines of a process make in a file that has this process: those of a second one are wrong from their first line on, whatever they say
+abbrev pub process_part : List (List ℕ) → Option ℕ → ℕ → List ℕ → Result Part Fault
+process_part lines process asn ks =
+    if option_eq (λ x y. x == y) process (Some asn) then ok_map AProcess (process_in (numbered lines ks))
+    else Err (record { line = first_in ks; cause = TwoProcesses })
+
+-- what these lines of a file make, which speak of a topic, or their lowest fault
+abbrev pub part_in : List (List ℕ) → Option ℕ → Topic → List ℕ → Result Part Fault
+part_in lines process (topics.Interface name) ks = ok_map AnInterface (interface_in name (numbered lines ks))
+part_in lines process topics.Statics ks = ok_map Routes (routes_in lines ks)
+part_in lines process (topics.Process asn) ks = process_part lines process asn ks
+part_in lines process (topics.Clause name number) ks = ok_map AClause (clause_in (numbered lines ks))
+part_in lines process (topics.List name) ks = ok_map (Entries name) (list_in (numbered lines ks))
+part_in lines process (topics.Communities name) ks = ok_map (Communities name) (communities_in lines ks)
 
 -- ---- elements
 
 abbrev pub element_at : Kind → List ℕ → ElementView
 element_at kind lines = record { kind = kind; lines = lines }
 
+-- the elements that a process is, and its neighbors, networks and aggregates
+abbrev pub process_pieces : ProcessMade → List ElementView
+process_pieces p =
+    element_at kinds.Process p.own
+    ∷ (map (element_at kinds.Neighbor) p.neighbors ++ (map (element_at kinds.Network) p.networks ++ map (element_at kinds.Aggregate) p.aggregates))
+
 -- the elements that a part is: each entry of a list is one
 abbrev pub pieces_in : Part → List ElementView
 pieces_in (AnInterface p) = element_at kinds.Interface p.lines ∷ []
 pieces_in (Routes ps) = map (λ p. element_at kinds.Static p.lines) ps
+pieces_in (AProcess p) = process_pieces p
 pieces_in (AClause p) = element_at kinds.Clause p.lines ∷ []
 pieces_in (Entries name ps) = map (λ p. element_at kinds.ListEntry p.lines) ps
 pieces_in (Communities name ps) = map (λ p. element_at kinds.CommunityEntry (p.line ∷ [])) ps

@@ -44,7 +44,7 @@ fn finish(alloc: Global, lines: &Lines, parts: Parts) -> Result<RouterConfig, Co
         elements,
         interfaces: things.interfaces,
         statics: things.statics,
-        process: None,
+        process: things.process,
         clauses: things.clauses,
         lists: things.lists,
         community_lists: things.community_lists,

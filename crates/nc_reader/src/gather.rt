@@ -50,7 +50,7 @@ fn has_block(subject: Subject<'_>) -> bool
     ensures { result ≡ has_block (topic_of subject.entry) }
 {
     match subject {
-        Subject::Interface(_) | Subject::Clause(_, _) => true,
+        Subject::Interface(_) | Subject::Process(_) | Subject::Clause(_, _) => true,
         Subject::Statics | Subject::List(_) | Subject::Communities(_) => false,
     }
 }

@@ -14,6 +14,7 @@ use crate::first::{First, read_first};
 use crate::topic::Subject;
 use nc_lines::cut::cut_word;
 use nc_lines::statement::{Reading, begins_one, is_word};
+use nc_read_bgp::read_process_header;
 use nc_read_policy::{read_clause_header, read_community_name, read_list_name};
 use nc_types::{Cause, NAME_LIMIT};
 
@@ -84,14 +85,23 @@ fn behind_interface(rest: &[u8]) -> Header<'_>
     }
 }
 
-// What is behind `router`: the name of a routing protocol isn't supported.
+// What a line is that begins with `router`: the header of a BGP process; no other routing protocol
+// is supported.
 #[tactic(auto, unfolding(crate::specs::Roles::is_unsupported, crate::specs::Roles::read_role))]
-fn behind_router(rest: &[u8]) -> Header<'_>
+fn router<'a>(line: &'a [u8], rest: &[u8]) -> Header<'a>
+    requires { words_of line.now ≡ codes "router" ∷ words_of rest.now }
     ensures { role_of_header result ≡ header_role (codes "router" ∷ words_of rest.now) }
 {
-    match cut_word(rest) {
-        None => Header::Passed,
-        Some(_) => Header::Wrong(Cause::Unsupported),
+    let Some((protocol, _)) = cut_word(rest) else {
+        return Header::Passed;
+    };
+    if !is_word(protocol, "bgp") {
+        return Header::Wrong(Cause::Unsupported);
+    }
+    match read_process_header(line) {
+        Reading::Outside => Header::Passed,
+        Reading::Faulty(cause) => Header::Wrong(cause),
+        Reading::Says(asn) => Header::Speaks(Subject::Process(asn)),
     }
 }
 
@@ -182,7 +192,7 @@ pub(crate) fn read_header<'a>(line: &'a [u8], word: &[u8], rest: &'a [u8]) -> He
         First::Interface => behind_interface(rest),
         First::Ip => behind_ip(rest),
         First::Hostname => behind_hostname(rest),
-        First::Router => behind_router(rest),
+        First::Router => router(line, rest),
         First::RouteMap => route_map(line, rest),
         First::No => behind_no(rest),
         First::Other => Header::Passed,

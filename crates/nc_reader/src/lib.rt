@@ -1,13 +1,13 @@
 //! From the lines of a configuration file to the configuration of its router.
 //!
 //! Each line is an unindented statement, a line of a block, or nothing that is read. The lines that
-//! speak of one topic, as an interface, a clause or a list, are gathered and read together, and the
-//! things that they make become elements in order of their first lines. The crate stands on
+//! speak of one topic, as an interface, a process or a list, are gathered and read together, and
+//! the things that they make become elements in order of their first lines. The crate stands on
 //! `nc_lines` for lines and banners, on `nc_read_link` for the statements of interfaces and static
-//! routes, on `nc_read_policy` for those of route maps and lists, and on `indexmap` for topics in
-//! order of first mention. Its contract promises that [`read_config`] gives the configuration of
-//! the whole list of lines, or its one fault: that of the lowest faulty line. That every such
-//! configuration is well formed is a law in [`laws`].
+//! routes, on `nc_read_bgp` for those of a BGP process, on `nc_read_policy` for those of route maps
+//! and lists, and on `indexmap` for topics in order of first mention. Its contract promises that
+//! [`read_config`] gives the configuration of the whole list of lines, or its one fault: that of
+//! the lowest faulty line. That every such configuration is well formed is a law in [`laws`].
 #![tactic(auto)]
 
 mod communities;
@@ -21,6 +21,7 @@ pub mod laws;
 mod order;
 mod parts;
 mod pieces;
+mod placed;
 mod places;
 mod role;
 mod routes;

@@ -6,6 +6,7 @@ ghost use Rattle.nc_types.specs.Faults.{lowest};
 ghost use Rattle.nc_reader.specs.Gathering.{IsLine};
 ghost use Rattle.nc_reader.specs.Parts.{IsLowest, AreRead, Reads, Tells, parts_by};
 ghost use Rattle.nc_reader.specs.Things.{part_in};
+ghost use Rattle.nc_reader.specs.Topics.{process_among};
 ghost use Rattle.nc_reader.specs.Whole.{AreParts};
 
 use crate::faults::note;
@@ -35,32 +36,47 @@ struct Made {
     fault: Option<Fault>,
 }
 
+// The process of a file that has these topics: the first of them that is one.
+fn process_among(topics: &[Topic]) -> Option<u32>
+    ensures { result ≡ process_among topics.now }
+{
+    'topics: for topic in topics {
+        if let Topic::Process(asn) = topic {
+            return Some(*asn);
+        }
+    }
+    None
+}
+
 // Reads what one more topic makes.
 fn read_one(
     alloc: Global,
     lines: &Lines,
+    process: Option<u32>,
     topic: &Topic,
     block: &Block,
     parts: &mut Vec<Part>,
     told: &mut Option<Fault>,
 ) -> Result<(), AllocError>
     requires { All (IsLine lines.now) block.now.lines.items }
-    ensures parts { OnOk result (Reads (part_in lines.now topic.now block.now.lines.items)
+    ensures parts { OnOk result (Reads (part_in lines.now process topic.now block.now.lines.items)
         parts.old.items parts.new.items) }
-    ensures told { OnOk result (Tells (part_in lines.now topic.now block.now.lines.items)
+    ensures told { OnOk result (Tells (part_in lines.now process topic.now block.now.lines.items)
         told.old told.new) }
 {
-    match read_part(alloc, lines, topic, block) {
+    match read_part(alloc, lines, process, topic, block) {
         Ok(part) => parts.push(part)?,
         Err(fault) => note(told, fault)?,
     }
     Ok(())
 }
 
-// Reads what these topics make, each of its block, given the lowest fault before them.
+// Reads what these topics make, each of its block, in a file that has this process, given the
+// lowest fault before them.
 fn read_all(
     alloc: Global,
     lines: &Lines,
+    process: Option<u32>,
     topics: &[Topic],
     blocks: &[Block],
     before: Option<Fault>,
@@ -68,14 +84,15 @@ fn read_all(
     requires lines { All (λ b. All (IsLine lines.now) b.lines.items) blocks.now }
     requires named { length topics.now ≡ length blocks.now }
     ensures parts { IfOk result (λ r. AreRead r.parts.items
-        (parts_by lines.now topics.now blocks.now)) }
+        (parts_by lines.now process topics.now blocks.now)) }
     ensures told { IfOk result (λ r. (fs : List Fault) → before ≡ lowest fs
-        → IsLowest fs r.fault (parts_by lines.now topics.now blocks.now)) }
+        → IsLowest fs r.fault (parts_by lines.now process topics.now blocks.now)) }
 {
     let mut parts = Vec::with_capacity(alloc, blocks.len())?;
     let mut told = before;
     'blocks: for (place, block) in blocks.iter().enumerate() {
-        read_one(alloc, lines, &topics[place], block, &mut parts, &mut told)?;
+        let topic = &topics[place];
+        read_one(alloc, lines, process, topic, block, &mut parts, &mut told)?;
     }
     Ok(Made { parts, fault: told })
 }
@@ -86,7 +103,8 @@ pub(crate) fn read_parts(alloc: Global, lines: &Lines) -> Result<Parts, AllocErr
 {
     let gathered = gather(alloc, lines)?;
     let topics = gathered.topics.as_slice();
-    let read = read_all(alloc, lines, topics, &gathered.lines, gathered.fault)?;
+    let process = process_among(topics);
+    let read = read_all(alloc, lines, process, topics, &gathered.lines, gathered.fault)?;
     Ok(Parts {
         name: gathered.name,
         made: read.parts,

@@ -1,7 +1,7 @@
 //! The things of a configuration, each with the lines that are its element.
 
 ghost use Rattle.std.specs.Prelude.{◌≡◌, IfOk};
-ghost use Rattle.nc_reader.specs.Configuration.{first_in};
+ghost use Rattle.nc_reader.specs.Things.{first_in};
 
 use crate::communities::CommunityLine;
 use crate::routes::RouteLines;
@@ -29,13 +29,30 @@ pub(crate) trait Piece: Drop {
         ensures lines { IfOk result (λ r. r.1.items ≡ lines_of self) };
 }
 
-// The first of some lines; 0 where there is none.
-fn first_in(lines: &[u32]) -> u32
+/// The first of some lines; 0 where there is none.
+pub(crate) fn first_in(lines: &[u32]) -> u32
     ensures { result ≡ first_in lines.now }
 {
     match lines.first() {
         None => 0,
         Some(line) => *line,
+    }
+}
+
+/// Lines alone, of a thing that gets the place of its element later.
+impl Piece for Vec<u32> {
+    type Thing = u32;
+
+    ghost lines_of = { λ lines. lines.items };
+
+    ghost placed = { λ place lines. place };
+
+    fn first(&self) -> u32 {
+        first_in(self)
+    }
+
+    fn split(self, _alloc: Global, place: u32) -> Result<(u32, Vec<u32>), AllocError> {
+        Ok((place, self))
     }
 }
 

@@ -3,16 +3,17 @@
 ghost use Rattle.std.specs.Prelude.{◌≡◌, All};
 ghost use Rattle.nc_reader.specs.Gathering.{IsLine};
 ghost use Rattle.nc_reader.specs.Parts.{IsPart};
-ghost use Rattle.nc_reader.specs.Things.{part_in};
+ghost use Rattle.nc_reader.specs.Things.{part_in, process_part};
 
 use crate::communities::{CommunityLine, read_communities};
-use crate::pieces::{ClauseLines, InterfaceLines};
+use crate::pieces::{ClauseLines, InterfaceLines, first_in};
 use crate::routes::{RouteLines, read_routes};
 use crate::topic::Topic;
 use nc_lines::{Block, Lines};
+use nc_read_bgp::{ProcessPart, read_process};
 use nc_read_link::read_interface;
 use nc_read_policy::{EntryLines, read_clause, read_list};
-use nc_types::{ConfigFault, Text};
+use nc_types::{Cause, ConfigFault, Text};
 use std::alloc::Global;
 
 /// What a topic makes: one thing, or several, each with its lines.
@@ -20,6 +21,8 @@ use std::alloc::Global;
 pub(crate) enum Part {
     AnInterface(InterfaceLines),
     Routes(Vec<RouteLines>),
+    /// The process with its neighbors, networks and aggregates.
+    AProcess(ProcessPart),
     AClause(ClauseLines),
     /// A prefix list: its name and its entries.
     Entries(Text, Vec<EntryLines>),
@@ -27,19 +30,42 @@ pub(crate) enum Part {
     Communities(Text, Vec<CommunityLine>),
 }
 
-/// Reads what the lines of a topic make.
+// Reads the process of this number in a file that has this process: the lines of a second one are
+// wrong from their first line on.
+fn read_process_part(
+    alloc: Global,
+    lines: &Lines,
+    process: Option<u32>,
+    asn: u32,
+    block: &Block,
+) -> Result<Part, ConfigFault>
+    requires { All (IsLine lines.now) block.now.lines.items }
+    ensures { IsPart result (process_part lines.now process asn block.now.lines.items) }
+{
+    if process != Some(asn) {
+        return Err(ConfigFault::Bad {
+            line: first_in(&block.lines),
+            cause: Cause::TwoProcesses,
+        });
+    }
+    let made = read_process(alloc, lines, block)?;
+    Ok(Part::AProcess(made))
+}
+
+/// Reads what the lines of a topic make, in a file that has this process.
 ///
 /// # Errors
 ///
-/// The first faulty line, with its cause; memory that runs out.
+/// The lowest faulty line, with its cause; memory that runs out.
 pub(crate) fn read_part(
     alloc: Global,
     lines: &Lines,
+    process: Option<u32>,
     topic: &Topic,
     block: &Block,
 ) -> Result<Part, ConfigFault>
     requires { All (IsLine lines.now) block.now.lines.items }
-    ensures { IsPart result (part_in lines.now topic.now block.now.lines.items) }
+    ensures { IsPart result (part_in lines.now process topic.now block.now.lines.items) }
 {
     match topic {
         Topic::Interface(name) => {
@@ -49,6 +75,10 @@ pub(crate) fn read_part(
         Topic::Statics => {
             let routes = read_routes(alloc, lines, &block.lines)?;
             Ok(Part::Routes(routes))
+        }
+        Topic::Process(asn) => {
+            let part = read_process_part(alloc, lines, process, *asn, block)?;
+            Ok(part)
         }
         Topic::Clause(_, _) => {
             let (clause, lines) = read_clause(alloc, lines, block)?;

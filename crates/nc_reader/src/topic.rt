@@ -14,6 +14,8 @@ pub(crate) enum Topic {
     Interface(Text),
     /// The static routes, all of them.
     Statics,
+    /// The process of the autonomous system of this number, from 1.
+    Process(u32),
     /// The clause of the route map of this name with this number.
     Clause(Text, u16),
     /// The prefix list of this name.
@@ -27,6 +29,7 @@ pub(crate) enum Topic {
 pub(crate) enum Subject<'a> {
     Interface(&'a [u8]),
     Statics,
+    Process(u32),
     Clause(&'a [u8], u16),
     List(&'a [u8]),
     Communities(&'a [u8]),
@@ -40,6 +43,7 @@ impl Topic {
         Ok(match subject {
             Subject::Interface(name) => Topic::Interface(Text::new(alloc, name)?),
             Subject::Statics => Topic::Statics,
+            Subject::Process(asn) => Topic::Process(asn),
             Subject::Clause(map, number) => Topic::Clause(Text::new(alloc, map)?, number),
             Subject::List(name) => Topic::List(Text::new(alloc, name)?),
             Subject::Communities(name) => Topic::Communities(Text::new(alloc, name)?),
@@ -53,6 +57,7 @@ impl Topic {
         match (self, subject) {
             (Topic::Interface(own), Subject::Interface(name)) => own.bytes() == name,
             (Topic::Statics, Subject::Statics) => true,
+            (Topic::Process(own), Subject::Process(asn)) => *own == asn,
             (Topic::Clause(own, m), Subject::Clause(map, n)) => own.bytes() == map && *m == n,
             (Topic::List(own), Subject::List(name)) => own.bytes() == name,
             (Topic::Communities(own), Subject::Communities(name)) => own.bytes() == name,

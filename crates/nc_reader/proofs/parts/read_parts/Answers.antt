@@ -1,11 +1,12 @@
-use Rattle.std.proofs.Common.{◌≡◌, List, [], ◌++◌, Result, ap, ◌∙◌}
+use Rattle.std.proofs.Common.{◌≡◌, ℕ, List, [], ◌++◌, Option, Result, ap, ◌∙◌}
 use Rattle.std.specs.List.{filter_map}
 use Rattle.nc_types.specs.Faults.{lowest}
 use Rattle.nc_types.specs.declared.fault.Fault.{Fault}
 use Rattle.nc_reader.specs.Roles.{roles_from}
-use Rattle.nc_reader.specs.Configuration.{wrong_at, topics_of, parts_of}
+use Rattle.nc_reader.specs.Configuration.{wrong_at, topics_of, process_number, parts_of}
 use Rattle.nc_reader.specs.Parts.{parts_by}
 use Rattle.nc_reader.specs.Things.{Part, ok_of, err_of}
+use Rattle.nc_reader.specs.Topics.{process_among}
 use Rattle.nc_reader.proofs.ConfigLemmas.{read-blocks}
 use Rattle.nc_reader.proofs.parts.read_parts.Goals as goal
 
@@ -13,9 +14,12 @@ pub returns : goal.returns
 returns c =
     let lines = c.args.lines.now in
     let seen = c.in_ok-gathered.ensures in
-    let read : parts_by lines c.as_slice-topics.result.now c.deref.result.now ≡ parts_of lines (roles_from [] lines) =
-    ap (parts_by lines c.as_slice-topics.result.now) c.deref.ensures.value
-    ∙ read-blocks lines c.as_slice-topics.result.now c.in_ok-gathered.gathered.lines.items (topics_of (roles_from [] lines)) (c.as_slice-topics.ensures.keys ∙ seen.topics) seen.spoken in
+    let process : Option ℕ = c.process_among-process.result in
+    let number : process ≡ process_number (roles_from [] lines) = c.process_among-process.ensures ∙ ap process_among (c.as_slice-topics.ensures.keys ∙ seen.topics) in
+    let read : parts_by lines process c.as_slice-topics.result.now c.deref.result.now ≡ parts_of lines (roles_from [] lines) =
+    ap (parts_by lines process c.as_slice-topics.result.now) c.deref.ensures.value
+    ∙ ap (λ (o : Option ℕ). parts_by lines o c.as_slice-topics.result.now c.in_ok-gathered.gathered.lines.items) number
+    ∙ read-blocks lines (process_number (roles_from [] lines)) c.as_slice-topics.result.now c.in_ok-gathered.gathered.lines.items (topics_of (roles_from [] lines)) (c.as_slice-topics.ensures.keys ∙ seen.topics) seen.spoken in
     let wrongs = filter_map (λ r. wrong_at r.line r.role) (roles_from [] lines) in
     record {
       name = seen.name;
