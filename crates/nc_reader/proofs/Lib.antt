@@ -1,5 +1,6 @@
 pub mod GroupLemmas
 pub mod TopicLemmas
+pub mod ProcessTopics
 pub mod PieceLemmas
 pub mod LineOrder
 pub mod Elements
@@ -23,4 +24,5 @@ pub mod GatherLemmas
 pub mod RouteLemmas
 pub mod OrderLemmas
 pub mod ThingLemmas
+pub mod PlacedLemmas
 pub mod ConfigLemmas

@@ -37,12 +37,13 @@ struct Made {
 }
 
 // The process of a file that has these topics: the first of them that is one.
+#[tactic(auto, using(crate::proofs::ProcessTopics::process_here, crate::proofs::ProcessTopics::process_later))]
 fn process_among(topics: &[Topic]) -> Option<u32>
     ensures { result ≡ process_among topics.now }
 {
     'topics: for topic in topics {
-        if let Topic::Process(asn) = topic {
-            return Some(*asn);
+        if let Some(asn) = topic.asn() {
+            return Some(asn);
         }
     }
     None

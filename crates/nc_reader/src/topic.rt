@@ -2,7 +2,7 @@
 
 ghost use Rattle.std.specs.Prelude.{◌≡◌, IfOk};
 ghost use Rattle.nc_reader.specs.Readings.{topic_of};
-ghost use Rattle.nc_reader.specs.Topics.{same_topic};
+ghost use Rattle.nc_reader.specs.Topics.{same_topic, asn_in};
 
 use nc_types::Text;
 use std::alloc::{AllocError, Global};
@@ -48,6 +48,16 @@ impl Topic {
             Subject::List(name) => Topic::List(Text::new(alloc, name)?),
             Subject::Communities(name) => Topic::Communities(Text::new(alloc, name)?),
         })
+    }
+
+    /// The number of the autonomous system of a process.
+    pub(crate) fn asn(&self) -> Option<u32>
+        ensures { result ≡ asn_in self.now }
+    {
+        match self {
+            Topic::Process(asn) => Some(*asn),
+            _ => None,
+        }
     }
 
     /// Whether it is the topic of a statement.
