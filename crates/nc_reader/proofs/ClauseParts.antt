@@ -3,11 +3,8 @@ use Rattle.std.proofs.Common.{◌≡◌, ℕ, Bool, cond, List, [], ◌∷◌, m
 use Rattle.std.specs.Prelude.{is_some, option_and_then}
 use Rattle.std.specs.List.{cons_option}
 use Rattle.std.specs.Option.{option_map, option_map_or}
-use Rattle.std.proofs.lemmas.Bool.{cond_both}
-use Rattle.nc_types.specs.WellFormed.{is_name}
 use Rattle.nc_types.specs.declared.config.Kind.TheVariants as kinds
 use Rattle.nc_types.specs.declared.fault.Fault.{Fault}
-use Rattle.nc_types.specs.declared.fault.Cause.TheVariants.{Syntax, Unsupported}
 use Rattle.nc_lines.specs.Lines.{words_of, line_at}
 use Rattle.nc_lines.specs.Statements.{Reading, Outside, Faulty, Says, after, said_as, said_of}
 use Rattle.nc_lines.specs.Parts.{Numbered, numbered, fault_in, statements_in}
@@ -15,9 +12,11 @@ use Rattle.nc_read_policy.specs.Clauses.{Header, ClauseStatement, Opens, ClauseL
 use Rattle.nc_read_policy.specs.Lists.{list_name_says}
 use Rattle.nc_read_policy.specs.CommunityEntries.{community_name_says}
 use Rattle.nc_read_bgp.specs.Statements.{header_says as process_header_says}
+use Rattle.nc_reader.specs.declared.topic.Topic.{Topic}
 use Rattle.nc_reader.specs.declared.topic.Topic.TheVariants as topics
-use Rattle.nc_reader.specs.Roles.{Role, Wrong, Names, Within, hostname_role, interface_role, said_role, is_unsupported, read_role, header_role}
+use Rattle.nc_reader.specs.Roles.{Role, Within, said_role, header_role}
 use Rattle.nc_reader.specs.Things.{element_at}
+use Rattle.nc_reader.proofs.HeaderCases.{read_by, no_hostname, no_interface, no_said, header_read}
 use Rattle.nc_reader.proofs.LineOrder.{IsHeader}
 use Rattle.nc_reader.proofs.PieceLemmas.{LinesAscend, AreElements, kept_element, at_line}
 
@@ -31,52 +30,18 @@ module _ (name : List ℕ) (number : ℕ) where
   abbrev clause : Role
   clause = Within (topics.Clause name number)
 
-  others : {A : Type 0} (f : A → Role) (o : Option A) (other : Role) → ((x : A) → f x ≡ clause → ⊥) → option_map_or f o other ≡ clause → other ≡ clause
-  others f None other none e = e
-  others f (Some x) other none e = absurd (none x e)
-
-  no_hostname : (words : List (List ℕ)) → hostname_role words ≡ clause → ⊥
-  no_hostname [] e = absurd cc
-  no_hostname (a ∷ []) e = cond_both (is_name a) (Names a) (Wrong Syntax) (λ (r : Role). r ≡ clause → ⊥) (λ _ e. absurd cc) (λ _ e. absurd cc) e
-  no_hostname (a ∷ b ∷ words) e = absurd cc
-
-  no_interface : (words : List (List ℕ)) → interface_role words ≡ clause → ⊥
-  no_interface [] e = absurd cc
-  no_interface (a ∷ words) e = absurd cc
-
-  no_list : (r : Reading (List ℕ)) → said_role topics.List r ≡ clause → ⊥
-  no_list Outside e = absurd cc
-  no_list (Faulty cause) e = absurd cc
-  no_list (Says a) e = absurd cc
-
-  no_communities : (r : Reading (List ℕ)) → said_role topics.Communities r ≡ clause → ⊥
-  no_communities Outside e = absurd cc
-  no_communities (Faulty cause) e = absurd cc
-  no_communities (Says a) e = absurd cc
-
-  no_process : (r : Reading ℕ) → said_role topics.Process r ≡ clause → ⊥
-  no_process Outside e = absurd cc
-  no_process (Faulty cause) e = absurd cc
-  no_process (Says n) e = absurd cc
-
   heads : (r : Reading Header) → said_role (λ h. topics.Clause h.map_name h.number) r ≡ clause → Heads name number r
   heads Outside e = absurd cc
   heads (Faulty cause) e = absurd cc
   heads (Says h) e = (h, refl, cc, cc)
 
-  read_heads : (words : List (List ℕ)) → read_role words ≡ clause → Heads name number (header_says words)
-  unfolding read_role
-  read_heads words e =
-      heads (header_says words)
-      (others (λ rest. said_role topics.Process (process_header_says words)) (after (codes "router" ∷ []) words) _ (λ rest. no_process (process_header_says words))
-      (others (λ rest. said_role topics.Communities (community_name_says rest)) (after (codes "ip" ∷ codes "community-list" ∷ []) words) _ (λ rest. no_communities (community_name_says rest))
-      (others (λ rest. said_role topics.List (list_name_says rest)) (after (codes "ip" ∷ codes "prefix-list" ∷ []) words) _ (λ rest. no_list (list_name_says rest))
-      (others (λ rest. Within topics.Statics) (after (codes "ip" ∷ codes "route" ∷ []) words) _ (λ rest e. absurd cc)
-      (others interface_role (after (codes "interface" ∷ []) words) _ no_interface
-      (others hostname_role (after (codes "hostname" ∷ []) words) _ no_hostname e))))))
-
   header_heads : (words : List (List ℕ)) → header_role words ≡ clause → Heads name number (header_says words)
-  header_heads words = cond_both (is_unsupported words) (Wrong Unsupported) (read_role words) (λ (r : Role). r ≡ clause → Heads name number (header_says words)) (λ _ e. absurd cc) (λ _ e. read_heads words e)
+  header_heads words =
+      let own : Topic = topics.Clause name number in
+      header_read own words
+      (read_by (λ (r : Role). r ≡ clause → Heads name number (header_says words)) words (no_hostname own) (no_interface own (λ n e. absurd cc)) (λ e. absurd cc)
+      (λ rest. no_said topics.List own (λ s e. absurd cc) (list_name_says rest)) (λ rest. no_said topics.Communities own (λ s e. absurd cc) (community_name_says rest))
+      (no_said topics.Process own (λ s e. absurd cc) (process_header_says words)) (heads (header_says words)))
 
 -- what the header of a clause says in its block
 opens : (lines : List (List ℕ)) (k : ℕ) (name : List ℕ) (number : ℕ) → IsHeader (line_at k lines) (topics.Clause name number)

@@ -9,11 +9,13 @@ pub mod PushLemmas
 pub mod FaultLemmas
 pub mod ReadLemmas
 pub mod Addresses
+pub mod HeaderCases
 pub mod InterfaceParts
 pub mod ClauseParts
 pub mod RouteParts
 pub mod ListParts
 pub mod CommunityParts
+pub mod ProcessParts
 pub mod TopicParts
 pub mod KindParts
 pub mod RouterNames

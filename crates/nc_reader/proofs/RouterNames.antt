@@ -18,6 +18,7 @@ use Rattle.nc_reader.specs.declared.topic.Topic.TheVariants as topics
 use Rattle.nc_reader.specs.Roles.{Role, Passed, Wrong, Names, Within, Placed, hostname_role, interface_role, said_role, is_unsupported, read_role, block_of, member_role, role_of, roles_from}
 use Rattle.nc_reader.specs.Configuration.{name_at, name_of}
 use Rattle.nc_lines.proofs.Pairs.{Has}
+use Rattle.nc_reader.proofs.HeaderCases.{read_by}
 use Rattle.nc_reader.proofs.Addresses.{last_has}
 
 abbrev IsNamed : Role → Type 0
@@ -40,20 +41,10 @@ said_named topic Outside = tt
 said_named topic (Faulty cause) = tt
 said_named topic (Says s) = tt
 
-either_named : (role : List (List ℕ) → Role) (o : Option (List (List ℕ))) (other : Role) → ((words : List (List ℕ)) → IsNamed (role words)) → IsNamed other → IsNamed (option_map_or role o other)
-either_named role None other here there = there
-either_named role (Some words) other here there = here words
-
 read_named : (words : List (List ℕ)) → IsNamed (read_role words)
-unfolding read_role
 read_named words =
-    either_named hostname_role (after (codes "hostname" ∷ []) words) _ hostname_named
-    (either_named interface_role (after (codes "interface" ∷ []) words) _ interface_named
-    (either_named (λ rest. Within topics.Statics) (after (codes "ip" ∷ codes "route" ∷ []) words) _ (λ _. tt)
-    (either_named (λ rest. said_role topics.List (list_name_says rest)) (after (codes "ip" ∷ codes "prefix-list" ∷ []) words) _ (λ rest. said_named topics.List (list_name_says rest))
-    (either_named (λ rest. said_role topics.Communities (community_name_says rest)) (after (codes "ip" ∷ codes "community-list" ∷ []) words) _ (λ rest. said_named topics.Communities (community_name_says rest))
-    (either_named (λ rest. said_role topics.Process (process_header_says words)) (after (codes "router" ∷ []) words) _ (λ rest. said_named topics.Process (process_header_says words))
-    (said_named (λ h. topics.Clause h.map_name h.number) (header_says words)))))))
+    read_by IsNamed words hostname_named interface_named tt (λ rest. said_named topics.List (list_name_says rest)) (λ rest. said_named topics.Communities (community_name_says rest))
+    (said_named topics.Process (process_header_says words)) (said_named (λ h. topics.Clause h.map_name h.number) (header_says words))
 
 member_named : (o : Option Topic) → IsNamed (member_role o)
 member_named None = tt

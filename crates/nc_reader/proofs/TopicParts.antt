@@ -1,22 +1,27 @@
 -- What is known of each part of a file.
 use Rattle.std.proofs.Common.{◌≡◌, ℕ, ◌<◌, List, [], ◌∷◌, length, map, Option, Some, Result, Ok, Err, refl, sym, ap, ◌∙◌, subst, arith}
-use Rattle.std.specs.Prelude.{◌≢◌, IfSome}
+use Rattle.std.specs.Prelude.{◌≢◌, ◌==◌, IfSome, unwrap_or}
 use Rattle.std.specs.List.{filter_map}
 use Rattle.std.specs.List.Sorted.{IsStrictlyIncreasing}
+use Rattle.std.specs.Option.{option_eq}
 use Rattle.nc_types.proofs.Members.{in_by_filter_map}
 use Rattle.nc_types.specs.Config.{ElementView}
+use Rattle.nc_types.specs.WellFormed.{IsProcess}
 use Rattle.nc_types.specs.declared.fault.Fault.{Fault}
+use Rattle.nc_types.specs.declared.fault.Cause.TheVariants.{TwoProcesses}
 use Rattle.nc_lines.specs.Parts.{numbered}
 use Rattle.nc_read_link.specs.Interfaces.{interface_in}
 use Rattle.nc_read_policy.specs.Clauses.{clause_in}
+use Rattle.nc_read_bgp.specs.Processes.{process_in}
 use Rattle.nc_read_policy.specs.Lists.{list_in}
+use Rattle.nc_read_policy.specs.Results.{ok_map}
 use Rattle.nc_reader.specs.declared.topic.Topic.{Topic}
 use Rattle.nc_reader.specs.declared.topic.Topic.TheVariants as topics
 use Rattle.nc_lines.specs.Groups.{Group}
 use Rattle.nc_reader.specs.Roles.{roles_from}
 use Rattle.nc_reader.specs.Topics.{same_topic}
-use Rattle.nc_reader.specs.Configuration.{spoken, topics_of, parts_of}
-use Rattle.nc_reader.specs.Things.{Part, AnInterface, Routes, AClause, Entries, Communities, part_in, pieces_in, routes_in, communities_in, ok_of}
+use Rattle.nc_reader.specs.Configuration.{spoken, topics_of, process_number, parts_of}
+use Rattle.nc_reader.specs.Things.{Part, AnInterface, Routes, AProcess, AClause, Entries, Communities, part_in, pieces_in, routes_in, communities_in, ok_of}
 use Rattle.nc_lines.proofs.Pairs.{Has, Pairs, pairs_kept, kept_map}
 use Rattle.nc_lines.proofs.Grouping.{grouped, groups_keys, group_ascends, groups_apart}
 use Rattle.nc_reader.proofs.LineOrder.{spoken_ascend, Starts, begun}
@@ -27,36 +32,39 @@ use Rattle.nc_reader.proofs.InterfaceParts.{interface_is, interface_elements}
 use Rattle.nc_reader.proofs.ClauseParts.{clause_elements, clause_named}
 use Rattle.nc_reader.proofs.RouteParts.{routes_elements}
 use Rattle.nc_reader.proofs.ListParts.{entries_elements, entries_ascend, some_entries}
+use Rattle.nc_reader.proofs.ProcessParts.{ProcessLaw, AreMatched, process_elements, are_matched, process_made, process_is}
 use Rattle.nc_reader.proofs.CommunityParts.{communities_elements, some_communities}
 
--- the topic that a part is of
-abbrev pub topic_in : Part → Topic
-topic_in (AnInterface p) = topics.Interface p.interface.name
-topic_in (Routes ps) = topics.Statics
-topic_in (AClause p) = topics.Clause p.clause.map_name p.clause.number
-topic_in (Entries name ps) = topics.List name
-topic_in (Communities name ps) = topics.Communities name
+-- the topic that a part is of, in a file that has this process
+abbrev pub topic_in : Option ℕ → Part → Topic
+topic_in process (AnInterface p) = topics.Interface p.interface.name
+topic_in process (Routes ps) = topics.Statics
+topic_in process (AProcess p) = topics.Process (unwrap_or process 0)
+topic_in process (AClause p) = topics.Clause p.clause.map_name p.clause.number
+topic_in process (Entries name ps) = topics.List name
+topic_in process (Communities name ps) = topics.Communities name
 
 -- what holds of the things of a part
 abbrev pub IsSound : Part → Type 0
 IsSound (AnInterface p) = IfSome p.interface.address IsCovered
 IsSound (Routes ps) = Unit {0}
+IsSound (AProcess p) = IsProcess p.process × AreMatched p
 IsSound (AClause p) = Unit {0}
 IsSound (Entries name ps) = (0 < length ps) × IsStrictlyIncreasing (map (λ p. p.entry.seq) ps)
 IsSound (Communities name ps) = 0 < length ps
 
-pub record IsPartOf (count : ℕ) (t : Topic) (ks : List ℕ) (p : Part) : Type 0 where
-  pub topic : topic_in p ≡ t
+pub record IsPartOf (count : ℕ) (process : Option ℕ) (t : Topic) (ks : List ℕ) (p : Part) : Type 0 where
+  pub topic : topic_in process p ≡ t
   pub elements : AreElements count ks (pieces_in p)
   pub sound : IsSound p
 
-module _ (lines : List (List ℕ)) (k : ℕ) (ks : List ℕ) (up : LinesAscend (length lines) (k ∷ ks)) where
+module _ (law : ProcessLaw) (lines : List (List ℕ)) (process : Option ℕ) (k : ℕ) (ks : List ℕ) (up : LinesAscend (length lines) (k ∷ ks)) where
   -- what a topic makes whose first line is a header
-  made_of : (topic : Topic) (p : Part) → Starts lines topic (k ∷ ks) → part_in lines topic (k ∷ ks) ≡ Ok p → IsPartOf (length lines) topic (k ∷ ks) p
+  made_of : (topic : Topic) (p : Part) → Starts lines topic (k ∷ ks) → part_in lines process topic (k ∷ ks) ≡ Ok p → IsPartOf (length lines) process topic (k ∷ ks) p
   made_of (topics.Interface name) p begins e =
       let at = ok_mapped AnInterface (interface_in name (numbered lines (k ∷ ks))) p e in
       let is = interface_is name (numbered lines (k ∷ ks)) at.0 at.1 in
-      subst (IsPartOf (length lines) (topics.Interface name) (k ∷ ks)) at.2
+      subst (IsPartOf (length lines) process (topics.Interface name) (k ∷ ks)) at.2
       (record {
         topic = ap (λ p. topics.Interface p.interface.name) (sym is);
         elements = interface_elements lines name k ks at.0 up begins.0 at.1;
@@ -64,14 +72,23 @@ module _ (lines : List (List ℕ)) (k : ℕ) (ks : List ℕ) (up : LinesAscend (
       })
   made_of topics.Statics p begins e =
       let at = ok_mapped Routes (routes_in lines (k ∷ ks)) p e in
-      subst (IsPartOf (length lines) topics.Statics (k ∷ ks)) at.2 (record { topic = refl; elements = routes_elements lines (k ∷ ks) up at.0 at.1; sound = tt })
+      subst (IsPartOf (length lines) process topics.Statics (k ∷ ks)) at.2 (record { topic = refl; elements = routes_elements lines (k ∷ ks) up at.0 at.1; sound = tt })
+  made_of (topics.Process asn) p begins e =
+      let is = process_made (option_eq (λ x y. x == y) process (Some asn)) (ok_map AProcess (process_in (numbered lines (k ∷ ks)))) (record { line = k; cause = TwoProcesses }) p e in
+      let at = ok_mapped AProcess (process_in (numbered lines (k ∷ ks))) p is.1 in
+      subst (IsPartOf (length lines) process (topics.Process asn) (k ∷ ks)) at.2
+      (record {
+        topic = ap (λ (o : Option ℕ). topics.Process (unwrap_or o 0)) (process_is process asn is.0);
+        elements = process_elements law lines asn k ks at.0 up begins at.1;
+        sound = (law.well_formed (numbered lines (k ∷ ks)) at.0 at.1, are_matched (numbered lines (k ∷ ks)) at.0 at.1);
+      })
   made_of (topics.Clause name number) p begins e =
       let at = ok_mapped AClause (clause_in (numbered lines (k ∷ ks))) p e in
-      subst (IsPartOf (length lines) (topics.Clause name number) (k ∷ ks)) at.2
+      subst (IsPartOf (length lines) process (topics.Clause name number) (k ∷ ks)) at.2
       (record { topic = clause_named lines name number k ks at.0 begins at.1; elements = clause_elements lines name number k ks at.0 up begins at.1; sound = tt })
   made_of (topics.List name) p begins e =
       let at = ok_mapped (Entries name) (list_in (numbered lines (k ∷ ks))) p e in
-      subst (IsPartOf (length lines) (topics.List name) (k ∷ ks)) at.2
+      subst (IsPartOf (length lines) process (topics.List name) (k ∷ ks)) at.2
       (record {
         topic = refl;
         elements = entries_elements lines (k ∷ ks) at.0 at.1 up;
@@ -79,7 +96,7 @@ module _ (lines : List (List ℕ)) (k : ℕ) (ks : List ℕ) (up : LinesAscend (
       })
   made_of (topics.Communities name) p begins e =
       let at = ok_mapped (Communities name) (communities_in lines (k ∷ ks)) p e in
-      subst (IsPartOf (length lines) (topics.Communities name) (k ∷ ks)) at.2
+      subst (IsPartOf (length lines) process (topics.Communities name) (k ∷ ks)) at.2
       (record { topic = refl; elements = communities_elements lines (k ∷ ks) up at.0 at.1; sound = some_communities lines k ks at.0 at.1 })
 
 -- ---- the parts of a file
@@ -92,42 +109,45 @@ abbrev pub parts_in : List (List ℕ) → List Part
 parts_in lines = filter_map ok_of (parts_of lines (roles_from [] lines))
 
 -- two parts are of two topics, and have no line in common
-abbrev pub AreTwo : Part → Part → Type 0
-AreTwo p q = (topic_in p ≢ topic_in q) × ((e f : ElementView) → Has (pieces_in p) e → Has (pieces_in q) f → Apart e.lines f.lines)
+abbrev pub AreTwo : Option ℕ → Part → Part → Type 0
+AreTwo process p q = (topic_in process p ≢ topic_in process q) × ((e f : ElementView) → Has (pieces_in p) e → Has (pieces_in q) f → Apart e.lines f.lines)
 
-module _ (lines : List (List ℕ)) where
+module _ (law : ProcessLaw) (lines : List (List ℕ)) where
+  abbrev process : Option ℕ
+  process = process_number (roles_from [] lines)
+
   abbrev groups_in : List (Group Topic ℕ)
   groups_in = topics_of (roles_from [] lines)
 
   abbrev part_at : Group Topic ℕ → Option Part
-  part_at g = ok_of (part_in lines g.key g.values)
+  part_at g = ok_of (part_in lines process g.key g.values)
 
   parts_at : parts_in lines ≡ filter_map part_at groups_in
-  parts_at = kept_map ok_of (λ (g : Group Topic ℕ). part_in lines g.key g.values) groups_in
+  parts_at = kept_map ok_of (λ (g : Group Topic ℕ). part_in lines process g.key g.values) groups_in
 
   group_up : (g : Group Topic ℕ) → Has groups_in g → LinesAscend (length lines) g.values
   group_up g h = group_ascends same_topic topics_same (λ (k : ℕ). k) 0 (length lines) (spoken (roles_from [] lines)) (spoken_ascend lines) g h
 
-  part_of_group : (g : Group Topic ℕ) (p : Part) → Has groups_in g → part_at g ≡ Some p → IsPartOf (length lines) g.key g.values p
+  part_of_group : (g : Group Topic ℕ) (p : Part) → Has groups_in g → part_at g ≡ Some p → IsPartOf (length lines) process g.key g.values p
   part_of_group g p h e =
       let of_it = grouped same_topic topics_same (spoken (roles_from [] lines)) g h in
       let k : ℕ = of_it.1.0 in
       let ks : List ℕ = of_it.1.1 in
       let is : g.values ≡ k ∷ ks = of_it.1.2 in
       let begins : Starts lines g.key (k ∷ ks) = subst (Starts lines g.key) (sym of_it.0 ∙ is) (begun lines g.key) in
-      let made : part_in lines g.key (k ∷ ks) ≡ Ok p = ap (part_in lines g.key) (sym is) ∙ ok_is (part_in lines g.key g.values) p e in
-      subst (λ (vs : List ℕ). IsPartOf (length lines) g.key vs p) (sym is) (made_of lines k ks (subst (LinesAscend (length lines)) is (group_up g h)) g.key p begins made)
+      let made : part_in lines process g.key (k ∷ ks) ≡ Ok p = ap (part_in lines process g.key) (sym is) ∙ ok_is (part_in lines process g.key g.values) p e in
+      subst (λ (vs : List ℕ). IsPartOf (length lines) process g.key vs p) (sym is) (made_of law lines process k ks (subst (LinesAscend (length lines)) is (group_up g h)) g.key p begins made)
 
   -- a part comes from the lines of a topic
-  pub part_from : (p : Part) → Has (parts_in lines) p → (g : Group Topic ℕ) × Has groups_in g × IsPartOf (length lines) g.key g.values p
+  pub part_from : (p : Part) → Has (parts_in lines) p → (g : Group Topic ℕ) × Has groups_in g × IsPartOf (length lines) process g.key g.values p
   part_from p h =
       let at = in_by_filter_map part_at groups_in p (subst (λ (ps : List Part). Has ps p) parts_at h) in
       (at.0, at.1, part_of_group at.0 p at.1 at.2)
 
-  pub parts_two : Pairs AreTwo (parts_in lines)
+  pub parts_two : Pairs (AreTwo process) (parts_in lines)
   parts_two =
-      subst (Pairs AreTwo) (sym parts_at)
-      (pairs_kept part_at (λ (g h : Group Topic ℕ). g.key ≢ h.key) AreTwo groups_in
+      subst (Pairs (AreTwo process)) (sym parts_at)
+      (pairs_kept part_at (λ (g h : Group Topic ℕ). g.key ≢ h.key) (AreTwo process) groups_in
       (λ g h p q hg hh differ eg eh.
       let a = part_of_group g p hg eg in
       let b = part_of_group h q hh eh in (

@@ -1,27 +1,28 @@
 -- Each configuration that a file's lines make is well formed.
 use Rattle.std.proofs.Common.{◌≡◌, ℕ, ◌<◌, ◌≤◌, true, List, [], ◌∷◌, length, map, Option, Some, None, Result, Ok, Err, refl, sym, ap, subst, arith, inl, inr}
 use Rattle.std.specs.Prelude.{◌≢◌, ◌⊎◌, All, Contains, IfSome, slice_index_or}
-use Rattle.std.specs.List.{AllPairs, flat_map}
+use Rattle.std.specs.List.{AllPairs, flat_map, last_or}
 use Rattle.std.specs.List.Sorted.{IsStrictlyIncreasing}
 use Rattle.std.specs.Option.{option_map_or}
 use Rattle.std.proofs.lemmas.Bool.{cases_order}
 use Rattle.nc_types.proofs.Members.{in_by_contains, all_by_in, in_by_map, in_by_flat_map}
-use Rattle.nc_types.specs.Config.{ElementView, ClauseView, PrefixListView, CommunityListView, ConfigView}
-use Rattle.nc_types.specs.WellFormed.{is_name, places_of, IsElement, first_line, IsWellFormed}
+use Rattle.nc_types.specs.Config.{ElementView, ProcessView, ClauseView, PrefixListView, CommunityListView, ConfigView}
+use Rattle.nc_types.specs.WellFormed.{is_name, places_of, IsProcess, IsElement, first_line, IsWellFormed}
 use Rattle.nc_types.specs.Faults.{lowest}
 use Rattle.nc_types.specs.declared.fault.Fault.{Fault}
 use Rattle.nc_types.specs.declared.fault.Cause.TheVariants.{NoName}
 use Rattle.nc_types.specs.declared.config.Interface.{Interface}
 use Rattle.nc_reader.specs.Roles.{roles_from}
-use Rattle.nc_reader.specs.Configuration.{name_of, faults_of, pieces_of, in_order, place_of, interfaces_in, lists_in, community_lists_in, config_of, configuration}
+use Rattle.nc_reader.specs.Configuration.{name_of, process_number, faults_of, pieces_of, in_order, place_of, interfaces_in, processes_in, lists_in, community_lists_in, config_of, configuration}
 use Rattle.nc_reader.specs.Things.{Part, pieces_in}
 use Rattle.nc_lines.proofs.Pairs.{Has, Pairs, all_pairs, pairs_weaker, pairs_map, pairs_either, ascends_within, increasing}
 use Rattle.nc_reader.proofs.Elements.{has_in_order, in_order_ascends, length_in_order, few_in_order, place_below, place_less}
 use Rattle.nc_reader.proofs.PieceLemmas.{Apart, IsWhole}
-use Rattle.nc_reader.proofs.Addresses.{IsCovered}
+use Rattle.nc_reader.proofs.Addresses.{IsCovered, last_has}
+use Rattle.nc_reader.proofs.ProcessParts.{ProcessLaw}
 use Rattle.nc_reader.proofs.RouterNames.{router_named}
 use Rattle.nc_reader.proofs.TopicParts.{IsSound, AreTwo, parts_in, part_from, parts_two}
-use Rattle.nc_reader.proofs.KindParts.{AreApart, all_kinds, kinds_differ, by_ranks, ranks_among, pieces_apart, ranks_apart, interfaces_differ, clauses_differ, lists_differ, community_lists_differ, interface_sound, list_sound, community_sound, all_places}
+use Rattle.nc_reader.proofs.KindParts.{AreApart, all_kinds, kinds_differ, by_ranks, ranks_among, pieces_apart, ranks_apart, interfaces_differ, clauses_differ, lists_differ, community_lists_differ, one_at_most, process_sound, interface_sound, list_sound, community_sound, all_places}
 
 -- ---- what is no fault
 
@@ -90,9 +91,21 @@ module _ (count : ℕ) (pieces : List ElementView) (apart : Pairs (λ e f. Apart
         ]
       ]) (begin_apart es (λ e h. whole e (among e h)) pairs)
 
+-- what holds of each of several processes holds of the last
+last_sound : (ps : List ProcessView) → ((p : ProcessView) → Has ps p → IsProcess p) → IfSome (last_or None ps) IsProcess
+last_sound ps each = go (last_or None ps) refl
+  where
+    go : (o : Option ProcessView) → last_or None ps ≡ o → IfSome o IsProcess
+    go None e = tt
+    go (Some p) e =
+        elim (last_has None ps p e) [
+          | inl never ↦ absurd cc
+          | inr h ↦ each p h
+        ]
+
 -- ---- the configuration of a file
 
-module _ (lines : List (List ℕ)) where
+module _ (law : ProcessLaw) (lines : List (List ℕ)) where
   abbrev count : ℕ
   count = length lines
 
@@ -105,27 +118,30 @@ module _ (lines : List (List ℕ)) where
   abbrev place : ℕ → ℕ
   place = place_of pieces
 
-  two : Pairs AreTwo parts
-  two = parts_two lines
+  abbrev process : Option ℕ
+  process = process_number (roles_from [] lines)
+
+  two : Pairs (AreTwo process) parts
+  two = parts_two law lines
 
   own : (p : Part) → Has parts p → Pairs AreApart (pieces_in p)
-  own p h = (part_from lines p h).2.elements.apart
+  own p h = (part_from law lines p h).2.elements.apart
 
   sound : (p : Part) → Has parts p → IsSound p
-  sound p h = (part_from lines p h).2.sound
+  sound p h = (part_from law lines p h).2.sound
 
   pub apart : Pairs AreApart pieces
-  apart = pieces_apart parts two own
+  apart = pieces_apart process parts two own
 
   pub whole : (e : ElementView) → Has pieces e → IsWhole count e.lines
-  whole e h = let at = in_by_flat_map pieces_in parts e h in (part_from lines at.0 at.1).2.elements.whole e at.2
+  whole e h = let at = in_by_flat_map pieces_in parts e h in (part_from law lines at.0 at.1).2.elements.whole e at.2
 
   -- no more elements than lines
   pub few : length pieces ≤ count
   few = omega (arith, all_stand count pieces apart whole, few_in_order count pieces)
 
   places_are : (name : ℕ × List ℕ) → places_of (config_of count name parts) ≡ map (λ e. place (first_line e)) (by_ranks parts all_kinds)
-  places_are name = all_places place parts
+  places_are name = all_places place parts sound (one_at_most process parts two place)
 
   below : (k : ℕ) → Has (map (λ e. place (first_line e)) (by_ranks parts all_kinds)) k → k < length (in_order count pieces)
   below k h =
@@ -143,22 +159,22 @@ module _ (lines : List (List ℕ)) where
         name = named;
         places = subst (All (λ (k : ℕ). k < length (in_order count pieces))) (sym (places_are name)) (all_by_in (λ (k : ℕ). k < length (in_order count pieces)) _ below);
         single = subst (AllPairs (λ (p q : ℕ). p ≢ q)) (sym (places_are name))
-            (all_pairs (λ (p q : ℕ). p ≢ q) _ (one_each count pieces apart whole (by_ranks parts all_kinds) (ranks_among parts all_kinds) (ranks_apart parts two own all_kinds kinds_differ)));
+            (all_pairs (λ (p q : ℕ). p ≢ q) _ (one_each count pieces apart whole (by_ranks parts all_kinds) (ranks_among parts all_kinds) (ranks_apart process parts two own all_kinds kinds_differ)));
         elements = all_by_in (IsElement count) (in_order count pieces) (each_stands count pieces apart whole);
         ordered = all_pairs (λ (e f : ElementView). first_line e < first_line f) (in_order count pieces) (in_order_ascends count pieces);
         apart = all_pairs (λ (e f : ElementView). (line : ℕ) → Contains e.lines line → Contains f.lines line → ⊥) (in_order count pieces) (alone count pieces apart whole);
-        interfaces = all_pairs (λ (i j : Interface). i.name ≢ j.name) _ (interfaces_differ parts two place);
-        clauses = all_pairs (λ (a b : ClauseView). (a.map_name ≢ b.map_name) ⊎ (a.number ≢ b.number)) _ (clauses_differ parts two place);
-        lists = all_pairs (λ (a b : PrefixListView). a.name ≢ b.name) _ (lists_differ parts two place);
-        community_lists = all_pairs (λ (a b : CommunityListView). a.name ≢ b.name) _ (community_lists_differ parts two place);
+        interfaces = all_pairs (λ (i j : Interface). i.name ≢ j.name) _ (interfaces_differ process parts two place);
+        clauses = all_pairs (λ (a b : ClauseView). (a.map_name ≢ b.map_name) ⊎ (a.number ≢ b.number)) _ (clauses_differ process parts two place);
+        lists = all_pairs (λ (a b : PrefixListView). a.name ≢ b.name) _ (lists_differ process parts two place);
+        community_lists = all_pairs (λ (a b : CommunityListView). a.name ≢ b.name) _ (community_lists_differ process parts two place);
         covered = of_each (interfaces_in place) (λ (i : Interface). IfSome i.address IsCovered) (interface_sound place);
-        process = tt;
+        process = last_sound (flat_map (processes_in place) parts) (λ x h. let at = in_by_flat_map (processes_in place) parts x h in process_sound place at.0 x (sound at.0 at.1) at.2);
         filled = of_each (lists_in place) (λ (l : PrefixListView). 0 < length l.entries) (λ p l s h. (list_sound place p l s h).0);
         entries = of_each (lists_in place) (λ (l : PrefixListView). IsStrictlyIncreasing (map (λ e. e.seq) l.entries)) (λ p l s h. (list_sound place p l s h).1);
         community_filled = of_each (community_lists_in place) (λ (l : CommunityListView). 0 < length l.entries) (community_sound place);
       }
 
-pub well_formed : (lines : List (List ℕ)) (c : ConfigView) → configuration lines ≡ Ok c → IsWellFormed c
-well_formed lines c e =
+pub well_formed : ProcessLaw → (lines : List (List ℕ)) (c : ConfigView) → configuration lines ≡ Ok c → IsWellFormed c
+well_formed law lines c e =
     let found = configured lines c e in
-    subst IsWellFormed found.1 (formed lines found.0 (router_named lines found.0 found.2))
+    subst IsWellFormed found.1 (formed law lines found.0 (router_named lines found.0 found.2))
