@@ -1,25 +1,24 @@
 -- The lines of a process and of its neighbors, networks and aggregates.
 use Rattle.std.proofs.Common.{◌≡◌, ℕ, ◌<◌, Bool, true, false, cond, List, [], ◌∷◌, ◌++◌, length, map, Option, Some, None, Result, Ok, Err, refl, sym, ap, ◌∙◌, subst, arith, inl, inr}
 use Rattle.std.specs.Prelude.{◌==◌, All, Contains, if◌then◌else◌}
+use Rattle.std.specs.List.{filter_map}
 use Rattle.std.specs.List.Sorted.{IsStrictlyIncreasing}
 use Rattle.std.specs.Option.{option_map_or, option_eq}
 use Rattle.std.proofs.lemmas.Bool.{eqb-true}
-use Rattle.std.proofs.lemmas.List.{map-append, length-map}
+use Rattle.std.proofs.lemmas.List.{map-append}
 use Rattle.nc_types.proofs.Members.{all_in, in_by_contains, contains_by_in, in_map}
 use Rattle.nc_types.specs.Config.{ElementView}
 use Rattle.nc_types.specs.WellFormed.{IsProcess}
 use Rattle.nc_types.specs.declared.config.Kind.{Kind}
 use Rattle.nc_types.specs.declared.config.Kind.TheVariants as kinds
-use Rattle.nc_types.specs.declared.addr.Addr.{Addr}
 use Rattle.nc_types.specs.declared.fault.Fault.{Fault}
-use Rattle.nc_types.specs.Cidr.{Cidr}
-use Rattle.nc_lines.proofs.Pairs.{Has, Pairs, pairs_all, pairs_weaker, ascends_within, ascends_from, increasing}
+use Rattle.nc_lines.proofs.Pairs.{Has, Pairs, pairs_all, pairs_by_map, pairs_weaker, ascends_within, ascends_from, increasing}
 use Rattle.nc_lines.specs.Lines.{words_of, line_at}
-use Rattle.nc_lines.specs.Parts.{Numbered, numbered, fault_in, statements_in}
+use Rattle.nc_lines.specs.Parts.{Numbered, Stated, numbered, statements_in}
+use Rattle.nc_lines.proofs.PartLemmas.{stated}
 use Rattle.nc_lines.specs.Statements.{Reading, Outside, Faulty, Says, said_as}
-use Rattle.nc_read_bgp.specs.Laws.{lines_in, lines_of_things, lines_of_each, HaveLines, AreWithin, Ascend, AreApart}
-use Rattle.nc_read_bgp.specs.Neighbors.{NeighborFields}
-use Rattle.nc_read_bgp.specs.Processes.{ProcessMade, ProcessFields, PrefixFields, fields_in, neighbor_of, network_of, aggregate_of, process_of, lack_in, process_in}
+use Rattle.nc_read_bgp.specs.Laws.{lines_in, lines_of_things, lines_of_each, HaveLinesBeside, HaveLines, AreWithin, Ascend, AreApart}
+use Rattle.nc_read_bgp.specs.Processes.{ProcessMade, own_by, process_in}
 use Rattle.nc_read_bgp.specs.Statements.{ProcessSays, Opens, header_says, statement_says, line_says}
 use Rattle.nc_read_policy.specs.Lists.{list_name_says}
 use Rattle.nc_read_policy.specs.CommunityEntries.{community_name_says}
@@ -33,10 +32,10 @@ use Rattle.nc_reader.proofs.LineOrder.{IsHeader}
 use Rattle.nc_reader.proofs.PieceLemmas.{LinesAscend, IsWhole, Apart, AreElements, at_line, numbers_of}
 
 -- what is known of each process that lines make
-pub record ProcessLaw : Type 0 where
+pub record ProcessLaws : Type 0 where
   pub well_formed : (block : List Numbered) (made : ProcessMade) → process_in block ≡ Ok made → IsProcess made.process
+  pub beside : (block : List Numbered) (made : ProcessMade) → process_in block ≡ Ok made → HaveLinesBeside made
   pub some : (block : List Numbered) (made : ProcessMade) → process_in block ≡ Ok made → HaveLines (lines_of_things made)
-  pub header : (block : List Numbered) (made : ProcessMade) → process_in block ≡ Ok made → (l : Numbered) (asn : ℕ) → Contains block l → line_says l ≡ Says (Opens asn) → Contains made.own l.line
   pub within : (block : List Numbered) (made : ProcessMade) → process_in block ≡ Ok made → AreWithin (lines_in block) (lines_of_each made)
   pub ascend : (block : List Numbered) (made : ProcessMade) → process_in block ≡ Ok made → IsStrictlyIncreasing (lines_in block) → Ascend (lines_of_each made)
   pub apart : (block : List Numbered) (made : ProcessMade) → process_in block ≡ Ok made → IsStrictlyIncreasing (lines_in block) → AreApart (lines_of_each made)
@@ -68,14 +67,6 @@ opens lines k asn is =
 
 -- ---- lists of lines
 
-has_some : (xs : List ℕ) (x : ℕ) → Has xs x → 0 < length xs
-has_some [] x h = absurd h
-has_some (y ∷ ys) x h = omega arith
-
-pub pairs_of_map : {A B : Type 0} (f : A → B) (R : B → B → Type 0) (xs : List A) → Pairs R (map f xs) → Pairs (λ x y. R (f x) (f y)) xs
-pairs_of_map f R [] pairs = tt
-pairs_of_map f R (x ∷ xs) pairs = (λ y h. pairs.0 (f y) (in_map f xs y h), pairs_of_map f R xs pairs.1)
-
 element_lines : (kind : Kind) (each : List (List ℕ)) → map (λ (e : ElementView). e.lines) (map (element_at kind) each) ≡ each
 element_lines kind [] = refl
 element_lines kind (lines ∷ each) = ap (λ (more : List (List ℕ)). lines ∷ more) (element_lines kind each)
@@ -93,7 +84,21 @@ pieces_lines made =
 
 -- ---- the elements of a process whose first line is its header
 
-module _ (law : ProcessLaw) (lines : List (List ℕ)) (asn k : ℕ) (ks : List ℕ) (made : ProcessMade) (up : LinesAscend (length lines) (k ∷ ks)) (begins : IsHeader (line_at k lines) (topics.Process asn))
+made_is : (o : Option Fault) (made whole : ProcessMade) → option_map_or Err o (Ok whole) ≡ Ok made → whole ≡ made
+made_is None made whole e = cc
+made_is (Some fault) made whole e = absurd cc
+
+-- the process itself has the line of its header
+own_some : (lines : List (List ℕ)) (asn k : ℕ) (ks : List ℕ) (made : ProcessMade) → IsHeader (line_at k lines) (topics.Process asn) → process_in (numbered lines (k ∷ ks)) ≡ Ok made → 0 < length made.own
+unfolding process_in
+own_some lines asn k ks made begins read =
+    let rest : List (Stated ProcessSays) = statements_in line_says (numbered lines ks) in
+    let owned : List (Stated ProcessSays) → List ℕ = λ ss. filter_map (λ s. own_by s.line s.setting) ss in
+    let first : statements_in line_says (numbered lines (k ∷ ks)) ≡ record { line = k; setting = Opens asn } ∷ rest = stated line_says (at_line lines k) (numbered lines ks) (Opens asn) (opens lines k asn begins) in
+    let is : k ∷ owned rest ≡ made.own = ap owned (sym first) ∙ ap (λ (made : ProcessMade). made.own) (made_is _ made _ read) in
+    omega (arith, ap length is)
+
+module _ (laws : ProcessLaws) (lines : List (List ℕ)) (asn k : ℕ) (ks : List ℕ) (made : ProcessMade) (up : LinesAscend (length lines) (k ∷ ks)) (begins : IsHeader (line_at k lines) (topics.Process asn))
   (read : process_in (numbered lines (k ∷ ks)) ≡ Ok made) where
   abbrev block : List Numbered
   block = numbered lines (k ∷ ks)
@@ -104,28 +109,25 @@ module _ (law : ProcessLaw) (lines : List (List ℕ)) (asn k : ℕ) (ks : List �
   in_order : IsStrictlyIncreasing (lines_in block)
   in_order = subst IsStrictlyIncreasing (sym (numbers_of lines (k ∷ ks))) (increasing 0 (length lines) (k ∷ ks) up)
 
-  own_line : Has made.own k
-  own_line = in_by_contains made.own k (law.header block made read (at_line lines k) asn (contains_by_in block (at_line lines k) (inl refl)) (opens lines k asn begins))
-
   some_lines : (ls : List ℕ) → Has each ls → 0 < length ls
-  some_lines ls (inl itself) = subst (λ (ls : List ℕ). 0 < length ls) itself (has_some made.own k own_line)
-  some_lines ls (inr thing) = all_in (λ (ls : List ℕ). 0 < length ls) (lines_of_things made) (law.some block made read) ls thing
+  some_lines ls (inl itself) = subst (λ (ls : List ℕ). 0 < length ls) itself (own_some lines asn k ks made begins read)
+  some_lines ls (inr thing) = all_in (λ (ls : List ℕ). 0 < length ls) (lines_of_things made) (laws.some block made read) ls thing
 
   own_lines : (ls : List ℕ) (j : ℕ) → Has each ls → Has ls j → Has (k ∷ ks) j
   own_lines ls j h hj =
-      let inside : Contains (lines_in block) j = all_in (Contains (lines_in block)) ls (all_in (λ (ls : List ℕ). All (Contains (lines_in block)) ls) each (law.within block made read) ls h) j hj in
+      let inside : Contains (lines_in block) j = all_in (Contains (lines_in block)) ls (all_in (λ (ls : List ℕ). All (Contains (lines_in block)) ls) each (laws.within block made read) ls h) j hj in
       subst (λ (xs : List ℕ). Has xs j) (numbers_of lines (k ∷ ks)) (in_by_contains (lines_in block) j inside)
 
   whole_lines : (ls : List ℕ) → Has each ls → IsWhole (length lines) ls
   whole_lines ls h =
-      let increase : IsStrictlyIncreasing ls = all_in IsStrictlyIncreasing each (law.ascend block made read in_order) ls h in
+      let increase : IsStrictlyIncreasing ls = all_in IsStrictlyIncreasing each (laws.ascend block made read in_order) ls h in
       (some_lines ls h, ascends_from 0 (length lines) ls increase (λ j hj. ascends_within (λ (k : ℕ). k) 0 (length lines) (k ∷ ks) up j (own_lines ls j h hj)))
 
   abbrev NoLine : List ℕ → List ℕ → Type 0
   NoLine p q = (line : ℕ) → Contains p line → Contains q line → ⊥
 
   apart_lines : Pairs Apart each
-  apart_lines = pairs_weaker NoLine Apart each (λ p q hp hq no_line j a b. no_line j (contains_by_in p j a) (contains_by_in q j b)) (pairs_all NoLine each (law.apart block made read in_order))
+  apart_lines = pairs_weaker NoLine Apart each (λ p q hp hq no_line j a b. no_line j (contains_by_in p j a) (contains_by_in q j b)) (pairs_all NoLine each (laws.apart block made read in_order))
 
   lines_of : (e : ElementView) → Has (process_pieces made) e → Has each e.lines
   lines_of e h = subst (λ (each : List (List ℕ)). Has each e.lines) (pieces_lines made) (in_map (λ (e : ElementView). e.lines) (process_pieces made) e h)
@@ -135,32 +137,8 @@ module _ (law : ProcessLaw) (lines : List (List ℕ)) (asn k : ℕ) (ks : List �
       record {
         whole = λ e h. whole_lines e.lines (lines_of e h);
         own = λ e j h hj. own_lines e.lines j (lines_of e h) hj;
-        apart = pairs_of_map (λ (e : ElementView). e.lines) Apart (process_pieces made) (subst (Pairs Apart) (sym (pieces_lines made)) apart_lines);
+        apart = pairs_by_map (λ (e : ElementView). e.lines) Apart (process_pieces made) (subst (Pairs Apart) (sym (pieces_lines made)) apart_lines);
       }
-
--- ---- as many lines as things
-
--- each thing of a process has its lines
-pub record AreMatched (made : ProcessMade) : Type 0 where
-  pub neighbors : length made.neighbors ≡ length made.process.neighbors
-  pub networks : length made.networks ≡ length made.process.networks
-  pub aggregates : length made.aggregates ≡ length made.process.aggregates
-
-fields_matched : (p : ProcessFields) → AreMatched (process_of p)
-fields_matched p =
-    record {
-      neighbors = length-map p.neighbors (λ (e : Addr × NeighborFields). e.1.lines) ∙ sym (length-map p.neighbors neighbor_of);
-      networks = length-map p.networks (λ (e : Cidr × PrefixFields). e.1.lines) ∙ sym (length-map p.networks network_of);
-      aggregates = length-map p.aggregates (λ (e : Cidr × PrefixFields). e.1.lines) ∙ sym (length-map p.aggregates aggregate_of);
-    }
-
-made_is : (o : Option Fault) (made whole : ProcessMade) → option_map_or Err o (Ok whole) ≡ Ok made → whole ≡ made
-made_is None made whole e = cc
-made_is (Some fault) made whole e = absurd cc
-
-pub are_matched : (block : List Numbered) (made : ProcessMade) → process_in block ≡ Ok made → AreMatched made
-unfolding process_in
-are_matched block made e = let p : ProcessFields = fields_in (statements_in line_says block) in subst AreMatched (made_is _ made (process_of p) e) (fields_matched p)
 
 -- ---- the process that a file has
 
