@@ -27,4 +27,5 @@ pub mod RouteLemmas
 pub mod OrderLemmas
 pub mod ThingLemmas
 pub mod PlacedLemmas
+pub mod LowestFaults
 pub mod ConfigLemmas

@@ -1,7 +1,7 @@
 -- The configuration that a file's lines make.
-use Rattle.std.specs.Prelude.{ℕ, ◌==◌, nat_lt, List, [], ◌∷◌, ◌++◌, length, map, Option, Some, None, Result, Ok, Err, count_by}
-use Rattle.std.specs.List.{filter_map, flat_map, find, last_or, range_with_len}
-use Rattle.std.specs.Option.{option_map_or}
+use Rattle.std.specs.Prelude.{ℕ, ◌==◌, nat_lt, List, [], ◌∷◌, ◌++◌, length, map, Option, Some, None, Result, Ok, Err, count_by, if◌then◌else◌}
+use Rattle.std.specs.List.{filter_map, flat_map, cons_option, find, last_or, range_with_len}
+use Rattle.std.specs.Option.{option_map_or, option_eq}
 use Rattle.nc_types.specs.Config.{ElementView, ProcessView, ClauseView, PrefixListView, CommunityListView, ConfigView}
 use Rattle.nc_types.specs.WellFormed.{first_line}
 use Rattle.nc_types.specs.Faults.{lowest}
@@ -13,9 +13,12 @@ use Rattle.nc_types.specs.declared.config.NetworkStatement.{NetworkStatement}
 use Rattle.nc_types.specs.declared.config.AggregateStatement.{AggregateStatement}
 use Rattle.nc_types.specs.declared.config.ListEntry.{ListEntry}
 use Rattle.nc_types.specs.declared.communities.CommunityEntry.{CommunityEntry}
-use Rattle.nc_types.specs.declared.fault.Cause.TheVariants.{NoName}
+use Rattle.nc_types.specs.declared.fault.Cause.TheVariants.{NoName, TwoProcesses}
+use Rattle.nc_lines.specs.Parts.{numbered}
+use Rattle.nc_read_bgp.specs.Laws.{faults_in, lacks_in}
 use Rattle.nc_read_bgp.specs.Processes.{ProcessMade}
 use Rattle.nc_reader.specs.declared.topic.Topic.{Topic}
+use Rattle.nc_reader.specs.declared.topic.Topic.TheVariants as topics
 use Rattle.nc_lines.specs.Groups.{Keyed, Group, groups}
 use Rattle.nc_reader.specs.Roles.{Role, Wrong, Names, Within, Placed, roles_from}
 use Rattle.nc_reader.specs.Topics.{same_topic, process_among}
@@ -59,9 +62,20 @@ abbrev pub wrong_at : ℕ → Role → Option Fault
 wrong_at line (Wrong cause) = Some (record { line = line; cause = cause })
 wrong_at line role = None
 
+-- all that is wrong with the lines of a process: in the process that the file has each faulty line, and each neighbor that lacks the number of its autonomous system, told at its first line; a second one is wrong at its own first line
+abbrev pub process_faults : List (List ℕ) → Option ℕ → ℕ → List ℕ → List Fault
+process_faults lines process asn ks =
+    if option_eq (λ x y. x == y) process (Some asn) then faults_in (numbered lines ks) ++ lacks_in (numbered lines ks)
+    else record { line = first_in ks; cause = TwoProcesses } ∷ []
+
+-- all that is wrong with the lines that speak of a topic
+abbrev pub faults_about : List (List ℕ) → Option ℕ → Topic → List ℕ → List Fault
+faults_about lines process (topics.Process asn) ks = process_faults lines process asn ks
+faults_about lines process topic ks = cons_option (err_of (part_in lines process topic ks)) []
+
 -- all that is wrong: with lines by themselves, and with topics
 abbrev pub faults_of : List (List ℕ) → List Placed → List Fault
-faults_of lines rs = filter_map (λ r. wrong_at r.line r.role) rs ++ filter_map err_of (parts_of lines rs)
+faults_of lines rs = filter_map (λ r. wrong_at r.line r.role) rs ++ flat_map (λ g. faults_about lines (process_number rs) g.key g.values) (topics_of rs)
 
 -- the elements, part by part
 abbrev pub pieces_of : List Part → List ElementView

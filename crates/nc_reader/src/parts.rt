@@ -14,6 +14,7 @@ use crate::gather::gather;
 use crate::things::{Part, read_part};
 use crate::topic::Topic;
 use nc_lines::{Block, Lines};
+use nc_read_bgp::lowest_faults_of_processes_are_told;
 use nc_types::{Fault, Text};
 use std::alloc::{AllocError, Global};
 
@@ -102,6 +103,7 @@ fn read_all(
 pub(crate) fn read_parts(alloc: Global, lines: &Lines) -> Result<Parts, AllocError>
     ensures { IfOk result (AreParts lines.now) }
 {
+    lowest_faults_of_processes_are_told();
     let gathered = gather(alloc, lines)?;
     let topics = gathered.topics.as_slice();
     let process = process_among(topics);

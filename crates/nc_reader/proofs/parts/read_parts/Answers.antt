@@ -1,4 +1,4 @@
-use Rattle.std.proofs.Common.{◌≡◌, ℕ, List, [], ◌++◌, Option, Result, ap, ◌∙◌}
+use Rattle.std.proofs.Common.{◌≡◌, ℕ, List, [], ◌++◌, Option, Result, sym, ap, ◌∙◌}
 use Rattle.std.specs.List.{filter_map}
 use Rattle.nc_types.specs.Faults.{lowest}
 use Rattle.nc_types.specs.declared.fault.Fault.{Fault}
@@ -8,6 +8,7 @@ use Rattle.nc_reader.specs.Parts.{parts_by}
 use Rattle.nc_reader.specs.Things.{Part, ok_of, err_of}
 use Rattle.nc_reader.specs.Topics.{process_among}
 use Rattle.nc_reader.proofs.ConfigLemmas.{read-blocks}
+use Rattle.nc_reader.proofs.LowestFaults.{lowest_same}
 use Rattle.nc_reader.proofs.parts.read_parts.Goals as goal
 
 pub returns : goal.returns
@@ -24,5 +25,5 @@ returns c =
     record {
       name = seen.name;
       made = c.in_ok-read.ensures.parts ∙ ap (filter_map ok_of) read;
-      fault = c.in_ok-read.ensures.told wrongs seen.fault ∙ ap (λ (rs : List (Result Part Fault)). lowest (wrongs ++ filter_map err_of rs)) read;
+      fault = c.in_ok-read.ensures.told wrongs seen.fault ∙ ap (λ (rs : List (Result Part Fault)). lowest (wrongs ++ filter_map err_of rs)) read ∙ sym (lowest_same lines c.lowest_faults_of_processes_are_told.ensures);
     }
