@@ -1,12 +1,12 @@
 -- The lines, the name and the number of a clause.
-use Rattle.std.proofs.Common.{◌≡◌, ℕ, Bool, cond, List, [], ◌∷◌, map, length, Option, Some, None, Ok, Err, refl, sym, ap, ◌∙◌, filter, codes}
+use Rattle.std.proofs.Common.{◌≡◌, ℕ, Bool, cond, List, [], ◌∷◌, map, length, Option, Some, None, Ok, Err, refl, sym, ap, ◌∙◌, filter}
 use Rattle.std.specs.Prelude.{is_some, option_and_then}
 use Rattle.std.specs.List.{cons_option}
 use Rattle.std.specs.Option.{option_map, option_map_or}
 use Rattle.nc_types.specs.declared.config.Kind.TheVariants as kinds
 use Rattle.nc_types.specs.declared.fault.Fault.{Fault}
 use Rattle.nc_lines.specs.Lines.{words_of, line_at}
-use Rattle.nc_lines.specs.Statements.{Reading, Outside, Faulty, Says, after, said_as, said_of}
+use Rattle.nc_lines.specs.Statements.{Reading, Outside, Faulty, Says, said_as, said_of}
 use Rattle.nc_lines.specs.Parts.{Numbered, numbered, fault_in, statements_in}
 use Rattle.nc_read_policy.specs.Clauses.{Header, ClauseStatement, Opens, ClauseLine, ClausePart, header_says, statement_says, line_says, head_by, clause_of, name_in, number_in, clause_in}
 use Rattle.nc_read_policy.specs.Lists.{list_name_says}

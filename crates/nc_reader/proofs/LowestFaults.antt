@@ -1,5 +1,5 @@
 -- Of all that is wrong with a topic its part tells the lowest.
-use Rattle.std.proofs.Common.{◌≡◌, ℕ, Bool, true, false, cond, List, [], ◌∷◌, ◌++◌, length, map, Option, Some, None, Result, Ok, Err, refl, sym, ap, ◌∙◌, subst, inl, inr}
+use Rattle.std.proofs.Common.{◌≡◌, ℕ, Bool, true, false, cond, List, [], ◌∷◌, ◌++◌, length, Option, Some, None, Result, Ok, Err, refl, sym, ap, ◌∙◌, subst, inl, inr}
 use Rattle.std.specs.Prelude.{◌==◌}
 use Rattle.std.specs.List.{filter_map, flat_map, cons_option}
 use Rattle.std.specs.List.Sorted.{IsStrictlyIncreasing}
@@ -9,11 +9,12 @@ use Rattle.nc_types.specs.declared.fault.Fault.{Fault}
 use Rattle.nc_types.specs.declared.fault.Cause.TheVariants.{TwoProcesses}
 use Rattle.nc_lines.specs.Groups.{Group}
 use Rattle.nc_lines.specs.Outcomes.{lower_of}
-use Rattle.nc_lines.specs.Parts.{Numbered, numbered, statements_in}
+use Rattle.nc_lines.specs.Parts.{Numbered, numbered, lines_in}
 use Rattle.nc_lines.proofs.FaultLemmas.{lowest_append}
 use Rattle.nc_lines.proofs.Grouping.{group_ascends}
 use Rattle.nc_lines.proofs.Pairs.{Has, increasing, kept_map}
-use Rattle.nc_read_bgp.specs.Laws.{lines_in, faults_in, lacks_in, lowest_or_process}
+use Rattle.nc_read_bgp.proofs.LowestLemmas.{lowest_is_told}
+use Rattle.nc_read_bgp.specs.Laws.{faults_in, lacks_in}
 use Rattle.nc_read_bgp.specs.Processes.{ProcessMade, process_in}
 use Rattle.nc_read_policy.specs.Results.{ok_map}
 use Rattle.nc_reader.specs.declared.topic.Topic.{Topic}
@@ -25,10 +26,6 @@ use Rattle.nc_reader.specs.Things.{Part, AProcess, first_in, part_in, err_of}
 use Rattle.nc_reader.proofs.LineOrder.{spoken_ascend}
 use Rattle.nc_reader.proofs.PieceLemmas.{LinesAscend, numbers_of}
 use Rattle.nc_reader.proofs.TopicLemmas.{topics_same}
-
--- a process tells the lowest of its faults
-abbrev pub TellsLowest : Type 0
-TellsLowest = (block : List Numbered) → IsStrictlyIncreasing (lines_in block) → process_in block ≡ lowest_or_process block
 
 -- the lowest of one fault, if there is one
 lowest_one : (o : Option Fault) → lowest (cons_option o []) ≡ o
@@ -51,14 +48,14 @@ lowest_flat {G} all told (g ∷ gs) each =
     first None fs = refl
     first (Some f) fs = refl
 
-module _ (lines : List (List ℕ)) (law : TellsLowest) where
+module _ (lines : List (List ℕ)) where
   process_lowest : (b : Bool) (ks : List ℕ) → LinesAscend (length lines) ks
       → lowest (cond b (faults_in (numbered lines ks) ++ lacks_in (numbered lines ks)) (record { line = first_in ks; cause = TwoProcesses } ∷ []))
       ≡ err_of (cond b (ok_map AProcess (process_in (numbered lines ks))) (Err (record { line = first_in ks; cause = TwoProcesses })))
   process_lowest true ks up =
       let block : List Numbered = numbered lines ks in
       let in_order : IsStrictlyIncreasing (lines_in block) = subst IsStrictlyIncreasing (sym (numbers_of lines ks)) (increasing 0 (length lines) ks up) in
-      fault_told AProcess (lowest (faults_in block ++ lacks_in block)) _ ∙ ap (λ (r : Result ProcessMade Fault). err_of (ok_map AProcess r)) (sym (law block in_order))
+      fault_told AProcess (lowest (faults_in block ++ lacks_in block)) _ ∙ ap (λ (r : Result ProcessMade Fault). err_of (ok_map AProcess r)) (sym (lowest_is_told block in_order))
   process_lowest false ks up = refl
 
   topic_lowest : (process : Option ℕ) (topic : Topic) (ks : List ℕ) → LinesAscend (length lines) ks → lowest (faults_about lines process topic ks) ≡ err_of (part_in lines process topic ks)

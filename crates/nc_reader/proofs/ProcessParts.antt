@@ -8,16 +8,16 @@ use Rattle.std.proofs.lemmas.Bool.{eqb-true}
 use Rattle.std.proofs.lemmas.List.{map-append}
 use Rattle.nc_types.proofs.Members.{all_in, in_by_contains, contains_by_in, in_map}
 use Rattle.nc_types.specs.Config.{ElementView}
-use Rattle.nc_types.specs.WellFormed.{IsProcess}
 use Rattle.nc_types.specs.declared.config.Kind.{Kind}
 use Rattle.nc_types.specs.declared.config.Kind.TheVariants as kinds
 use Rattle.nc_types.specs.declared.fault.Fault.{Fault}
 use Rattle.nc_lines.proofs.Pairs.{Has, Pairs, pairs_all, pairs_by_map, pairs_weaker, ascends_within, ascends_from, increasing}
 use Rattle.nc_lines.specs.Lines.{words_of, line_at}
-use Rattle.nc_lines.specs.Parts.{Numbered, Stated, numbered, statements_in}
+use Rattle.nc_lines.specs.Parts.{Numbered, Stated, numbered, lines_in, statements_in}
 use Rattle.nc_lines.proofs.PartLemmas.{stated}
 use Rattle.nc_lines.specs.Statements.{Reading, Outside, Faulty, Says, said_as}
-use Rattle.nc_read_bgp.specs.Laws.{lines_in, lines_of_things, lines_of_each, HaveLinesBeside, HaveLines, AreWithin, Ascend, AreApart}
+use Rattle.nc_read_bgp.proofs.LawLemmas.{have_lines, are_within, ascend, are_apart}
+use Rattle.nc_read_bgp.specs.Laws.{lines_of_things, lines_of_each}
 use Rattle.nc_read_bgp.specs.Processes.{ProcessMade, own_by, process_in}
 use Rattle.nc_read_bgp.specs.Statements.{ProcessSays, Opens, header_says, statement_says, line_says}
 use Rattle.nc_read_policy.specs.Lists.{list_name_says}
@@ -30,15 +30,6 @@ use Rattle.nc_reader.specs.Things.{Part, element_at, process_pieces}
 use Rattle.nc_reader.proofs.HeaderCases.{read_by, no_hostname, no_interface, no_said, header_read}
 use Rattle.nc_reader.proofs.LineOrder.{IsHeader}
 use Rattle.nc_reader.proofs.PieceLemmas.{LinesAscend, IsWhole, Apart, AreElements, at_line, numbers_of}
-
--- what is known of each process that lines make
-pub record ProcessLaws : Type 0 where
-  pub well_formed : (block : List Numbered) (made : ProcessMade) → process_in block ≡ Ok made → IsProcess made.process
-  pub beside : (block : List Numbered) (made : ProcessMade) → process_in block ≡ Ok made → HaveLinesBeside made
-  pub some : (block : List Numbered) (made : ProcessMade) → process_in block ≡ Ok made → HaveLines (lines_of_things made)
-  pub within : (block : List Numbered) (made : ProcessMade) → process_in block ≡ Ok made → AreWithin (lines_in block) (lines_of_each made)
-  pub ascend : (block : List Numbered) (made : ProcessMade) → process_in block ≡ Ok made → IsStrictlyIncreasing (lines_in block) → Ascend (lines_of_each made)
-  pub apart : (block : List Numbered) (made : ProcessMade) → process_in block ≡ Ok made → IsStrictlyIncreasing (lines_in block) → AreApart (lines_of_each made)
 
 -- ---- the header
 
@@ -98,8 +89,8 @@ own_some lines asn k ks made begins read =
     let is : k ∷ owned rest ≡ made.own = ap owned (sym first) ∙ ap (λ (made : ProcessMade). made.own) (made_is _ made _ read) in
     omega (arith, ap length is)
 
-module _ (laws : ProcessLaws) (lines : List (List ℕ)) (asn k : ℕ) (ks : List ℕ) (made : ProcessMade) (up : LinesAscend (length lines) (k ∷ ks)) (begins : IsHeader (line_at k lines) (topics.Process asn))
-  (read : process_in (numbered lines (k ∷ ks)) ≡ Ok made) where
+module _ (lines : List (List ℕ)) (asn k : ℕ) (ks : List ℕ) (made : ProcessMade) (up : LinesAscend (length lines) (k ∷ ks)) (begins : IsHeader (line_at k lines) (topics.Process asn))
+    (read : process_in (numbered lines (k ∷ ks)) ≡ Ok made) where
   abbrev block : List Numbered
   block = numbered lines (k ∷ ks)
 
@@ -111,23 +102,23 @@ module _ (laws : ProcessLaws) (lines : List (List ℕ)) (asn k : ℕ) (ks : List
 
   some_lines : (ls : List ℕ) → Has each ls → 0 < length ls
   some_lines ls (inl itself) = subst (λ (ls : List ℕ). 0 < length ls) itself (own_some lines asn k ks made begins read)
-  some_lines ls (inr thing) = all_in (λ (ls : List ℕ). 0 < length ls) (lines_of_things made) (laws.some block made read) ls thing
+  some_lines ls (inr thing) = all_in (λ (ls : List ℕ). 0 < length ls) (lines_of_things made) (have_lines block made read) ls thing
 
   own_lines : (ls : List ℕ) (j : ℕ) → Has each ls → Has ls j → Has (k ∷ ks) j
   own_lines ls j h hj =
-      let inside : Contains (lines_in block) j = all_in (Contains (lines_in block)) ls (all_in (λ (ls : List ℕ). All (Contains (lines_in block)) ls) each (laws.within block made read) ls h) j hj in
+      let inside : Contains (lines_in block) j = all_in (Contains (lines_in block)) ls (all_in (λ (ls : List ℕ). All (Contains (lines_in block)) ls) each (are_within block made read) ls h) j hj in
       subst (λ (xs : List ℕ). Has xs j) (numbers_of lines (k ∷ ks)) (in_by_contains (lines_in block) j inside)
 
   whole_lines : (ls : List ℕ) → Has each ls → IsWhole (length lines) ls
   whole_lines ls h =
-      let increase : IsStrictlyIncreasing ls = all_in IsStrictlyIncreasing each (laws.ascend block made read in_order) ls h in
+      let increase : IsStrictlyIncreasing ls = all_in IsStrictlyIncreasing each (ascend block made read in_order) ls h in
       (some_lines ls h, ascends_from 0 (length lines) ls increase (λ j hj. ascends_within (λ (k : ℕ). k) 0 (length lines) (k ∷ ks) up j (own_lines ls j h hj)))
 
   abbrev NoLine : List ℕ → List ℕ → Type 0
   NoLine p q = (line : ℕ) → Contains p line → Contains q line → ⊥
 
   apart_lines : Pairs Apart each
-  apart_lines = pairs_weaker NoLine Apart each (λ p q hp hq no_line j a b. no_line j (contains_by_in p j a) (contains_by_in q j b)) (pairs_all NoLine each (laws.apart block made read in_order))
+  apart_lines = pairs_weaker NoLine Apart each (λ p q hp hq no_line j a b. no_line j (contains_by_in p j a) (contains_by_in q j b)) (pairs_all NoLine each (are_apart block made read in_order))
 
   lines_of : (e : ElementView) → Has (process_pieces made) e → Has each e.lines
   lines_of e h = subst (λ (each : List (List ℕ)). Has each e.lines) (pieces_lines made) (in_map (λ (e : ElementView). e.lines) (process_pieces made) e h)

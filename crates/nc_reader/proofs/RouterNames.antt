@@ -1,14 +1,13 @@
 -- The router's name is that of a line of the file.
-use Rattle.std.proofs.Common.{◌≡◌, ℕ, true, not, ◌&&◌, List, [], ◌∷◌, Option, Some, None, ap, subst, inl, inr, codes}
+use Rattle.std.proofs.Common.{◌≡◌, ℕ, true, not, ◌&&◌, List, [], ◌∷◌, Option, Some, None, ap, subst, inl, inr}
 use Rattle.std.specs.List.{filter_map, list_any}
-use Rattle.std.specs.Option.{option_map_or}
 use Rattle.std.proofs.lemmas.Bool.{cond_both}
 use Rattle.nc_types.proofs.Members.{in_by_filter_map}
 use Rattle.nc_types.specs.WellFormed.{is_name}
 use Rattle.nc_types.specs.declared.fault.Cause.TheVariants.{Syntax, Unsupported}
 use Rattle.nc_lines.specs.Lines.{words_of, is_indented}
 use Rattle.nc_lines.specs.Blocks.{is_idle, begins_banner, has_mark, leaves_open, is_open}
-use Rattle.nc_lines.specs.Statements.{Reading, Outside, Faulty, Says, after}
+use Rattle.nc_lines.specs.Statements.{Reading, Outside, Faulty, Says}
 use Rattle.nc_read_policy.specs.Clauses.{header_says}
 use Rattle.nc_read_policy.specs.Lists.{list_name_says}
 use Rattle.nc_read_policy.specs.CommunityEntries.{community_name_says}

@@ -12,6 +12,7 @@ use Rattle.nc_types.specs.declared.fault.Cause.TheVariants.{TwoProcesses}
 use Rattle.nc_lines.specs.Parts.{numbered}
 use Rattle.nc_read_link.specs.Interfaces.{interface_in}
 use Rattle.nc_read_policy.specs.Clauses.{clause_in}
+use Rattle.nc_read_bgp.proofs.LawLemmas.{well_formed, have_lines_beside}
 use Rattle.nc_read_bgp.specs.Laws.{HaveLinesBeside}
 use Rattle.nc_read_bgp.specs.Processes.{process_in}
 use Rattle.nc_read_policy.specs.Lists.{list_in}
@@ -33,7 +34,7 @@ use Rattle.nc_reader.proofs.InterfaceParts.{interface_is, interface_elements}
 use Rattle.nc_reader.proofs.ClauseParts.{clause_elements, clause_named}
 use Rattle.nc_reader.proofs.RouteParts.{routes_elements}
 use Rattle.nc_reader.proofs.ListParts.{entries_elements, entries_ascend, some_entries}
-use Rattle.nc_reader.proofs.ProcessParts.{ProcessLaws, process_elements, process_made, process_is}
+use Rattle.nc_reader.proofs.ProcessParts.{process_elements, process_made, process_is}
 use Rattle.nc_reader.proofs.CommunityParts.{communities_elements, some_communities}
 
 -- the topic that a part is of, in a file that has this process
@@ -59,7 +60,7 @@ pub record IsPartOf (count : ℕ) (process : Option ℕ) (t : Topic) (ks : List 
   pub elements : AreElements count ks (pieces_in p)
   pub sound : IsSound p
 
-module _ (laws : ProcessLaws) (lines : List (List ℕ)) (process : Option ℕ) (k : ℕ) (ks : List ℕ) (up : LinesAscend (length lines) (k ∷ ks)) where
+module _ (lines : List (List ℕ)) (process : Option ℕ) (k : ℕ) (ks : List ℕ) (up : LinesAscend (length lines) (k ∷ ks)) where
   -- what a topic makes whose first line is a header
   made_of : (topic : Topic) (p : Part) → Starts lines topic (k ∷ ks) → part_in lines process topic (k ∷ ks) ≡ Ok p → IsPartOf (length lines) process topic (k ∷ ks) p
   made_of (topics.Interface name) p begins e =
@@ -80,8 +81,8 @@ module _ (laws : ProcessLaws) (lines : List (List ℕ)) (process : Option ℕ) (
       subst (IsPartOf (length lines) process (topics.Process asn) (k ∷ ks)) at.2
       (record {
         topic = ap (λ (o : Option ℕ). topics.Process (unwrap_or o 0)) (process_is process asn is.0);
-        elements = process_elements laws lines asn k ks at.0 up begins at.1;
-        sound = (laws.well_formed (numbered lines (k ∷ ks)) at.0 at.1, laws.beside (numbered lines (k ∷ ks)) at.0 at.1);
+        elements = process_elements lines asn k ks at.0 up begins at.1;
+        sound = (well_formed (numbered lines (k ∷ ks)) at.0 at.1, have_lines_beside (numbered lines (k ∷ ks)) at.0 at.1);
       })
   made_of (topics.Clause name number) p begins e =
       let at = ok_mapped AClause (clause_in (numbered lines (k ∷ ks))) p e in
@@ -113,7 +114,7 @@ parts_in lines = filter_map ok_of (parts_of lines (roles_from [] lines))
 abbrev pub AreTwo : Option ℕ → Part → Part → Type 0
 AreTwo process p q = (topic_in process p ≢ topic_in process q) × ((e f : ElementView) → Has (pieces_in p) e → Has (pieces_in q) f → Apart e.lines f.lines)
 
-module _ (laws : ProcessLaws) (lines : List (List ℕ)) where
+module _ (lines : List (List ℕ)) where
   abbrev process : Option ℕ
   process = process_number (roles_from [] lines)
 
@@ -137,7 +138,7 @@ module _ (laws : ProcessLaws) (lines : List (List ℕ)) where
       let is : g.values ≡ k ∷ ks = of_it.1.2 in
       let begins : Starts lines g.key (k ∷ ks) = subst (Starts lines g.key) (sym of_it.0 ∙ is) (begun lines g.key) in
       let made : part_in lines process g.key (k ∷ ks) ≡ Ok p = ap (part_in lines process g.key) (sym is) ∙ ok_is (part_in lines process g.key g.values) p e in
-      subst (λ (vs : List ℕ). IsPartOf (length lines) process g.key vs p) (sym is) (made_of laws lines process k ks (subst (LinesAscend (length lines)) is (group_up g h)) g.key p begins made)
+      subst (λ (vs : List ℕ). IsPartOf (length lines) process g.key vs p) (sym is) (made_of lines process k ks (subst (LinesAscend (length lines)) is (group_up g h)) g.key p begins made)
 
   -- a part comes from the lines of a topic
   pub part_from : (p : Part) → Has (parts_in lines) p → (g : Group Topic ℕ) × Has groups_in g × IsPartOf (length lines) process g.key g.values p

@@ -19,7 +19,6 @@ use Rattle.nc_lines.proofs.Pairs.{Has, Pairs, all_pairs, pairs_weaker, pairs_map
 use Rattle.nc_reader.proofs.Elements.{has_in_order, in_order_ascends, length_in_order, few_in_order, place_below, place_less}
 use Rattle.nc_reader.proofs.PieceLemmas.{Apart, IsWhole}
 use Rattle.nc_reader.proofs.Addresses.{IsCovered, last_has}
-use Rattle.nc_reader.proofs.ProcessParts.{ProcessLaws}
 use Rattle.nc_reader.proofs.RouterNames.{router_named}
 use Rattle.nc_reader.proofs.TopicParts.{IsSound, AreTwo, parts_in, part_from, parts_two}
 use Rattle.nc_reader.proofs.KindParts.{AreApart, all_kinds, kinds_differ, by_ranks, ranks_among, pieces_apart, ranks_apart, interfaces_differ, clauses_differ, lists_differ, community_lists_differ, one_at_most, process_sound, interface_sound, list_sound, community_sound, all_places}
@@ -105,7 +104,7 @@ last_sound ps each = go (last_or None ps) refl
 
 -- ---- the configuration of a file
 
-module _ (laws : ProcessLaws) (lines : List (List ℕ)) where
+module _ (lines : List (List ℕ)) where
   abbrev count : ℕ
   count = length lines
 
@@ -122,19 +121,19 @@ module _ (laws : ProcessLaws) (lines : List (List ℕ)) where
   process = process_number (roles_from [] lines)
 
   two : Pairs (AreTwo process) parts
-  two = parts_two laws lines
+  two = parts_two lines
 
   own : (p : Part) → Has parts p → Pairs AreApart (pieces_in p)
-  own p h = (part_from laws lines p h).2.elements.apart
+  own p h = (part_from lines p h).2.elements.apart
 
   sound : (p : Part) → Has parts p → IsSound p
-  sound p h = (part_from laws lines p h).2.sound
+  sound p h = (part_from lines p h).2.sound
 
   pub apart : Pairs AreApart pieces
   apart = pieces_apart process parts two own
 
   pub whole : (e : ElementView) → Has pieces e → IsWhole count e.lines
-  whole e h = let at = in_by_flat_map pieces_in parts e h in (part_from laws lines at.0 at.1).2.elements.whole e at.2
+  whole e h = let at = in_by_flat_map pieces_in parts e h in (part_from lines at.0 at.1).2.elements.whole e at.2
 
   -- no more elements than lines
   pub few : length pieces ≤ count
@@ -174,7 +173,7 @@ module _ (laws : ProcessLaws) (lines : List (List ℕ)) where
         community_filled = of_each (community_lists_in place) (λ (l : CommunityListView). 0 < length l.entries) (community_sound place);
       }
 
-pub well_formed : ProcessLaws → (lines : List (List ℕ)) (c : ConfigView) → configuration lines ≡ Ok c → IsWellFormed c
-well_formed laws lines c e =
+pub well_formed : (lines : List (List ℕ)) (c : ConfigView) → configuration lines ≡ Ok c → IsWellFormed c
+well_formed lines c e =
     let found = configured lines c e in
-    subst IsWellFormed found.1 (formed laws lines found.0 (router_named lines found.0 found.2))
+    subst IsWellFormed found.1 (formed lines found.0 (router_named lines found.0 found.2))

@@ -8,21 +8,15 @@ ghost use Rattle.nc_reader.specs.Configuration.{configuration, parts_of, pieces_
 ghost use Rattle.nc_reader.specs.Roles.{roles_from};
 ghost use Rattle.nc_reader.specs.Things.{ok_of};
 
-use nc_read_bgp::things_of_processes_have_their_lines;
-
 /// The law that every configuration which a file's lines make is well formed.
 pub fn configurations_are_well_formed()
     ensures { (lines : List (List ℕ)) (c : ConfigView)
         → configuration lines ≡ Ok c → IsWellFormed c }
-{
-    things_of_processes_have_their_lines();
-}
+{}
 
 /// The law that the parts of a file have no more elements than the file has lines.
 pub(crate) fn elements_are_few()
     ensures { (lines : List (List ℕ))
         → length (pieces_of (filter_map ok_of (parts_of lines (roles_from [] lines))))
         ≤ length lines }
-{
-    things_of_processes_have_their_lines();
-}
+{}

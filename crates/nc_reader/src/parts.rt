@@ -14,7 +14,6 @@ use crate::gather::gather;
 use crate::things::{Part, read_part};
 use crate::topic::Topic;
 use nc_lines::{Block, Lines};
-use nc_read_bgp::lowest_faults_of_processes_are_told;
 use nc_types::{Fault, Text};
 use std::alloc::{AllocError, Global};
 
@@ -38,7 +37,7 @@ struct Made {
 }
 
 // The process of a file that has these topics: the first of them that is one.
-#[tactic(auto, using(crate::proofs::ProcessTopics::process_here, crate::proofs::ProcessTopics::process_later))]
+#[tactic(auto, using(crate::proofs::ProcessTopics::here, crate::proofs::ProcessTopics::later))]
 fn process_among(topics: &[Topic]) -> Option<u32>
     ensures { result ≡ process_among topics.now }
 {
@@ -103,11 +102,17 @@ fn read_all(
 pub(crate) fn read_parts(alloc: Global, lines: &Lines) -> Result<Parts, AllocError>
     ensures { IfOk result (AreParts lines.now) }
 {
-    lowest_faults_of_processes_are_told();
     let gathered = gather(alloc, lines)?;
     let topics = gathered.topics.as_slice();
     let process = process_among(topics);
-    let read = read_all(alloc, lines, process, topics, &gathered.lines, gathered.fault)?;
+    let read = read_all(
+        alloc,
+        lines,
+        process,
+        topics,
+        &gathered.lines,
+        gathered.fault,
+    )?;
     Ok(Parts {
         name: gathered.name,
         made: read.parts,

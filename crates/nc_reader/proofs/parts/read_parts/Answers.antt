@@ -25,5 +25,5 @@ returns c =
     record {
       name = seen.name;
       made = c.in_ok-read.ensures.parts ∙ ap (filter_map ok_of) read;
-      fault = c.in_ok-read.ensures.told wrongs seen.fault ∙ ap (λ (rs : List (Result Part Fault)). lowest (wrongs ++ filter_map err_of rs)) read ∙ sym (lowest_same lines c.lowest_faults_of_processes_are_told.ensures);
+      fault = c.in_ok-read.ensures.told wrongs seen.fault ∙ ap (λ (rs : List (Result Part Fault)). lowest (wrongs ++ filter_map err_of rs)) read ∙ sym (lowest_same lines);
     }

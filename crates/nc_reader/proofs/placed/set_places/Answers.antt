@@ -1,4 +1,4 @@
-use Rattle.std.proofs.Common.{◌≡◌, ◌<◌, ◌≤◌, ℕ, List, Vec, Global, length, set, get_or, ap, ◌∙◌, arith}
+use Rattle.std.proofs.Common.{◌<◌, ◌≤◌, ℕ, List, Vec, Global, length, set, get_or, ap, ◌∙◌, arith}
 use Rattle.std.proofs.lemmas.List.{take_all, get_or_default}
 use Rattle.nc_reader.specs.Configuration.{with_places}
 use Rattle.nc_reader.proofs.PlacedLemmas.{placed_more, placed_past}
