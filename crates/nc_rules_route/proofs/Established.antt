@@ -3,7 +3,7 @@ use Rattle.std.proofs.Common.{◌≡◌, ℕ, Bool, true, ◌&&◌, ◌||◌, �
 use Rattle.std.specs.List.{find, filter_map, range_with_len, slice_index_or}
 use Rattle.std.specs.Option.{option_map, option_map_or, option_and_then, is_some}
 use Rattle.std.proofs.lemmas.Bool.{eqb-true, and_parts}
-use Rattle.std.proofs.lemmas.Option.{option_and_then_some, cond_some}
+use Rattle.std.proofs.lemmas.Option.{option_and_then_some, none-some, same_Some, cond_some}
 use Rattle.nc_types.specs.declared.TheConstants.{HOP_LIMIT}
 use Rattle.nc_types.specs.declared.config.IfaceAddr.{IfaceAddr}
 use Rattle.nc_types.specs.Config.{ConfigView, ProcessView}
@@ -17,7 +17,7 @@ use Rattle.nc_tables.specs.State.{StateView, IsState}
 use Rattle.nc_tables.specs.CaseRelations.{state_base, state_sessions}
 use Rattle.nc_types.proofs.Members.{In, in_by_filter_map}
 use Rattle.nc_rules_route.proofs.Members.{in_by_find, in_by_router}
-use Rattle.nc_rules_route.proofs.Ends.{made_of, linked}
+use Rattle.nc_rules_route.proofs.Ends.{linked}
 
 module _ (routers : List ConfigView) (tables : List (List BaseRow)) where
   -- a side is of the statement at a place of a router, and starts from an interface that is up
@@ -29,10 +29,7 @@ module _ (routers : List ConfigView) (tables : List (List BaseRow)) where
 
   source_up : (router : ℕ) (e : End) (source : SourceOf) → source_of routers tables router e ≡ Some source → is_some (up_at routers router source.iface) ≡ true
   source_up router e source is =
-      option_and_then_some by_iface (source_iface routers tables router e) source is (λ iface found in_iface.
-      let up = made_of (with iface) (up_at routers router iface) source in_iface in
-      let same : iface ≡ source.iface = ap (λ (o : SourceOf). o.iface) up.2 in
-      subst (λ (n : ℕ). is_some (up_at routers router n) ≡ true) same (ap is_some up.1))
+      option_and_then_some by_iface (source_iface routers tables router e) source is (λ iface found in_iface. by_address iface (up_at routers router iface) refl in_iface)
     where
       with : ℕ → IfaceAddr → SourceOf
       with iface a = record { iface = iface; addr = a.addr.0 }
@@ -40,17 +37,26 @@ module _ (routers : List ConfigView) (tables : List (List BaseRow)) where
       by_iface : ℕ → Option SourceOf
       by_iface iface = option_map (with iface) (up_at routers router iface)
 
+      by_address : (iface : ℕ) (o : Option IfaceAddr) → up_at routers router iface ≡ o → option_map (with iface) o ≡ Some source → is_some (up_at routers router source.iface) ≡ true
+      by_address iface None up made = absurd (none-some source made)
+      by_address iface (Some a) up made =
+          let same : iface ≡ source.iface = ap (λ (o : SourceOf). o.iface) (same_Some (with iface a) source made) in
+          subst (λ (n : ℕ). is_some (up_at routers router n) ≡ true) same (ap is_some up)
+
   side_is : (router place : ℕ) (side : Side) → side_at routers tables router place ≡ Some side → IsSide router place side
   side_is router place side is =
-      option_and_then_some by_end (end_at routers router place) side is (λ e at in_end.
-      let source = made_of (with e) (source_of routers tables router e) side in_end in
-      subst (IsSide router place) source.2 (record { router_is = refl; place_is = refl; end = at; source = source_up router e source.0 source.1 }))
+      option_and_then_some by_end (end_at routers router place) side is (λ e at in_end. by_source e at (source_of routers tables router e) refl in_end)
     where
       with : End → SourceOf → Side
       with e source = record { router = router; place = place; end = e; source = source }
 
       by_end : End → Option Side
       by_end e = option_map (with e) (source_of routers tables router e)
+
+      by_source : (e : End) → end_at routers router place ≡ Some e → (o : Option SourceOf) → source_of routers tables router e ≡ o → option_map (with e) o ≡ Some side → IsSide router place side
+      by_source e at None starts made = absurd (none-some side made)
+      by_source e at (Some source) starts made =
+          subst (IsSide router place) (same_Some (with e source) side made) (record { router_is = refl; place_is = refl; end = at; source = source_up router e source starts })
 
   -- what both sides have where their session is established
   pub record IsOpen (router place : ℕ) (row : SessionRow) : Type 0 where
