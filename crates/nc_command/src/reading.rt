@@ -80,11 +80,7 @@ fn read_session(alloc: Global, rest: &[u8]) -> Result<Option<TestCommand>, Alloc
 }
 
 // The test that a command's first word and the words behind it make, if they make one.
-fn read_test(
-    alloc: Global,
-    word: &[u8],
-    rest: &[u8],
-) -> Result<Option<TestCommand>, AllocError>
+fn read_test(alloc: Global, word: &[u8], rest: &[u8]) -> Result<Option<TestCommand>, AllocError>
     ensures { IfOk result (λ test. test ≡ test_of word.now (words_of rest.now)) }
 {
     if word == b"rib".as_slice() {

@@ -8,10 +8,10 @@ use Rattle.std.proofs.lemmas.List.{get_or_past}
 use Rattle.std.proofs.lemmas.Option.{slice_get_past}
 use Rattle.nc_types.specs.Config.{ConfigView}
 use Rattle.nc_tables.specs.declared.base.BaseRow.{BaseRow}
-use Rattle.nc_tables.specs.Base.{is_own, base_tables}
+use Rattle.nc_tables.specs.Base.{is_own}
 use Rattle.nc_tables.specs.Longest.{longest}
 use Rattle.nc_tables.specs.Reach.{hits, is_hit, leads_to, next_places, owns, reaches}
-use Rattle.nc_tables.specs.State.{StateView, state_at, IsState}
+use Rattle.nc_tables.specs.State.{StateView, IsState}
 use Rattle.nc_tables.proofs.State.{base_count, sessions_count, main_count}
 use Rattle.nc_fact.specs.Facts.{base_rows, main_rows}
 
