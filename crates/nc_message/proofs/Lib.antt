@@ -3,3 +3,4 @@ pub mod Sending
 pub mod Making
 pub mod Picking
 pub mod Distinct
+pub mod Processes

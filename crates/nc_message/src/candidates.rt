@@ -1,22 +1,22 @@
 //! All candidates of a prefix at a router.
 
 ghost use Rattle.std.specs.Prelude.{◌≡◌, ◌≢◌, ◌++◌, ◌+◌, ◌<◌, ◌^◌, [], ◌∷◌, All, length, position};
-ghost use Rattle.std.specs.Prelude.{IfOk, IfSome, OnOk, slice_index_or};
+ghost use Rattle.std.specs.Prelude.{IfOk, IfSome, OnOk, Some, slice_index_or};
 ghost use Rattle.std.specs.List.{AllPairs};
 ghost use Rattle.nc_types.specs.Config.{process_view};
 ghost use Rattle.nc_types.specs.WellFormed.{IsProcess};
 ghost use Rattle.nc_tables.specs.Base.{same_prefix};
 ghost use Rattle.nc_tables.specs.Rounds.{begun, candidates_at, entry_at, made_from};
+ghost use Rattle.nc_tables.specs.Sessions.{process_of};
 ghost use Rattle.nc_message.specs.Beginning.{has_base_row, has_longer, networks_of, aggregates_of};
 ghost use Rattle.nc_message.specs.Given.{AreGiven, IsOf};
 
 use crate::entries::entry;
 use crate::given::Given;
 use crate::rows::{has_longer, has_row};
-use nc_tables::{BaseTables, BgpFrom, BgpTable, Chosen, Path, Route};
+use nc_tables::{BgpFrom, BgpTable, Chosen, Path, Route};
 use nc_types::{
-    Addr, AggregateStatement, Communities, DEFAULT_PREFERENCE, Neighbor, NetworkStatement,
-    OriginCode, Prefix, Process, RouterId,
+    Addr, Communities, DEFAULT_PREFERENCE, Neighbor, OriginCode, Prefix, Process, RouterId,
 };
 use std::alloc::{AllocError, Global};
 
@@ -41,22 +41,40 @@ pub(crate) fn begun(alloc: Global, prefix: Prefix, from: BgpFrom) -> Chosen
     }
 }
 
-// The place of the network of a prefix.
-fn network_of(networks: &[NetworkStatement], prefix: Prefix) -> Option<usize>
-    ensures place { result ≡ position (λ n. same_prefix n.prefix prefix) networks.now }
-    ensures within { IfSome result (λ place. place < length networks.now) }
+// The place of the network of a prefix, by the table of the router.
+fn network_of(
+    given: &Given<'_>,
+    router: RouterId,
+    process: &Process,
+    prefix: Prefix,
+) -> Option<usize>
+    requires given { AreGiven given.now }
+    requires router { router.0 < length given.now.network.now }
+    requires process { process_of given.now.network.now router.0
+        ≡ Some (process_view process.now) }
+    ensures place { result
+        ≡ position (λ n. same_prefix n.prefix prefix) process.now.networks.items }
+    ensures within { IfSome result (λ place. place < length process.now.networks.items) }
 {
-    networks.iter().position(|network| network.prefix == prefix)
+    given.policies.network_of(given.network, router, prefix)
 }
 
-// The place of the aggregate of a prefix.
-fn aggregate_of(aggregates: &[AggregateStatement], prefix: Prefix) -> Option<usize>
-    ensures place { result ≡ position (λ a. same_prefix a.prefix prefix) aggregates.now }
-    ensures within { IfSome result (λ place. place < length aggregates.now) }
+// The place of the aggregate of a prefix, by the table of the router.
+fn aggregate_of(
+    given: &Given<'_>,
+    router: RouterId,
+    process: &Process,
+    prefix: Prefix,
+) -> Option<usize>
+    requires given { AreGiven given.now }
+    requires router { router.0 < length given.now.network.now }
+    requires process { process_of given.now.network.now router.0
+        ≡ Some (process_view process.now) }
+    ensures place { result
+        ≡ position (λ a. same_prefix a.prefix prefix) process.now.aggregates.items }
+    ensures within { IfSome result (λ place. place < length process.now.aggregates.items) }
 {
-    aggregates
-        .iter()
-        .position(|aggregate| aggregate.prefix == prefix)
+    given.policies.aggregate_of(given.network, router, prefix)
 }
 
 // Adds a candidate that a router itself begins.
@@ -76,21 +94,25 @@ fn add_begun(
 fn add_network(
     alloc: Global,
     candidates: &mut Vec<Chosen>,
-    base: &BaseTables,
+    given: &Given<'_>,
     router: RouterId,
-    networks: &[NetworkStatement],
+    process: &Process,
     prefix: Prefix,
 ) -> Result<(), AllocError>
-    requires router { router.0 < length base.now }
-    requires single { AllPairs (λ m n. m.prefix ≢ n.prefix) networks.now }
-    requires few { length networks.now < 2 ^ 32 }
+    requires given { AreGiven given.now }
+    requires router { router.0 < length given.now.network.now }
+    requires process { process_of given.now.network.now router.0
+        ≡ Some (process_view process.now) }
+    requires single { AllPairs (λ m n. m.prefix ≢ n.prefix) process.now.networks.items }
+    requires few { length process.now.networks.items < 2 ^ 32 }
     ensures { OnOk result (candidates.new.items ≡ candidates.old.items
-        ++ networks_of (has_base_row base.now router.0 prefix) prefix networks.now) }
+        ++ networks_of (has_base_row given.now.base.now router.0 prefix) prefix
+        process.now.networks.items) }
 {
-    let Some(place) = network_of(networks, prefix) else {
+    let Some(place) = network_of(given, router, process, prefix) else {
         return Ok(());
     };
-    if !has_row(base, router, prefix) {
+    if !has_row(given.base, router, prefix) {
         return Ok(());
     }
     add_begun(alloc, candidates, prefix, BgpFrom::Origin(place as u32))?;
@@ -101,19 +123,24 @@ fn add_network(
 fn add_aggregate(
     alloc: Global,
     candidates: &mut Vec<Chosen>,
+    given: &Given<'_>,
     table: &BgpTable,
     router: RouterId,
-    aggregates: &[AggregateStatement],
+    process: &Process,
     prefix: Prefix,
 ) -> Result<(), AllocError>
-    requires router { router.0 < length table.now }
-    requires single { AllPairs (λ a b. a.prefix ≢ b.prefix) aggregates.now }
-    requires few { length aggregates.now < 2 ^ 32 }
+    requires given { AreGiven given.now }
+    requires table { length table.now ≡ length given.now.network.now }
+    requires router { router.0 < length given.now.network.now }
+    requires process { process_of given.now.network.now router.0
+        ≡ Some (process_view process.now) }
+    requires single { AllPairs (λ a b. a.prefix ≢ b.prefix) process.now.aggregates.items }
+    requires few { length process.now.aggregates.items < 2 ^ 32 }
     ensures { OnOk result (candidates.new.items ≡ candidates.old.items
         ++ aggregates_of (has_longer (slice_index_or table.now router.0 []) prefix) prefix
-        aggregates.now) }
+        process.now.aggregates.items) }
 {
-    let Some(place) = aggregate_of(aggregates, prefix) else {
+    let Some(place) = aggregate_of(given, router, process, prefix) else {
         return Ok(());
     };
     if !has_longer(table, router, prefix) {
@@ -164,6 +191,8 @@ pub(crate) fn candidates(
     requires router { router.0 < length given.now.network.now }
     requires few { length process.now.neighbors.items + (length process.now.networks.items
         + length process.now.aggregates.items) < 2 ^ 32 }
+    requires process { process_of given.now.network.now router.0
+        ≡ Some (process_view process.now) }
     requires formed { IsProcess (process_view process.now) }
     ensures candidates { IfOk result (λ made. made.items
         ≡ candidates_at given.now.network.now given.now.base.now given.now.sessions.now table.now
@@ -171,15 +200,8 @@ pub(crate) fn candidates(
     ensures own { IfOk result (λ made. All (IsOf prefix) made.items) }
 {
     let mut made = Vec::new(alloc);
-    add_network(
-        alloc,
-        &mut made,
-        given.base,
-        router,
-        &process.networks,
-        prefix,
-    )?;
-    add_aggregate(alloc, &mut made, table, router, &process.aggregates, prefix)?;
+    add_network(alloc, &mut made, given, router, process, prefix)?;
+    add_aggregate(alloc, &mut made, given, table, router, process, prefix)?;
     add_entries(
         alloc,
         &mut made,

@@ -1,12 +1,13 @@
 //! What a router chooses of a prefix.
 
-ghost use Rattle.std.specs.Prelude.{◌≡◌, ◌+◌, ◌^◌, ◌<◌, ◌≤◌, All, length, nat_eq, slice_get, IfOk};
+ghost use Rattle.std.specs.Prelude.{◌≡◌, ◌+◌, ◌^◌, ◌<◌, ◌≤◌, All, length, nat_eq, slice_get, IfOk, Some};
 ghost use Rattle.std.specs.List.{filter_map, IsDistinct};
 ghost use Rattle.nc_types.specs.Config.{process_view};
 ghost use Rattle.nc_types.specs.declared.TheConstants.{MULTIPATH_LIMIT};
 ghost use Rattle.nc_types.specs.WellFormed.{IsProcess};
 ghost use Rattle.nc_tables.specs.Base.{base_tables};
 ghost use Rattle.nc_tables.specs.Rounds.{candidates_at, chosen_anew, chosen_by};
+ghost use Rattle.nc_tables.specs.Sessions.{process_of};
 ghost use Rattle.nc_policy.specs.Indexes.{ArePolicies};
 ghost use Rattle.nc_message.specs.Given.{AreGiven};
 
@@ -56,6 +57,8 @@ fn chosen_by(
     requires router { router.0 < length given.now.network.now }
     requires few { length process.now.neighbors.items + (length process.now.networks.items
         + length process.now.aggregates.items) < 2 ^ 32 }
+    requires process { process_of given.now.network.now router.0
+        ≡ Some (process_view process.now) }
     requires formed { IsProcess (process_view process.now) }
     ensures chosen { IfOk result (λ chosen. chosen.items ≡ chosen_by (process_view process.now)
         (candidates_at given.now.network.now given.now.base.now given.now.sessions.now table.now

@@ -8,6 +8,8 @@ use Rattle.nc_types.specs.Cidr.{Cidr, IsCidr, same_prefix}
 use Rattle.nc_types.specs.Config.{ConfigView, PrefixListView}
 use Rattle.nc_types.specs.declared.config.ListEntry.{ListEntry}
 use Rattle.nc_tables.specs.Policy.{is_of}
+use Rattle.nc_policy.specs.Statements.{aggregates_in, networks_in}
+use Rattle.nc_policy.specs.declared.statements.PrefixIndex.{PrefixIndex}
 use Rattle.nc_policy.specs.declared.index.Spot.{Spot}
 use Rattle.nc_policy.specs.declared.index.ListIndex.{ListIndex}
 use Rattle.nc_policy.specs.declared.names.NameIndex.{NameIndex}
@@ -65,7 +67,20 @@ pub record IsNameIndex (names : List (List ℕ)) (index : NameIndex) : Type 0 wh
   pub first : (q : List ℕ) → named_in index q ≡ position (bytes_eq q) names
   pub behind : (k : ℕ) (name : List ℕ) → slice_get names k ≡ Some name → slice_get index.next.items k ≡ Some (place_from name (k + 1) names)
 
--- ---- the tables of a router's lists
+-- ---- prefixes
+
+-- the place that a table has for a prefix
+abbrev pub prefix_in : {S : Type 0} → HashMap Cidr ℕ S → Cidr → Option ℕ
+prefix_in first p = get same_prefix first p
+
+abbrev pub placed_in : PrefixIndex → Cidr → Option ℕ
+placed_in index p = prefix_in index.first p
+
+-- a table has the place of the first of each of these prefixes
+pub record IsPrefixIndex (prefixes : List Cidr) (index : PrefixIndex) : Type 0 where
+  pub first : (p : Cidr) → placed_in index p ≡ position (λ q. same_prefix q p) prefixes
+
+-- ---- the tables of a router's lists, and of its networks and aggregates
 
 -- each of these prefix lists has its table
 pub record AreIndexes (lists : List PrefixListView) (indexes : List ListIndex) : Type 0 where
@@ -77,6 +92,8 @@ pub record IsIndexed (c : ConfigView) (index : RouterIndex) : Type 0 where
   pub community_names : IsNameIndex (map (λ l. l.name) c.community_lists) index.community_names
   pub maps : IsNameIndex (map (λ k. k.map_name) c.clauses) index.maps
   pub lists : AreIndexes c.lists index.lists.items
+  pub networks : IsPrefixIndex (map (λ n. n.prefix) (networks_in c)) index.networks
+  pub aggregates : IsPrefixIndex (map (λ a. a.prefix) (aggregates_in c)) index.aggregates
 
 -- ---- the tables of a network
 

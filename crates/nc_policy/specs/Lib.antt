@@ -1,3 +1,4 @@
 pub mod Views
 pub mod Indexes
 pub mod Passing
+pub mod Statements

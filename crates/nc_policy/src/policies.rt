@@ -1,7 +1,9 @@
-//! The tables of all routers of a network, by which route maps are asked again and again.
+//! The tables of all routers of a network, by which route maps, networks and aggregates are asked
+//! again and again.
 
-ghost use Rattle.std.specs.Prelude.{◌≡◌, ◌+◌, ◌<◌, ◌≤◌, List, length, IfOk, IfSome, Some, slice_get};
+ghost use Rattle.std.specs.Prelude.{◌≡◌, ◌+◌, ◌<◌, ◌≤◌, List, length, IfOk, IfSome, Some, position, slice_get};
 ghost use Rattle.std.specs.Option.{option_map};
+ghost use Rattle.nc_types.specs.Cidr.{same_prefix};
 ghost use Rattle.nc_types.specs.Config.{ConfigView};
 ghost use Rattle.nc_types.specs.declared.TheConstants.{PATH_LIMIT};
 ghost use Rattle.nc_tables.specs.Policy.{verdict};
@@ -9,6 +11,7 @@ ghost use Rattle.nc_tables.specs.Rounds.{passed};
 ghost use Rattle.nc_tables.specs.declared.bgp.Route.{Route};
 ghost use Rattle.nc_policy.specs.Indexes.{ArePolicies, IsIndexed};
 ghost use Rattle.nc_policy.specs.Passing.{communities_by, passing_view, prepended_by};
+ghost use Rattle.nc_policy.specs.Statements.{aggregates_in, networks_in};
 ghost use Rattle.nc_policy.specs.Views.{verdict_view};
 
 use crate::passing::{PassedRoute, pass_by};
@@ -19,9 +22,10 @@ use nc_tables::Route;
 use nc_types::{Network, Prefix, Reference, RouterId};
 use std::alloc::{AllocError, Global};
 
-/// The tables of the maps and lists of a network's routers. They are made once, and by them the
-/// clauses of a map are found one behind the other, a list by its name at one look-up, and what a
-/// prefix list says of a prefix at 33.
+/// The tables of the maps and lists of a network's routers, and of their networks and aggregates.
+/// They are made once, and by them the clauses of a map are found one behind the other, a list by
+/// its name and a network or an aggregate by its prefix at one look-up, and what a prefix list says
+/// of a prefix at 33.
 #[derive(Drop)]
 pub struct Policies {
     routers: Vec<RouterIndex>,
@@ -103,5 +107,28 @@ impl Policies {
         let place = router.0 as usize;
         let config = &network.routers()[place];
         pass_by(config, self.tables(place), map, prefix, count, held)
+    }
+
+    /// The place of the network statement of a prefix among those of a router; `None` where it has
+    /// none. The tables are those of the network, which has the router. Takes no memory.
+    pub fn network_of(&self, network: &Network, router: RouterId, prefix: Prefix) -> Option<usize>
+        requires policies { ArePolicies network.now self.now }
+        requires router { router.0 < length network.now }
+        ensures { (c : ConfigView) → slice_get network.now router.0 ≡ Some c
+            → result ≡ position (λ n. same_prefix n.prefix prefix) (networks_in c) }
+    {
+        let tables = &self.routers[router.0 as usize];
+        tables.networks.place(prefix)
+    }
+
+    /// The same of the aggregate of a prefix.
+    pub fn aggregate_of(&self, network: &Network, router: RouterId, prefix: Prefix) -> Option<usize>
+        requires policies { ArePolicies network.now self.now }
+        requires router { router.0 < length network.now }
+        ensures { (c : ConfigView) → slice_get network.now router.0 ≡ Some c
+            → result ≡ position (λ a. same_prefix a.prefix prefix) (aggregates_in c) }
+    {
+        let tables = &self.routers[router.0 as usize];
+        tables.aggregates.place(prefix)
     }
 }

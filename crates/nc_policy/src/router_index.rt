@@ -1,4 +1,4 @@
-//! The tables of the lists of one router.
+//! The tables of one router: of its lists and maps, and of its networks and aggregates.
 
 ghost use Rattle.std.specs.Prelude.{◌≡◌, map, IfOk, IfSome, Some, slice_get};
 ghost use Rattle.nc_types.specs.Config.{ConfigView, PrefixListView, config_view, list_view};
@@ -6,16 +6,19 @@ ghost use Rattle.nc_policy.specs.Indexes.{AreIndexes, IsIndexed, IsIndexOf};
 
 use crate::index::ListIndex;
 use crate::names::NameIndex;
+use crate::statements::{PrefixIndex, aggregates_in, networks_in};
 use nc_types::{PrefixList, RouterConfig};
 use std::alloc::{AllocError, Global};
 
 /// The tables of a router's lists and maps: their places by name, and of each prefix list what it
-/// says.
+/// says; and those of its networks and aggregates, their places by prefix.
 #[derive(Drop)]
 pub(crate) struct RouterIndex {
     pub(crate) names: NameIndex,
     pub(crate) community_names: NameIndex,
     pub(crate) maps: NameIndex,
+    pub(crate) networks: PrefixIndex,
+    pub(crate) aggregates: PrefixIndex,
     lists: Vec<ListIndex>,
 }
 
@@ -31,7 +34,7 @@ fn list_indexes(alloc: Global, lists: &[PrefixList]) -> Result<Vec<ListIndex>, A
 }
 
 impl RouterIndex {
-    /// The tables of a router's lists.
+    /// The tables of a router.
     pub(crate) fn new(alloc: Global, config: &RouterConfig) -> Result<RouterIndex, AllocError>
         ensures { IfOk result (IsIndexed (config_view config.now)) }
     {
@@ -39,10 +42,14 @@ impl RouterIndex {
         let community_names = NameIndex::new(alloc, &config.community_lists)?;
         let maps = NameIndex::new(alloc, &config.clauses)?;
         let lists = list_indexes(alloc, &config.lists)?;
+        let networks = PrefixIndex::new(alloc, networks_in(config))?;
+        let aggregates = PrefixIndex::new(alloc, aggregates_in(config))?;
         Ok(RouterIndex {
             names,
             community_names,
             maps,
+            networks,
+            aggregates,
             lists,
         })
     }

@@ -19,7 +19,7 @@ returns-in_default c =
     let p = c.args.prefix in
     let holds = has_longer (slice_index_or c.args.table.now c.args.router.0 []) c.args.prefix in
     let items = c.args.candidates.now.items in
-    let all = c.args.aggregates.now in
+    let all = c.args.process.now.aggregates.items in
     sym (
     ap (λ (l : List Chosen). items ++ l) (single_made (λ (s : AggregateStatement). same_prefix s.prefix p) holds (λ (k : ℕ). begun p (Aggregate k)) all (one_has (λ (s : AggregateStatement). s.prefix) p all c.requires.single)
     ∙ ap (of_first holds p) (sym c.in_default.ensures.place))
@@ -31,7 +31,7 @@ returns-then-not-has_longer c =
     let p = c.args.prefix in
     let holds = has_longer (slice_index_or c.args.table.now c.args.router.0 []) c.args.prefix in
     let items = c.args.candidates.now.items in
-    let all = c.args.aggregates.now in
+    let all = c.args.process.now.aggregates.items in
     let place = c.in-Some.place in
     sym (
     ap (λ (l : List Chosen). items ++ l) (single_made (λ (s : AggregateStatement). same_prefix s.prefix p) holds (λ (k : ℕ). begun p (Aggregate k)) all (one_has (λ (s : AggregateStatement). s.prefix) p all c.requires.single)
@@ -45,7 +45,7 @@ returns c =
     let p = c.args.prefix in
     let holds = has_longer (slice_index_or c.args.table.now c.args.router.0 []) c.args.prefix in
     let items = c.args.candidates.now.items in
-    let all = c.args.aggregates.now in
+    let all = c.args.process.now.aggregates.items in
     let place = c.in-Some.place in
     c.in_ok-add_begun.ensures
     ∙ sym (

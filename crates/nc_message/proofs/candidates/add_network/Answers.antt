@@ -17,9 +17,9 @@ of_first holds p o = option_map_or (λ k. cond holds (begun p (Origin k) ∷ [])
 pub returns-in_default : goal.returns-in_default
 returns-in_default c =
     let p = c.args.prefix in
-    let holds = has_base_row c.args.base.now c.args.router.0 c.args.prefix in
+    let holds = has_base_row c.args.given.now.base.now c.args.router.0 c.args.prefix in
     let items = c.args.candidates.now.items in
-    let all = c.args.networks.now in
+    let all = c.args.process.now.networks.items in
     sym (
     ap (λ (l : List Chosen). items ++ l) (single_made (λ (s : NetworkStatement). same_prefix s.prefix p) holds (λ (k : ℕ). begun p (Origin k)) all (one_has (λ (s : NetworkStatement). s.prefix) p all c.requires.single)
     ∙ ap (of_first holds p) (sym c.in_default.ensures.place))
@@ -29,9 +29,9 @@ returns-in_default c =
 pub returns-then-not-has_row : goal.returns-then-not-has_row
 returns-then-not-has_row c =
     let p = c.args.prefix in
-    let holds = has_base_row c.args.base.now c.args.router.0 c.args.prefix in
+    let holds = has_base_row c.args.given.now.base.now c.args.router.0 c.args.prefix in
     let items = c.args.candidates.now.items in
-    let all = c.args.networks.now in
+    let all = c.args.process.now.networks.items in
     let place = c.in-Some.place in
     sym (
     ap (λ (l : List Chosen). items ++ l) (single_made (λ (s : NetworkStatement). same_prefix s.prefix p) holds (λ (k : ℕ). begun p (Origin k)) all (one_has (λ (s : NetworkStatement). s.prefix) p all c.requires.single)
@@ -43,9 +43,9 @@ returns-then-not-has_row c =
 pub returns : goal.returns
 returns c =
     let p = c.args.prefix in
-    let holds = has_base_row c.args.base.now c.args.router.0 c.args.prefix in
+    let holds = has_base_row c.args.given.now.base.now c.args.router.0 c.args.prefix in
     let items = c.args.candidates.now.items in
-    let all = c.args.networks.now in
+    let all = c.args.process.now.networks.items in
     let place = c.in-Some.place in
     c.in_ok-add_begun.ensures
     ∙ sym (

@@ -33,6 +33,12 @@ chosen_by-requires-clause-formed c =
     let formed : IsWellFormed config = all_in IsWellFormed routers c.routers.ensures.valid.each config (in_by_get routers c.args.router.0 config at) in
     subst (λ (o : Option ProcessView). IfSome o IsProcess) (ap (option_map process_view) (ap (λ (r : RouterConfig). r.process) c.index-routers-router.is ∙ c.in-Some.is)) formed.process
 
+pub chosen_by-requires-clause-process : goal.chosen_by-requires-clause-process
+chosen_by-requires-clause-process c =
+    let routers = c.args.network.now in
+    let at = config_at routers c.routers.result.now c.args.router.0 c.index-routers-router.result c.routers.ensures.routers c.requires.router c.index-routers-router.is in
+    ap process_in at ∙ ap (option_map process_view) (ap (λ (r : RouterConfig). r.process) c.index-routers-router.is ∙ c.in-Some.is)
+
 pub returns-clause-chosen : goal.returns-clause-chosen
 returns-clause-chosen c =
     let routers = c.args.network.now in

@@ -1,7 +1,9 @@
 use Rattle.std.proofs.Common.{List, map, subst}
 use Rattle.nc_types.specs.Config.{PrefixListView, CommunityListView, ClauseView, list_view, community_list_view, clause_view}
+use Rattle.nc_types.specs.declared.config.NetworkStatement.{NetworkStatement}
+use Rattle.nc_types.specs.declared.config.AggregateStatement.{AggregateStatement}
 use Rattle.nc_types.specs.declared.config.PrefixList.{PrefixList}
-use Rattle.nc_policy.specs.Indexes.{AreIndexes}
+use Rattle.nc_policy.specs.Indexes.{AreIndexes, IsPrefixIndex}
 use Rattle.nc_policy.proofs.Naming.{names_seen}
 use Rattle.nc_policy.proofs.router_index.RouterIndex.new.Goals as goal
 
@@ -15,4 +17,6 @@ returns c =
           c.in_ok-community_names.ensures;
       maps = names_seen (λ (k : ClauseView). k.map_name) clause_view c.deref-3.result.now config.clauses.items c.deref-3.ensures.value c.in_ok-maps.maps c.in_ok-maps.ensures;
       lists = subst (λ (ls : List PrefixList). AreIndexes (map list_view ls) c.in_ok-lists.lists.items) c.deref-4.ensures.value c.in_ok-lists.ensures;
+      networks = subst (λ (ns : List NetworkStatement). IsPrefixIndex (map (λ n. n.prefix) ns) c.in_ok-networks.networks) c.networks_in.ensures c.in_ok-networks.ensures;
+      aggregates = subst (λ (gs : List AggregateStatement). IsPrefixIndex (map (λ a. a.prefix) gs) c.in_ok-aggregates.aggregates) c.aggregates_in.ensures c.in_ok-aggregates.ensures;
     }

@@ -1,0 +1,85 @@
+//! Where the statement of a prefix stands among the networks or the aggregates of a process, by a
+//! table.
+
+ghost use Rattle.std.specs.Prelude.{◌≡◌, map, IfOk};
+ghost use Rattle.nc_types.specs.Cidr.{Cidr};
+ghost use Rattle.nc_types.specs.Config.{config_view};
+ghost use Rattle.nc_policy.specs.Statements.{aggregates_in, networks_in};
+ghost use Rattle.nc_policy.specs.Indexes.{placed_in, IsPrefixIndex};
+
+use nc_types::{AggregateStatement, NetworkStatement, Prefix, RouterConfig};
+use std::alloc::{AllocError, Global};
+use std::collections::HashMap;
+
+/// What has a prefix.
+pub(crate) trait Prefixed {
+    ghost prefix_of: { Self → Cidr };
+
+    fn prefix(&self) -> Prefix
+        ensures { result ≡ prefix_of self.now };
+}
+
+impl Prefixed for NetworkStatement {
+    ghost prefix_of = { λ network. network.prefix };
+
+    fn prefix(&self) -> Prefix {
+        self.prefix
+    }
+}
+
+impl Prefixed for AggregateStatement {
+    ghost prefix_of = { λ aggregate. aggregate.prefix };
+
+    fn prefix(&self) -> Prefix {
+        self.prefix
+    }
+}
+
+/// The networks of a router; none where it has no process.
+pub(crate) fn networks_in(config: &RouterConfig) -> &[NetworkStatement]
+    ensures { result.now ≡ networks_in (config_view config.now) }
+{
+    match &config.process {
+        Some(process) => &process.networks,
+        None => &[],
+    }
+}
+
+/// The aggregates of a router; none where it has no process.
+pub(crate) fn aggregates_in(config: &RouterConfig) -> &[AggregateStatement]
+    ensures { result.now ≡ aggregates_in (config_view config.now) }
+{
+    match &config.process {
+        Some(process) => &process.aggregates,
+        None => &[],
+    }
+}
+
+/// A table of prefixes.
+#[derive(Drop)]
+pub(crate) struct PrefixIndex {
+    /// The place of the first that has a prefix.
+    first: HashMap<Prefix, usize>,
+}
+
+impl PrefixIndex {
+    /// The table of the prefixes of these, made from the last to the first, so that the first stays.
+    pub(crate) fn new<T: Prefixed>(alloc: Global, items: &[T]) -> Result<PrefixIndex, AllocError>
+        ensures { IfOk result (IsPrefixIndex (map T.prefix_of items.now)) }
+    {
+        let mut first = HashMap::new(alloc);
+        let mut place = items.len();
+        'items: while place > 0 {
+            place -= 1;
+            first.insert(items[place].prefix(), place)?;
+        }
+        Ok(PrefixIndex { first })
+    }
+
+    /// The place of the first that has a prefix. Takes no memory.
+    pub(crate) fn place(&self, prefix: Prefix) -> Option<usize>
+        ensures { result ≡ placed_in self.now prefix }
+    {
+        self.first.get(&prefix).copied()
+    }
+}
