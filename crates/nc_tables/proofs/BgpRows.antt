@@ -19,7 +19,7 @@ use Rattle.nc_tables.proofs.Finding.{found_first, found_nowhere, any_is_found}
 not_less : (p q : Cidr) → prefix_cmp p q ≡ Less → is_lt (prefix_cmp q p) ≡ false
 not_less p q e = ap is_lt (prefix_total.antisymm q p ∙ ap ordering_reverse e)
 
-view_at : (rows : List BgpRow) (i : ℕ) (d : BgpRow) → get_or (map bgp_row_view rows) i (bgp_row_view d) ≡ bgp_row_view (get_or rows i d)
+pub view_at : (rows : List BgpRow) (i : ℕ) (d : BgpRow) → get_or (map bgp_row_view rows) i (bgp_row_view d) ≡ bgp_row_view (get_or rows i d)
 view_at [] i d = refl
 view_at (row ∷ rows) zero d = refl
 view_at (row ∷ rows) (suc i) d = view_at rows i d

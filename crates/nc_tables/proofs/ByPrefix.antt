@@ -21,10 +21,10 @@ use Rattle.nc_tables.proofs.SideBySide.{prefix_total, same_by_cmp, rises}
 pub same_itself : (p : Cidr) → same_prefix p p ≡ true
 same_itself p = same_by_cmp p p ∙ ap is_eq (tied_itself prefix_total p)
 
-less_differs : (p q : Cidr) → prefix_cmp p q ≡ Less → same_prefix p q ≡ false
+pub less_differs : (p q : Cidr) → prefix_cmp p q ≡ Less → same_prefix p q ≡ false
 less_differs p q e = same_by_cmp p q ∙ ap is_eq e
 
-less_differs_back : (p q : Cidr) → prefix_cmp p q ≡ Less → same_prefix q p ≡ false
+pub less_differs_back : (p q : Cidr) → prefix_cmp p q ≡ Less → same_prefix q p ≡ false
 less_differs_back p q e = same_by_cmp q p ∙ ap is_eq (prefix_total.antisymm q p ∙ ap ordering_reverse e)
 
 less_by : (p q : Cidr) → is_gt (prefix_cmp p q) ≡ false → same_prefix p q ≡ false → prefix_cmp p q ≡ Less
@@ -45,15 +45,15 @@ less_upto p q r less up = on (prefix_cmp q r) refl
 
 -- ---- lists
 
-pairs_cons : {X : Type 0} (R : X → X → Type 0) (x : X) (xs : List X) → All (R x) xs → AllPairs R xs → AllPairs R (x ∷ xs)
+pub pairs_cons : {X : Type 0} (R : X → X → Type 0) (x : X) (xs : List X) → All (R x) xs → AllPairs R xs → AllPairs R (x ∷ xs)
 pairs_cons R x xs first rest i zero d less lt = absurd (omega arith)
 pairs_cons R x xs first rest zero (suc j) d less lt = first j d (omega arith)
 pairs_cons R x xs first rest (suc i) (suc j) d less lt = rest i j d (omega arith) (omega arith)
 
-pairs_head : {X : Type 0} (R : X → X → Type 0) (x : X) (xs : List X) → AllPairs R (x ∷ xs) → All (R x) xs
+pub pairs_head : {X : Type 0} (R : X → X → Type 0) (x : X) (xs : List X) → AllPairs R (x ∷ xs) → All (R x) xs
 pairs_head R x xs pairs k d lt = pairs 0 (suc k) d (omega arith) (omega arith)
 
-pairs_tail : {X : Type 0} (R : X → X → Type 0) (x : X) (xs : List X) → AllPairs R (x ∷ xs) → AllPairs R xs
+pub pairs_tail : {X : Type 0} (R : X → X → Type 0) (x : X) (xs : List X) → AllPairs R (x ∷ xs) → AllPairs R xs
 pairs_tail R x xs pairs i j d less lt = pairs (suc i) (suc j) d (omega arith) (omega arith)
 
 -- a list that rises is in order
@@ -65,7 +65,7 @@ in_order_is cmp (x ∷ xs) up = ap (insert cmp x) (in_order_is cmp xs (pairs_tai
     at_front [] above = refl
     at_front (y ∷ ys) above = ap (λ (o : Ordering). cond (is_gt o) (y ∷ insert cmp x ys) (x ∷ y ∷ ys)) (above 0 y (omega arith))
 
-none_by_any : {X : Type 0} (test : X → Bool) (xs : List X) → list_any test xs ≡ false → All (λ x. test x ≡ false) xs
+pub none_by_any : {X : Type 0} (test : X → Bool) (xs : List X) → list_any test xs ≡ false → All (λ x. test x ≡ false) xs
 none_by_any test [] e k d lt = absurd (omega arith)
 none_by_any test (x ∷ xs) e zero d lt = first (test x) (list_any test xs) e
   where
@@ -83,7 +83,7 @@ any_by_none test [] none = refl
 any_by_none test (x ∷ xs) none = ap (λ (b : Bool). b || list_any test xs) (none 0 x (omega arith)) ∙ any_by_none test xs (λ k d lt. none (suc k) d (omega arith))
 
 -- what holds of prefixes holds of those that are kept
-all_distinct : (P : Cidr → Type 0) (ps : List Cidr) → All P ps → All P (distinct ps)
+pub all_distinct : (P : Cidr → Type 0) (ps : List Cidr) → All P ps → All P (distinct ps)
 all_distinct P [] each = each
 all_distinct P (p ∷ ps) each = on (list_any (same_prefix p) ps) (all_distinct P ps (All-tail P p ps each))
   where

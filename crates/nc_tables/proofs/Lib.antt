@@ -7,6 +7,9 @@ pub mod Finding
 pub mod SessionOrder
 pub mod BgpRows
 pub mod ByPrefix
+pub mod InOrder
+mod RowEdits
+mod TableEdits
 pub mod RowCount
 pub mod Ordered
 pub mod Owner

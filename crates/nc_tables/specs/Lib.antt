@@ -6,6 +6,7 @@ pub mod Sessions
 pub mod Policy
 pub mod Choice
 pub mod Rounds
+pub mod Edit
 pub mod Main
 pub mod Forwarding
 pub mod Levels

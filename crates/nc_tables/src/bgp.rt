@@ -1,4 +1,4 @@
-ghost use Rattle.std.specs.Prelude.{◌≡◌, ◌≤◌, length};
+ghost use Rattle.std.specs.Prelude.{◌≡◌, ◌↔◌, ◌≤◌, IsTrue, length};
 ghost use Rattle.nc_types.specs.declared.TheConstants.{PATH_LIMIT};
 
 use nc_types::{Addr, Communities, IfaceId, OriginCode, Prefix, RouterId};
@@ -72,6 +72,19 @@ pub struct Route {
     pub communities: Communities,
 }
 
+/// Whether two routes are the same in all that they carry.
+pub fn same_route(a: &Route, b: &Route) -> bool
+    ensures { IsTrue result ↔ (a.now ≡ b.now) }
+{
+    a.prefix == b.prefix
+        && a.next_hop == b.next_hop
+        && a.preference == b.preference
+        && a.metric == b.metric
+        && a.origin == b.origin
+        && a.path.numbers() == b.path.numbers()
+        && a.communities.numbers() == b.communities.numbers()
+}
+
 /// Where a candidate comes from: the place of its statement in the process.
 #[derive(Clone, Copy, Debug, PartialEq, Eq)]
 pub enum BgpFrom {
@@ -94,6 +107,17 @@ pub struct Chosen {
     pub sender_id: Addr,
     /// The address of its sender; 0.0.0.0 where it wasn't learnt.
     pub sender: Addr,
+}
+
+/// Whether two candidates are the same: their routes, and where they come from.
+pub fn same_candidate(a: &Chosen, b: &Chosen) -> bool
+    ensures { IsTrue result ↔ (a.now ≡ b.now) }
+{
+    a.from == b.from
+        && a.internal == b.internal
+        && a.sender_id == b.sender_id
+        && a.sender == b.sender
+        && same_route(&a.route, &b.route)
 }
 
 /// The candidates of a prefix that were chosen, best first; there is one at least.

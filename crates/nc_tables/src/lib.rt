@@ -24,7 +24,9 @@ mod sessions;
 mod stable;
 
 pub use base::{BaseFrom, BaseRow, BaseTables};
-pub use bgp::{BgpFrom, BgpRow, Chosen, MainFrom, MainRow, Path, Route, SessionRow};
+pub use bgp::{
+    BgpFrom, BgpRow, Chosen, MainFrom, MainRow, Path, Route, SessionRow, same_candidate, same_route,
+};
 pub use laws::{levels_are_lawful, settling_is_lawful};
 pub use longest::Rows;
 pub use mains::MainTables;

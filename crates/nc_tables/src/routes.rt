@@ -1,11 +1,15 @@
-ghost use Rattle.std.specs.Prelude.{◌≡◌, ◌<◌, [], All, length, map, nat_lt, slice_index_or};
+ghost use Rattle.std.specs.Prelude.{◌≡◌, ◌<◌, ◌≤◌, ◌==◌, ◌&&◌, ℕ, [], All, IfOk, OnOk, length, map, nat_lt, slice_index_or, if◌then◌else◌};
 ghost use Rattle.std.specs.List.{list_any};
+ghost use Rattle.nc_types.specs.Cidr.{Cidr};
+ghost use Rattle.nc_types.specs.declared.TheConstants.{MULTIPATH_LIMIT};
 ghost use Rattle.nc_tables.specs.Base.{same_prefix};
-ghost use Rattle.nc_tables.specs.Rounds.{bgp_row_view, chosen_in, AreBgpRows};
+ghost use Rattle.nc_tables.specs.Rounds.{bgp_row_view, chosen_at, chosen_in, no_routes, AreBgpRows};
+ghost use Rattle.nc_tables.specs.Edit.{put};
 
 use crate::bgp::{BgpRow, Chosen};
 use crate::longest::{HasPrefix, rows_at, rows_with};
-use nc_types::{Prefix, RouterId};
+use nc_types::{Network, Prefix, RouterId};
+use std::alloc::{AllocError, Global};
 use std::marker::Model;
 
 impl HasPrefix for BgpRow {
@@ -13,6 +17,35 @@ impl HasPrefix for BgpRow {
 
     fn prefix(&self) -> Prefix {
         self.prefix
+    }
+}
+
+// Sets, adds or takes out the row of a prefix, among the rows of a router.
+fn put_row(rows: &mut Vec<BgpRow>, prefix: Prefix, chosen: Vec<Chosen>) -> Result<(), AllocError>
+    requires rows { AreBgpRows (map bgp_row_view rows.old.items) }
+    requires few { length chosen.items ≤ MULTIPATH_LIMIT }
+    requires own { All (λ x. x.route.prefix ≡ prefix) chosen.items }
+    ensures put { OnOk result (map bgp_row_view rows.new.items
+        ≡ put prefix chosen.items (map bgp_row_view rows.old.items)) }
+    ensures rows { AreBgpRows (map bgp_row_view rows.new.items) }
+{
+    let _len = prefix.len();
+    match rows.binary_search_by_key(&prefix, |row| row.prefix) {
+        Ok(place) => {
+            if chosen.is_empty() {
+                rows.remove(place);
+                return Ok(());
+            }
+            rows[place].chosen = chosen;
+            Ok(())
+        }
+        Err(place) => {
+            if chosen.is_empty() {
+                return Ok(());
+            }
+            rows.insert(place, BgpRow { prefix, chosen })?;
+            Ok(())
+        }
     }
 }
 
@@ -41,6 +74,54 @@ impl BgpTable {
         ensures { result ≡ map (λ rows. map bgp_row_view rows.items) rows.items }
     {
         BgpTable { rows }
+    }
+
+    /// The tables in which no router has a route, a list for each router of a network.
+    ///
+    /// # Errors
+    ///
+    /// Memory that runs out.
+    pub fn without_routes(alloc: Global, network: &Network) -> Result<BgpTable, AllocError>
+        ensures { IfOk result (λ none. none ≡ no_routes network.now) }
+    {
+        let mut rows = Vec::new(alloc);
+        'routers: for _router in network.routers() {
+            rows.push(Vec::new(alloc))?;
+        }
+        Ok(BgpTable { rows })
+    }
+
+    /// How many routers the tables have rows of; the rows of each are as the rows of a router are.
+    pub fn count(&self) -> usize
+        ensures count { result ≡ length self.now }
+        ensures valid { All AreBgpRows self.now }
+    {
+        self.rows.len()
+    }
+
+    /// From now on this is chosen of a prefix at a router, which has a number below that of the routers: at most
+    /// [`nc_types::MULTIPATH_LIMIT`] candidates, each of that prefix. Its row is found by a binary search and
+    /// is set, added or taken out in its place; all else stays.
+    ///
+    /// # Errors
+    ///
+    /// Memory that runs out.
+    pub fn put(
+        &mut self,
+        router: RouterId,
+        prefix: Prefix,
+        chosen: Vec<Chosen>,
+    ) -> Result<(), AllocError>
+        requires router { router.0 < length self.old }
+        requires few { length chosen.items ≤ MULTIPATH_LIMIT }
+        requires own { All (λ x. x.route.prefix ≡ prefix) chosen.items }
+        ensures count { length self.new ≡ length self.old }
+        ensures put { OnOk result ((r : ℕ) (p : Cidr) → chosen_at self.new r p
+            ≡ (if (r == router.0) && same_prefix prefix p then chosen.items
+            else chosen_at self.old r p)) }
+    {
+        put_row(&mut self.rows[router.0 as usize], prefix, chosen)?;
+        Ok(())
     }
 
     /// The rows of a router, which has a number below that of the routers.

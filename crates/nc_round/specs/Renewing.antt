@@ -1,0 +1,48 @@
+-- Rows that a round makes anew.
+use Rattle.std.specs.Prelude.{◌≡◌, ℕ, ◌<◌, ◌≤◌, List, [], Option, Some, None, All, Contains, length, map, if◌then◌else◌}
+use Rattle.nc_types.specs.declared.TheConstants.{MULTIPATH_LIMIT}
+use Rattle.nc_types.specs.Cidr.{Cidr}
+use Rattle.nc_tables.specs.declared.bgp.Chosen.{Chosen}
+use Rattle.nc_tables.specs.Rounds.{BgpRowView, chosen_at, chosen_anew, prefixes}
+use Rattle.nc_tables.specs.Settling.{same_list, same_candidate}
+use Rattle.nc_round.specs.declared.inputs.Inputs.{Inputs}
+use Rattle.nc_round.specs.declared.new_row.NewRow.{NewRow}
+use Rattle.nc_round.specs.Inputs.{next}
+use Rattle.nc_round.specs.Keys.{Key, key, AreInOrder}
+
+-- what is chosen anew of a row
+pub record RowChange : Type 0 where
+  pub key : Key
+  pub chosen : List Chosen
+
+abbrev pub row_change : NewRow → RowChange
+row_change n = record { key = (n.router, n.prefix); chosen = n.chosen.items }
+
+-- the candidates are of the prefix, and no more than are used at once; the router is one of so many
+pub record IsNew (count : ℕ) (n : NewRow) : Type 0 where
+  pub router : n.router.0 < count
+  pub own : All (λ x. x.route.prefix ≡ n.prefix) n.chosen.items
+  pub few : length n.chosen.items ≤ MULTIPATH_LIMIT
+
+-- what is chosen anew of a row, if it differs
+abbrev pub change_at : Inputs → List (List BgpRowView) → Key → Option RowChange
+change_at i table k =
+    let anew = chosen_anew i.network.now i.base.now i.sessions.now table k.0.0 k.1 in
+    if same_list same_candidate anew (chosen_at table k.0.0 k.1) then None else Some (record { key = k; chosen = anew })
+
+-- nothing is chosen of a prefix that no router begins
+abbrev pub IsKnown : Inputs → List (List BgpRowView) → Type 0
+IsKnown i table = (router : ℕ) (p : Cidr) → ¬ Contains (prefixes i.network.now) p → chosen_at table router p ≡ []
+
+-- rows in order, such that a round changes no other
+pub record AreEnough (i : Inputs) (table : List (List BgpRowView)) (keys : List Key) : Type 0 where
+  pub count : length table ≡ length i.network.now
+  pub known : IsKnown i table
+  pub ordered : AreInOrder keys
+  pub within : All (λ k. k.0.0 < length i.network.now) keys
+  pub others : (router : ℕ) (p : Cidr) → ¬ Contains keys (key router p) → chosen_at table router p ≡ chosen_at (next i table) router p
+
+-- with these rows put into it a table has everywhere what it is to have
+pub record Leads (target : ℕ → Cidr → List Chosen) (table : List (List BgpRowView)) (changes : List RowChange) : Type 0 where
+  pub put : All (λ c. target c.key.0.0 c.key.1 ≡ c.chosen) changes
+  pub others : (router : ℕ) (p : Cidr) → ¬ Contains (map (λ c. c.key) changes) (key router p) → chosen_at table router p ≡ target router p

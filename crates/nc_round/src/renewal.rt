@@ -1,0 +1,128 @@
+//! Rows made anew, of which those that differ are put into the table.
+
+ghost use Rattle.std.specs.Prelude.{◌≡◌, ◌↔◌, ◌<◌, ◌++◌, ℕ, [], All, List, length, map, IfOk, IsTrue, OnOk};
+ghost use Rattle.std.specs.List.{cons_option, filter_map};
+ghost use Rattle.nc_types.specs.Cidr.{Cidr};
+ghost use Rattle.nc_tables.specs.declared.bgp.Chosen.{Chosen};
+ghost use Rattle.nc_tables.specs.Rounds.{chosen_at};
+ghost use Rattle.nc_round.specs.Inputs.{AreInputs, next};
+ghost use Rattle.nc_round.specs.Changes.{IsDifference};
+ghost use Rattle.nc_round.specs.Renewing.{row_change, change_at, AreEnough, IsNew, Leads};
+
+use crate::changed::Changed;
+use crate::chosen::chosen_anew;
+use crate::inputs::Inputs;
+use crate::new_row::NewRow;
+use nc_tables::{BgpTable, Chosen, same_candidate};
+use nc_types::{Prefix, RouterId};
+use std::alloc::{AllocError, Global};
+
+// Whether the same is chosen, candidate by candidate.
+fn same_chosen(a: &[Chosen], b: &[Chosen]) -> bool
+    ensures { IsTrue result ↔ (a.now ≡ b.now) }
+{
+    if a.len() != b.len() {
+        return false;
+    }
+    'candidates: for place in 0..a.len() {
+        if !same_candidate(&a[place], &b[place]) {
+            return false;
+        }
+    }
+    true
+}
+
+// Adds what is chosen anew of a row, if it differs.
+fn add_new(
+    alloc: Global,
+    news: &mut Vec<NewRow>,
+    inputs: Inputs<'_>,
+    table: &BgpTable,
+    row: (RouterId, Prefix),
+) -> Result<(), AllocError>
+    requires inputs { AreInputs inputs }
+    requires table { length table.now ≡ length inputs.network.now }
+    requires router { row.0.0 < length inputs.network.now }
+    requires news { All (IsNew (length inputs.network.now)) news.old.items }
+    ensures rows { OnOk result (map row_change news.new.items ≡ map row_change news.old.items
+        ++ cons_option (change_at inputs.entry table.now row) []) }
+    ensures news { All (IsNew (length inputs.entry.network.now)) news.new.items }
+{
+    let (router, prefix) = row;
+    let chosen = chosen_anew(alloc, inputs, table, router, prefix)?;
+    if same_chosen(&chosen, table.chosen(router, prefix)) {
+        return Ok(());
+    }
+    news.push(NewRow {
+        router,
+        prefix,
+        chosen,
+    })?;
+    Ok(())
+}
+
+// What is chosen anew of rows, of each that differs.
+fn news_of(
+    alloc: Global,
+    inputs: Inputs<'_>,
+    table: &BgpTable,
+    keys: &[(RouterId, Prefix)],
+) -> Result<Vec<NewRow>, AllocError>
+    requires inputs { AreInputs inputs }
+    requires table { length table.now ≡ length inputs.network.now }
+    requires keys { All (λ k. k.0.0 < length inputs.network.now) keys.now }
+    ensures rows { IfOk result (λ news. map row_change news.items
+        ≡ filter_map (change_at inputs.entry table.now) keys.now) }
+    ensures news { IfOk result (λ news. All (IsNew (length inputs.entry.network.now)) news.items) }
+{
+    let mut news = Vec::new(alloc);
+    'keys: for row in keys {
+        add_new(alloc, &mut news, inputs, table, *row)?;
+    }
+    Ok(news)
+}
+
+// Which rows these are.
+fn keys_of(alloc: Global, news: &[NewRow]) -> Result<Vec<(RouterId, Prefix)>, AllocError>
+    ensures { IfOk result (λ keys. keys.items ≡ map (λ n. (row_change n).key) news.now) }
+{
+    let mut keys = Vec::new(alloc);
+    'news: for new in news {
+        keys.push((new.router, new.prefix))?;
+    }
+    Ok(keys)
+}
+
+// Puts new rows into a table.
+fn put_all(table: &mut BgpTable, news: Vec<NewRow>) -> Result<(), AllocError>
+    requires { All (IsNew (length table.old)) news.items }
+    ensures count { length table.new ≡ length table.old }
+    ensures leads { OnOk result ((target : ℕ → Cidr → List Chosen)
+        → Leads target table.old (map row_change news.items)
+        → (router : ℕ) (p : Cidr) → chosen_at table.new router p ≡ target router p) }
+{
+    'news: for new in news {
+        table.put(new.router, new.prefix, new.chosen)?;
+    }
+    Ok(())
+}
+
+/// The next table and the rows in which it differs, where these are all rows that may differ. The others
+/// aren't visited.
+pub(crate) fn renew(
+    alloc: Global,
+    inputs: Inputs<'_>,
+    mut table: BgpTable,
+    keys: &[(RouterId, Prefix)],
+) -> Result<(BgpTable, Changed), AllocError>
+    requires inputs { AreInputs inputs }
+    requires keys { AreEnough inputs table keys.now }
+    ensures table { IfOk result (λ r. r.0 ≡ next inputs.entry table) }
+    ensures changed { IfOk result (λ r. IsDifference table r.0 r.1.rows.items) }
+{
+    let news = news_of(alloc, inputs, &table, keys)?;
+    let rows = keys_of(alloc, &news)?;
+    put_all(&mut table, news)?;
+    let _count = table.count();
+    Ok((table, Changed { rows }))
+}

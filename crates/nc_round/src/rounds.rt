@@ -1,0 +1,57 @@
+ghost use Rattle.std.specs.Prelude.{◌≡◌, List, IfOk, length};
+ghost use Rattle.nc_tables.specs.Rounds.{BgpRowView, no_routes};
+ghost use Rattle.nc_round.specs.Hearing.{AreHearers};
+ghost use Rattle.nc_round.specs.Inputs.{AreInputs, next};
+ghost use Rattle.nc_round.specs.Changes.{IsDifference, IsRoundOf};
+
+use crate::changed::Changed;
+use crate::hearers::Hearers;
+use crate::inputs::Inputs;
+use crate::renewal::renew;
+use crate::waking::{begun_in_order, woken_in_order};
+use nc_tables::BgpTable;
+use std::alloc::{AllocError, Global};
+
+/// The first round, from no route anywhere: the table that it makes, and the rows that it has.
+///
+/// # Errors
+///
+/// Memory that runs out.
+pub fn first_round(alloc: Global, inputs: Inputs<'_>) -> Result<(BgpTable, Changed), AllocError>
+    requires inputs { AreInputs inputs }
+    ensures table { IfOk result (λ r. r.0 ≡ next inputs.entry (no_routes inputs.entry.network.now)) }
+    ensures changed { IfOk result (λ r. IsDifference (no_routes inputs.entry.network.now) r.0 r.1.rows.items) }
+{
+    let none = BgpTable::without_routes(alloc, inputs.network)?;
+    let keys = begun_in_order(alloc, inputs.network)?;
+    let made = renew(alloc, inputs, none, &keys)?;
+    Ok(made)
+}
+
+/// One more round: the table that comes from one that a round made, given the rows in which that one differs
+/// from the table before it, and the rows in which the new one differs. It takes time in proportion to the
+/// rows that changed, the sessions over which they are heard, and the aggregates around them; a row that
+/// can't differ is neither copied nor visited.
+///
+/// # Errors
+///
+/// Memory that runs out.
+pub fn round_changed(
+    alloc: Global,
+    inputs: Inputs<'_>,
+    hearers: &Hearers,
+    old: BgpTable,
+    changed: Changed,
+) -> Result<(BgpTable, Changed), AllocError>
+    requires inputs { AreInputs inputs }
+    requires hearers { AreHearers inputs.sessions.now hearers.now }
+    requires made { (before : List (List BgpRowView))
+        × IsRoundOf inputs.network.now inputs.base.now inputs.sessions.now before old changed.rows.items }
+    ensures table { IfOk result (λ r. r.0 ≡ next inputs.entry old) }
+    ensures changed { IfOk result (λ r. IsDifference old r.0 r.1.rows.items) }
+{
+    let keys = woken_in_order(alloc, inputs.network, hearers, &changed.rows)?;
+    let _count = old.count();
+    let made = renew(alloc, inputs, old, &keys)?;
+    Ok(made)
+}
