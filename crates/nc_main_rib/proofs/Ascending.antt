@@ -21,7 +21,7 @@ use Rattle.nc_base_rib.proofs.Members.{Rises, rises_by_pairs, Ascends, one_list,
 
 -- ---- distinct prefixes
 
-in_distinct : (ps : List Cidr) (z : Cidr) → In z ps → In z (distinct ps)
+pub in_distinct : (ps : List Cidr) (z : Cidr) → In z ps → In z (distinct ps)
 in_distinct [] z i = i
 in_distinct (p ∷ ps) z i = on (list_any (same_prefix p) ps) refl (in_distinct ps z) i
   where

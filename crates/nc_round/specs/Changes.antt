@@ -1,11 +1,11 @@
 -- In which rows tables of BGP differ, and what a row is made from.
-use Rattle.std.specs.Prelude.{◌≡◌, ℕ, Bool, true, List, [], Some, All, Contains, length, slice_index_or}
+use Rattle.std.specs.Prelude.{◌≡◌, ℕ, ◌<◌, Bool, true, List, [], Some, All, Contains, length, slice_index_or}
 use Rattle.nc_types.specs.Cidr.{Cidr, same_prefix}
 use Rattle.nc_types.specs.Config.{ConfigView}
 use Rattle.nc_types.specs.declared.config.AggregateStatement.{AggregateStatement}
 use Rattle.nc_tables.specs.declared.base.BaseRow.{BaseRow}
 use Rattle.nc_tables.specs.declared.bgp.SessionRow.{SessionRow}
-use Rattle.nc_tables.specs.Rounds.{BgpRowView, AreBgpRows, chosen_at, is_longer_in, round, session_by}
+use Rattle.nc_tables.specs.Rounds.{BgpRowView, chosen_at, is_longer_in, round, session_by}
 use Rattle.nc_round.specs.Hearing.{aggregates_of}
 use Rattle.nc_round.specs.Keys.{Key, key, AreInOrder}
 
@@ -15,11 +15,15 @@ pub record IsDifference (old new : List (List BgpRowView)) (changed : List Key) 
   pub differ : All (λ k. ¬ (chosen_at old k.0.0 k.1 ≡ chosen_at new k.0.0 k.1)) changed
   pub all : (router : ℕ) (p : Cidr) → ¬ Contains changed (key router p) → chosen_at old router p ≡ chosen_at new router p
 
+-- each row has a candidate
+abbrev pub HaveCandidates : List (List BgpRowView) → Type 0
+HaveCandidates table = All (λ rows. All (λ row. 0 < length row.chosen) rows) table
+
 module _ (routers : List ConfigView) (tables : List (List BaseRow)) (sessions : List (List SessionRow)) where
   -- a table is what a round makes of another, in which these rows differ
   pub record IsRoundOf (before table : List (List BgpRowView)) (changed : List Key) : Type 0 where
     pub count : length before ≡ length routers
-    pub rows : All AreBgpRows before
+    pub some : HaveCandidates before
     pub made : table ≡ round routers tables sessions before
     pub difference : IsDifference before table changed
 

@@ -25,6 +25,10 @@ pub(crate) fn chosen_anew(
     ensures own { IfOk result (λ chosen. All (λ x. x.route.prefix ≡ prefix) chosen.items) }
     ensures few { IfOk result (λ chosen. length chosen.items ≤ MULTIPATH_LIMIT) }
 {
-    let _ = (inputs, table, router, prefix);
+    let _routers = inputs.network.routers();
+    let _base = inputs.base.rows(router);
+    let _sessions = inputs.sessions.rows(router);
+    let _policies = inputs.policies;
+    let _chosen = table.chosen(router, prefix);
     Ok(Vec::new(alloc))
 }

@@ -93,15 +93,16 @@ fn keys_of(alloc: Global, news: &[NewRow]) -> Result<Vec<(RouterId, Prefix)>, Al
     Ok(keys)
 }
 
-// Puts new rows into a table.
-fn put_all(table: &mut BgpTable, news: Vec<NewRow>) -> Result<(), AllocError>
+// Puts new rows into a table, in order, so that rows behind others are added at the end.
+fn put_all(table: &mut BgpTable, mut news: Vec<NewRow>) -> Result<(), AllocError>
     requires { All (IsNew (length table.old)) news.items }
     ensures count { length table.new ≡ length table.old }
     ensures leads { OnOk result ((target : ℕ → Cidr → List Chosen)
         → Leads target table.old (map row_change news.items)
         → (router : ℕ) (p : Cidr) → chosen_at table.new router p ≡ target router p) }
 {
-    'news: for new in news {
+    news.reverse();
+    'news: while let Some(new) = news.pop() {
         table.put(new.router, new.prefix, new.chosen)?;
     }
     Ok(())

@@ -50,8 +50,8 @@ pub fn round_changed(
     ensures table { IfOk result (λ r. r.0 ≡ next inputs.entry old) }
     ensures changed { IfOk result (λ r. IsDifference old r.0 r.1.rows.items) }
 {
-    let keys = woken_in_order(alloc, inputs.network, hearers, &changed.rows)?;
     let _count = old.count();
+    let keys = woken_in_order(alloc, inputs.network, hearers, &changed.rows)?;
     let made = renew(alloc, inputs, old, &keys)?;
     Ok(made)
 }

@@ -29,7 +29,7 @@ pub fn settle_table(
     }
     let hearers = Hearers::new(alloc, inputs)?;
     let (mut table, mut changed) = first_round(alloc, inputs)?;
-    'rounds: for _made in 1..rounds {
+    'rounds: for _more in 0..rounds - 1 {
         if changed.rows.is_empty() {
             return Ok(Some(table));
         }

@@ -9,11 +9,11 @@ pub mod BgpRows
 pub mod ByPrefix
 pub mod InOrder
 mod RowEdits
-mod TableEdits
+pub mod TableEdits
 pub mod RowCount
 pub mod Ordered
 pub mod Owner
 mod ByLevels
-mod SameTables
+pub mod SameTables
 pub mod WithoutRoutes
 pub mod Settled

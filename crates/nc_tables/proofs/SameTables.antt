@@ -96,7 +96,7 @@ route_itself a =
     and_from _ _ (same_itself a.prefix) (and_from _ _ (numbers_itself a.path) (and_from _ _ (nat_itself a.next_hop.0) (and_from _ _ (nat_itself a.preference)
     (and_from _ _ (nat_itself a.metric) (and_from _ _ (nat_itself (origin_rank a.origin)) (numbers_itself a.communities))))))
 
-candidate_is : (a b : Chosen) → same_candidate a b ≡ true → a ≡ b
+pub candidate_is : (a b : Chosen) → same_candidate a b ≡ true → a ≡ b
 candidate_is a b e =
     let e1 = (and_parts (same_route a.route b.route) _ e).1 in
     let e2 = (and_parts (same_from a.from b.from) _ e1).1 in
@@ -112,7 +112,7 @@ candidate_is a b e =
     ∙ ap (λ (v : Addr). record b { sender_id = v; sender = a.sender }) p3
     ∙ ap (λ (v : Addr). record b { sender = v }) p4
 
-candidate_itself : (a : Chosen) → same_candidate a a ≡ true
+pub candidate_itself : (a : Chosen) → same_candidate a a ≡ true
 candidate_itself a =
     and_from _ _ (route_itself a.route) (and_from _ _ (and_from _ _ (nat_itself (class_of a.from)) (nat_itself (place_of a.from))) (and_from _ _ (nat_itself (internal_rank a.internal))
     (and_from _ _ (nat_itself a.sender_id.0) (nat_itself a.sender.0))))

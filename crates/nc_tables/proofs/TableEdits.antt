@@ -21,7 +21,7 @@ module _ {A B : Type 0} (f : A → List B) where
   set_elsewhere (x ∷ xs) (suc i) y zero other = refl
   set_elsewhere (x ∷ xs) (suc i) y (suc r) other = set_elsewhere xs i y r (λ e. other (ap suc e))
 
-  set_at : (xs : List A) (i : ℕ) (y : A) (r : ℕ) → i < length xs → get_or (map f (set xs i y)) r [] ≡ cond (r == i) (f y) (get_or (map f xs) r [])
+  pub set_at : (xs : List A) (i : ℕ) (y : A) (r : ℕ) → i < length xs → get_or (map f (set xs i y)) r [] ≡ cond (r == i) (f y) (get_or (map f xs) r [])
   set_at xs i y r lt = on (r == i) refl
     where
       on : (b : Bool) → (r == i) ≡ b → get_or (map f (set xs i y)) r [] ≡ cond b (f y) (get_or (map f xs) r [])

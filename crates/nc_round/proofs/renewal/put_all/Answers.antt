@@ -1,0 +1,41 @@
+use Rattle.std.proofs.Common.{◌≡◌, ◌++◌, ◌∷◌, ◌<◌, ℕ, [], List, All, length, map, sym, ap, subst, ◌∙◌, arith, rules}
+use Rattle.std.proofs.lemmas.List.{length-map, map_push}
+use Rattle.std.proofs.lemmas.List.Sorted.{All-permutation}
+use Rattle.nc_types.specs.Cidr.{Cidr}
+use Rattle.nc_types.proofs.Members.{In, in_left, all_in, all_by_in}
+use Rattle.nc_tables.specs.declared.bgp.Chosen.{Chosen}
+use Rattle.nc_tables.specs.Rounds.{chosen_at}
+use Rattle.nc_round.specs.declared.new_row.NewRow.{NewRow}
+use Rattle.nc_round.specs.Renewing.{RowChange, row_change, IsNew, Leads}
+use Rattle.nc_round.proofs.NewRows.{key_of, leads_moved, leads_put}
+use Rattle.nc_round.proofs.renewal.put_all.Goals as goal
+
+pub news-init : goal.news-init
+news-init c = record {
+  count = search rules;
+  news = All-permutation (IsNew (length c.args.table.now)) c.args.news.items c.reverse.new.self.items c.reverse.ensures.permutation c.requires;
+  leads = λ target leads. leads_moved target c.args.table.now c.args.news.items c.reverse.new.self.items c.reverse.ensures.permutation leads;
+}
+
+pub news-preserved : goal.news-preserved
+news-preserved c =
+    let rest = c.pop.new.self.items in
+    let new = c.in-Some.new in
+    let items : c.news.news.items ≡ rest ++ new ∷ [] = c.in-Some.ensures.items in
+    record {
+      count = c.in_ok-put.ensures.count ∙ c.news.invariant.count;
+      news = all_by_in (IsNew (length c.args.table.now)) rest (λ n i. all_in (IsNew (length c.args.table.now)) c.news.news.items c.news.invariant.news n (subst (In n) (sym items) (in_left rest (new ∷ []) n i)));
+      leads = λ target leads.
+          leads_put target c.news.table c.put.new.self (map row_change rest) (row_change new) c.in_ok-put.ensures.put
+          (subst (Leads target c.news.table) (ap (map row_change) items ∙ map_push row_change rest new) (c.news.invariant.leads target leads));
+    }
+
+pub returns-clause-leads : goal.returns-clause-leads
+returns-clause-leads c target leads router p =
+    let news = c.news.news.items in
+    let none : length news ≡ 0 = search rules in
+    (c.news.invariant.leads target leads).others router p (λ some.
+        let keys : length (map key_of (map row_change news)) ≡ length (map row_change news) = length-map (map row_change news) key_of in
+        let changes : length (map row_change news) ≡ length news = length-map news row_change in
+        let lt : some.0 < length (map key_of (map row_change news)) = some.1 in
+        absurd (omega arith))
