@@ -17,10 +17,10 @@ use Rattle.nc_tables.specs.Settling.{same_list, same_candidate}
 use Rattle.nc_tables.proofs.ByPrefix.{same_itself}
 use Rattle.nc_tables.proofs.InOrder.{same_rows}
 use Rattle.nc_tables.proofs.SameTables.{same_list_is, same_list_itself, candidate_is, candidate_itself}
-use Rattle.nc_round.specs.declared.inputs.Inputs.{Inputs}
+use Rattle.nc_message.specs.declared.given.Given.{Given}
 use Rattle.nc_round.specs.declared.new_row.NewRow.{NewRow}
 use Rattle.nc_round.specs.Keys.{Key, key, key_cmp, AreInOrder}
-use Rattle.nc_round.specs.Inputs.{next}
+use Rattle.nc_round.specs.Given.{next}
 use Rattle.nc_round.specs.Changes.{IsDifference}
 use Rattle.nc_round.specs.Renewing.{RowChange, row_change, change_at, AreEnough, Leads}
 use Rattle.nc_round.proofs.KeyOrder.{same_key, same_key_is, key_itself}
@@ -86,7 +86,7 @@ module _ (target : ℕ → Cidr → List Chosen) where
 
 -- ---- what is new of a row
 
-module _ (i : Inputs) (table : List (List BgpRowView)) where
+module _ (i : Given) (table : List (List BgpRowView)) where
   abbrev pub anew : Key → List Chosen
   anew k = chosen_anew i.network.now i.base.now i.sessions.now table k.0.0 k.1
 
@@ -125,7 +125,7 @@ module _ (i : Inputs) (table : List (List BgpRowView)) where
 
 -- ---- all that may differ
 
-module _ (i : Inputs) (table : List (List BgpRowView)) (keys : List Key) (enough : AreEnough i table keys) where
+module _ (i : Given) (table : List (List BgpRowView)) (keys : List Key) (enough : AreEnough i table keys) where
   abbrev pub target : ℕ → Cidr → List Chosen
   target router p = chosen_at (next i table) router p
 
@@ -168,9 +168,9 @@ module _ (i : Inputs) (table : List (List BgpRowView)) (keys : List Key) (enough
     differ = all_over (λ (k : Key). (chosen_at table k.0.0 k.1 ≡ chosen_at new k.0.0 k.1) → ⊥) key_of changes
         (all_made (λ (c : RowChange). (chosen_at table c.key.0.0 c.key.1 ≡ chosen_at new c.key.0.0 c.key.1) → ⊥) (change_at i table) (λ (k : Key). k.0.0 < length i.network.now)
         (λ k c e lt same.
-            let is = is_change i table k c e in
-            let old : chosen_at table k.0.0 k.1 ≡ chosen_at new k.0.0 k.1 = ap (λ (q : Key). chosen_at table q.0.0 q.1) is.row ∙ same ∙ sym (ap (λ (q : Key). chosen_at new q.0.0 q.1) is.row) in
-            is.differs (sym (old ∙ ap (λ (t : List (List BgpRowView)). chosen_at t k.0.0 k.1) made ∙ target_is k lt))) keys enough.within);
+        let is = is_change i table k c e in
+        let old : chosen_at table k.0.0 k.1 ≡ chosen_at new k.0.0 k.1 = ap (λ (q : Key). chosen_at table q.0.0 q.1) is.row ∙ same ∙ sym (ap (λ (q : Key). chosen_at new q.0.0 q.1) is.row) in
+        is.differs (sym (old ∙ ap (λ (t : List (List BgpRowView)). chosen_at t k.0.0 k.1) made ∙ target_is k lt))) keys enough.within);
     all = λ router p none. others router p none ∙ sym (ap (λ (t : List (List BgpRowView)). chosen_at t router p) made);
   }
 

@@ -15,9 +15,9 @@ use Rattle.nc_tables.specs.declared.bgp.Chosen.{Chosen}
 use Rattle.nc_tables.specs.Sessions.{process_of, session_in}
 use Rattle.nc_tables.specs.Rounds.{BgpRowView, AreBgpRows, chosen_in, chosen_at, chosen_anew, is_longer_in, session_by, prefixes_in, prefixes, no_routes}
 use Rattle.nc_tables.proofs.ByPrefix.{same_itself}
-use Rattle.nc_round.specs.declared.inputs.Inputs.{Inputs}
+use Rattle.nc_message.specs.declared.given.Given.{Given}
 use Rattle.nc_round.specs.Keys.{Key, key, AreInOrder}
-use Rattle.nc_round.specs.Inputs.{AreInputs, next}
+use Rattle.nc_round.specs.Given.{AreOfNetwork, next}
 use Rattle.nc_round.specs.Hearing.{heard, hearers_from, AreHearers, aggregates_of, woken_by, begun_from}
 use Rattle.nc_round.specs.Changes.{IsDifference, IsRoundOf, ReadAlike}
 use Rattle.nc_round.specs.Renewing.{AreEnough}
@@ -70,8 +70,8 @@ by_hearers number (rows ∷ more) peer r i = on (by_hearers (suc number) more pe
 
 -- ---- what changed
 
-module _ (i : Inputs) (hearers : List (List RouterId)) (before table : List (List BgpRowView)) (changed : List Key)
-    (are : AreInputs i) (hear : AreHearers i.sessions.now hearers) (rows_table : All AreBgpRows table) (made : IsRoundOf i.network.now i.base.now i.sessions.now before table changed) where
+module _ (i : Given) (hearers : List (List RouterId)) (before table : List (List BgpRowView)) (changed : List Key)
+    (are : AreOfNetwork i) (hear : AreHearers i.sessions.now hearers) (rows_table : All AreBgpRows table) (made : IsRoundOf i.network.now i.base.now i.sessions.now before table changed) where
   abbrev routers : List ConfigView
   routers = i.network.now
 
@@ -187,7 +187,7 @@ none_there [] router p = refl
 none_there (c ∷ cs) zero p = refl
 none_there (c ∷ cs) (suc router) p = none_there cs router p
 
-module _ (i : Inputs) where
+module _ (i : Given) where
   -- from no route anywhere a round makes those rows alone that routers begin themselves
   first_others : (router : ℕ) (p : Cidr) → (In (key router p) (begun_from 0 i.network.now) → ⊥) → chosen_at (no_routes i.network.now) router p ≡ chosen_at (next i (no_routes i.network.now)) router p
   first_others router p none = none_there i.network.now router p ∙ sym (elim (cases_lt router (length i.network.now)) [

@@ -5,9 +5,9 @@ use Rattle.nc_types.specs.Cidr.{Cidr}
 use Rattle.nc_tables.specs.declared.bgp.Chosen.{Chosen}
 use Rattle.nc_tables.specs.Rounds.{BgpRowView, chosen_at, chosen_anew, prefixes}
 use Rattle.nc_tables.specs.Settling.{same_list, same_candidate}
-use Rattle.nc_round.specs.declared.inputs.Inputs.{Inputs}
+use Rattle.nc_message.specs.declared.given.Given.{Given}
 use Rattle.nc_round.specs.declared.new_row.NewRow.{NewRow}
-use Rattle.nc_round.specs.Inputs.{next}
+use Rattle.nc_round.specs.Given.{next}
 use Rattle.nc_round.specs.Keys.{Key, key, AreInOrder}
 
 -- what is chosen anew of a row
@@ -25,17 +25,17 @@ pub record IsNew (count : ℕ) (n : NewRow) : Type 0 where
   pub few : length n.chosen.items ≤ MULTIPATH_LIMIT
 
 -- what is chosen anew of a row, if it differs
-abbrev pub change_at : Inputs → List (List BgpRowView) → Key → Option RowChange
+abbrev pub change_at : Given → List (List BgpRowView) → Key → Option RowChange
 change_at i table k =
     let anew = chosen_anew i.network.now i.base.now i.sessions.now table k.0.0 k.1 in
     if same_list same_candidate anew (chosen_at table k.0.0 k.1) then None else Some (record { key = k; chosen = anew })
 
 -- nothing is chosen of a prefix that no router begins
-abbrev pub IsKnown : Inputs → List (List BgpRowView) → Type 0
+abbrev pub IsKnown : Given → List (List BgpRowView) → Type 0
 IsKnown i table = (router : ℕ) (p : Cidr) → ¬ Contains (prefixes i.network.now) p → chosen_at table router p ≡ []
 
 -- rows in order, such that a round changes no other
-pub record AreEnough (i : Inputs) (table : List (List BgpRowView)) (keys : List Key) : Type 0 where
+pub record AreEnough (i : Given) (table : List (List BgpRowView)) (keys : List Key) : Type 0 where
   pub count : length table ≡ length i.network.now
   pub known : IsKnown i table
   pub ordered : AreInOrder keys

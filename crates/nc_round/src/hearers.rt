@@ -2,9 +2,9 @@
 
 ghost use Rattle.std.specs.Prelude.{◌≡◌, ◌<◌, ◌==◌, ◌∷◌, ◌++◌, [], ℕ, length, map, IfOk, OnOk, slice_index_or, if◌then◌else◌};
 ghost use Rattle.nc_round.specs.Hearing.{heard, AreHearers};
-ghost use Rattle.nc_round.specs.Inputs.{AreInputs};
+ghost use Rattle.nc_round.specs.Given.{AreOfNetwork};
 
-use crate::inputs::Inputs;
+use nc_message::Given;
 use nc_tables::SessionRow;
 use nc_types::RouterId;
 use std::alloc::{AllocError, Global};
@@ -83,15 +83,15 @@ impl Hearers {
     /// # Errors
     ///
     /// Memory that runs out.
-    pub fn new(alloc: Global, inputs: Inputs<'_>) -> Result<Hearers, AllocError>
-        requires { AreInputs inputs }
-        ensures { IfOk result (AreHearers inputs.entry.sessions.now) }
+    pub fn new(alloc: Global, given: Given<'_>) -> Result<Hearers, AllocError>
+        requires { AreOfNetwork given }
+        ensures { IfOk result (AreHearers given.entry.sessions.now) }
     {
-        let count = inputs.network.routers().len();
+        let count = given.network.routers().len();
         let mut routers = no_hearers(alloc, count)?;
         'routers: for router in 0..count {
             let router = RouterId(router as u32);
-            add_hearers(&mut routers, router, inputs.sessions.rows(router))?;
+            add_hearers(&mut routers, router, given.sessions.rows(router))?;
         }
         Ok(Hearers { routers })
     }

@@ -5,14 +5,13 @@ ghost use Rattle.std.specs.List.{cons_option, filter_map};
 ghost use Rattle.nc_types.specs.Cidr.{Cidr};
 ghost use Rattle.nc_tables.specs.declared.bgp.Chosen.{Chosen};
 ghost use Rattle.nc_tables.specs.Rounds.{chosen_at};
-ghost use Rattle.nc_round.specs.Inputs.{AreInputs, next};
+ghost use Rattle.nc_round.specs.Given.{AreOfNetwork, next};
 ghost use Rattle.nc_round.specs.Changes.{IsDifference};
 ghost use Rattle.nc_round.specs.Renewing.{row_change, change_at, AreEnough, IsNew, Leads};
 
 use crate::changed::Changed;
-use crate::chosen::chosen_anew;
-use crate::inputs::Inputs;
 use crate::new_row::NewRow;
+use nc_message::{Given, chosen_anew};
 use nc_tables::{BgpTable, Chosen, same_candidate};
 use nc_types::{Prefix, RouterId};
 use std::alloc::{AllocError, Global};
@@ -36,20 +35,29 @@ fn same_chosen(a: &[Chosen], b: &[Chosen]) -> bool
 fn add_new(
     alloc: Global,
     news: &mut Vec<NewRow>,
-    inputs: Inputs<'_>,
+    given: Given<'_>,
     table: &BgpTable,
     row: (RouterId, Prefix),
 ) -> Result<(), AllocError>
-    requires inputs { AreInputs inputs }
-    requires table { length table.now ≡ length inputs.network.now }
-    requires router { row.0.0 < length inputs.network.now }
-    requires news { All (IsNew (length inputs.network.now)) news.old.items }
+    requires given { AreOfNetwork given }
+    requires table { length table.now ≡ length given.network.now }
+    requires router { row.0.0 < length given.network.now }
+    requires news { All (IsNew (length given.network.now)) news.old.items }
     ensures rows { OnOk result (map row_change news.new.items ≡ map row_change news.old.items
-        ++ cons_option (change_at inputs.entry table.now row) []) }
-    ensures news { All (IsNew (length inputs.entry.network.now)) news.new.items }
+        ++ cons_option (change_at given.entry table.now row) []) }
+    ensures news { All (IsNew (length given.entry.network.now)) news.new.items }
 {
     let (router, prefix) = row;
-    let chosen = chosen_anew(alloc, inputs, table, router, prefix)?;
+    let chosen = chosen_anew(
+        alloc,
+        given.network,
+        given.base,
+        given.sessions,
+        given.policies,
+        table,
+        router,
+        prefix,
+    )?;
     if same_chosen(&chosen, table.chosen(router, prefix)) {
         return Ok(());
     }
@@ -64,20 +72,20 @@ fn add_new(
 // What is chosen anew of rows, of each that differs.
 fn news_of(
     alloc: Global,
-    inputs: Inputs<'_>,
+    given: Given<'_>,
     table: &BgpTable,
     keys: &[(RouterId, Prefix)],
 ) -> Result<Vec<NewRow>, AllocError>
-    requires inputs { AreInputs inputs }
-    requires table { length table.now ≡ length inputs.network.now }
-    requires keys { All (λ k. k.0.0 < length inputs.network.now) keys.now }
+    requires given { AreOfNetwork given }
+    requires table { length table.now ≡ length given.network.now }
+    requires keys { All (λ k. k.0.0 < length given.network.now) keys.now }
     ensures rows { IfOk result (λ news. map row_change news.items
-        ≡ filter_map (change_at inputs.entry table.now) keys.now) }
-    ensures news { IfOk result (λ news. All (IsNew (length inputs.entry.network.now)) news.items) }
+        ≡ filter_map (change_at given.entry table.now) keys.now) }
+    ensures news { IfOk result (λ news. All (IsNew (length given.entry.network.now)) news.items) }
 {
     let mut news = Vec::new(alloc);
     'keys: for row in keys {
-        add_new(alloc, &mut news, inputs, table, *row)?;
+        add_new(alloc, &mut news, given, table, *row)?;
     }
     Ok(news)
 }
@@ -112,16 +120,16 @@ fn put_all(table: &mut BgpTable, mut news: Vec<NewRow>) -> Result<(), AllocError
 /// aren't visited.
 pub(crate) fn renew(
     alloc: Global,
-    inputs: Inputs<'_>,
+    given: Given<'_>,
     mut table: BgpTable,
     keys: &[(RouterId, Prefix)],
 ) -> Result<(BgpTable, Changed), AllocError>
-    requires inputs { AreInputs inputs }
-    requires keys { AreEnough inputs table keys.now }
-    ensures table { IfOk result (λ r. r.0 ≡ next inputs.entry table) }
+    requires given { AreOfNetwork given }
+    requires keys { AreEnough given table keys.now }
+    ensures table { IfOk result (λ r. r.0 ≡ next given.entry table) }
     ensures changed { IfOk result (λ r. IsDifference table r.0 r.1.rows.items) }
 {
-    let news = news_of(alloc, inputs, &table, keys)?;
+    let news = news_of(alloc, given, &table, keys)?;
     let rows = keys_of(alloc, &news)?;
     put_all(&mut table, news)?;
     let _count = table.count();

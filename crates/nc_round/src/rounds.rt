@@ -1,14 +1,14 @@
 ghost use Rattle.std.specs.Prelude.{◌≡◌, List, IfOk, length};
 ghost use Rattle.nc_tables.specs.Rounds.{BgpRowView, no_routes};
 ghost use Rattle.nc_round.specs.Hearing.{AreHearers};
-ghost use Rattle.nc_round.specs.Inputs.{AreInputs, next};
+ghost use Rattle.nc_round.specs.Given.{AreOfNetwork, next};
 ghost use Rattle.nc_round.specs.Changes.{IsDifference, IsRoundOf};
 
 use crate::changed::Changed;
 use crate::hearers::Hearers;
-use crate::inputs::Inputs;
 use crate::renewal::renew;
 use crate::waking::{begun_in_order, woken_in_order};
+use nc_message::Given;
 use nc_tables::BgpTable;
 use std::alloc::{AllocError, Global};
 
@@ -17,14 +17,14 @@ use std::alloc::{AllocError, Global};
 /// # Errors
 ///
 /// Memory that runs out.
-pub fn first_round(alloc: Global, inputs: Inputs<'_>) -> Result<(BgpTable, Changed), AllocError>
-    requires inputs { AreInputs inputs }
-    ensures table { IfOk result (λ r. r.0 ≡ next inputs.entry (no_routes inputs.entry.network.now)) }
-    ensures changed { IfOk result (λ r. IsDifference (no_routes inputs.entry.network.now) r.0 r.1.rows.items) }
+pub fn first_round(alloc: Global, given: Given<'_>) -> Result<(BgpTable, Changed), AllocError>
+    requires given { AreOfNetwork given }
+    ensures table { IfOk result (λ r. r.0 ≡ next given.entry (no_routes given.entry.network.now)) }
+    ensures changed { IfOk result (λ r. IsDifference (no_routes given.entry.network.now) r.0 r.1.rows.items) }
 {
-    let none = BgpTable::without_routes(alloc, inputs.network)?;
-    let keys = begun_in_order(alloc, inputs.network)?;
-    let made = renew(alloc, inputs, none, &keys)?;
+    let none = BgpTable::without_routes(alloc, given.network)?;
+    let keys = begun_in_order(alloc, given.network)?;
+    let made = renew(alloc, given, none, &keys)?;
     Ok(made)
 }
 
@@ -38,20 +38,20 @@ pub fn first_round(alloc: Global, inputs: Inputs<'_>) -> Result<(BgpTable, Chang
 /// Memory that runs out.
 pub fn round_changed(
     alloc: Global,
-    inputs: Inputs<'_>,
+    given: Given<'_>,
     hearers: &Hearers,
     old: BgpTable,
     changed: Changed,
 ) -> Result<(BgpTable, Changed), AllocError>
-    requires inputs { AreInputs inputs }
-    requires hearers { AreHearers inputs.sessions.now hearers.now }
+    requires given { AreOfNetwork given }
+    requires hearers { AreHearers given.sessions.now hearers.now }
     requires made { (before : List (List BgpRowView))
-        × IsRoundOf inputs.network.now inputs.base.now inputs.sessions.now before old changed.rows.items }
-    ensures table { IfOk result (λ r. r.0 ≡ next inputs.entry old) }
+        × IsRoundOf given.network.now given.base.now given.sessions.now before old changed.rows.items }
+    ensures table { IfOk result (λ r. r.0 ≡ next given.entry old) }
     ensures changed { IfOk result (λ r. IsDifference old r.0 r.1.rows.items) }
 {
     let _count = old.count();
-    let keys = woken_in_order(alloc, inputs.network, hearers, &changed.rows)?;
-    let made = renew(alloc, inputs, old, &keys)?;
+    let keys = woken_in_order(alloc, given.network, hearers, &changed.rows)?;
+    let made = renew(alloc, given, old, &keys)?;
     Ok(made)
 }

@@ -1,10 +1,10 @@
 ghost use Rattle.std.specs.Prelude.{IfOk, MatchOption};
 ghost use Rattle.nc_tables.specs.Rounds.{IsStable, IsUnstable};
-ghost use Rattle.nc_round.specs.Inputs.{AreInputs};
+ghost use Rattle.nc_round.specs.Given.{AreOfNetwork};
 
 use crate::hearers::Hearers;
-use crate::inputs::Inputs;
 use crate::rounds::{first_round, round_changed};
+use nc_message::Given;
 use nc_tables::BgpTable;
 use std::alloc::{AllocError, Global};
 
@@ -16,24 +16,24 @@ use std::alloc::{AllocError, Global};
 /// Memory that runs out.
 pub fn settle_table(
     alloc: Global,
-    inputs: Inputs<'_>,
+    given: Given<'_>,
     rounds: u32,
 ) -> Result<Option<BgpTable>, AllocError>
-    requires inputs { AreInputs inputs }
+    requires given { AreOfNetwork given }
     ensures { IfOk result (λ settled. MatchOption settled
-        (IsUnstable inputs.entry.network.now inputs.entry.base.now inputs.entry.sessions.now rounds)
-        (IsStable inputs.entry.network.now inputs.entry.base.now inputs.entry.sessions.now rounds)) }
+        (IsUnstable given.entry.network.now given.entry.base.now given.entry.sessions.now rounds)
+        (IsStable given.entry.network.now given.entry.base.now given.entry.sessions.now rounds)) }
 {
     if rounds == 0 {
         return Ok(None);
     }
-    let hearers = Hearers::new(alloc, inputs)?;
-    let (mut table, mut changed) = first_round(alloc, inputs)?;
+    let hearers = Hearers::new(alloc, given)?;
+    let (mut table, mut changed) = first_round(alloc, given)?;
     'rounds: for _more in 0..rounds - 1 {
         if changed.rows.is_empty() {
             return Ok(Some(table));
         }
-        let next = round_changed(alloc, inputs, &hearers, table, changed)?;
+        let next = round_changed(alloc, given, &hearers, table, changed)?;
         (table, changed) = next;
     }
     if changed.rows.is_empty() {

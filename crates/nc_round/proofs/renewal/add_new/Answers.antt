@@ -10,7 +10,7 @@ use Rattle.nc_round.proofs.renewal.add_new.Goals as goal
 
 pub returns-then-same_chosen-clause-rows : goal.returns-then-same_chosen-clause-rows
 returns-then-same_chosen-clause-rows c =
-    let i = c.args.inputs in
+    let i = c.args.given in
     let t = c.args.table.now in
     let k = c.args.row in
     let same : c.deref.result.now ≡ c.chosen.result.now = c.same_chosen.ensures.0 c.if-same_chosen.true in
@@ -19,16 +19,16 @@ returns-then-same_chosen-clause-rows c =
 
 pub returns-clause-rows : goal.returns-clause-rows
 returns-clause-rows c =
-    let i = c.args.inputs in
+    let i = c.args.given in
     let t = c.args.table.now in
     let k = c.args.row in
     let news = c.args.news.now.items in
     let chosen : c.in_ok-chosen.chosen.items ≡ anew i t k = c.in_ok-chosen.ensures.chosen in
     let change : RowChange = record { key = k; chosen = anew i t k } in
     let differs : anew i t k ≡ chosen_at t k.0.0 k.1 → ⊥ = λ e.
-        let same : c.deref.result.now ≡ c.chosen.result.now = c.deref.ensures.value ∙ chosen ∙ e ∙ sym c.chosen.ensures.chosen in
-        let is = c.same_chosen.ensures.1 same in
-        absurd (search rules) in
+    let same : c.deref.result.now ≡ c.chosen.result.now = c.deref.ensures.value ∙ chosen ∙ e ∙ sym c.chosen.ensures.chosen in
+    let is = c.same_chosen.ensures.1 same in
+    absurd (search rules) in
     ap (map row_change) c.in_ok-push.ensures.items
     ∙ map_push row_change news (record { router = k.0; prefix = k.1; chosen = c.in_ok-chosen.chosen })
     ∙ ap (λ (cs : List Chosen). map row_change news ++ record { key = k; chosen = cs } ∷ []) chosen

@@ -35,7 +35,7 @@ returns-clause-leads c target leads router p =
     let news = c.news.news.items in
     let none : length news ≡ 0 = search rules in
     (c.news.invariant.leads target leads).others router p (λ some.
-        let keys : length (map key_of (map row_change news)) ≡ length (map row_change news) = length-map (map row_change news) key_of in
-        let changes : length (map row_change news) ≡ length news = length-map news row_change in
-        let lt : some.0 < length (map key_of (map row_change news)) = some.1 in
-        absurd (omega arith))
+    let keys : length (map key_of (map row_change news)) ≡ length (map row_change news) = length-map (map row_change news) key_of in
+    let changes : length (map row_change news) ≡ length news = length-map news row_change in
+    let lt : some.0 < length (map key_of (map row_change news)) = some.1 in
+    absurd (omega arith))

@@ -15,15 +15,15 @@ back f rows read changed same from k c = from k (subst (λ (l : List Key). Conta
 
 pub woken_in_order-requires-clause-changed : goal.woken_in_order-requires-clause-changed
 woken_in_order-requires-clause-changed c =
-    subst (λ (l : List Key). All (λ (k : Key). k.0.0 < length c.args.inputs.network.now) l) (sym c.deref.ensures.value)
-    (changed_within c.args.inputs c.args.hearers.now c.requires.made.0 c.args.old c.args.changed.rows.items c.requires.inputs c.requires.hearers c.count-count.ensures.valid c.requires.made.1)
+    subst (λ (l : List Key). All (λ (k : Key). k.0.0 < length c.args.given.network.now) l) (sym c.deref.ensures.value)
+    (changed_within c.args.given c.args.hearers.now c.requires.made.0 c.args.old c.args.changed.rows.items c.requires.given c.requires.hearers c.count-count.ensures.valid c.requires.made.1)
 
 pub renew-requires-clause-keys : goal.renew-requires-clause-keys
 renew-requires-clause-keys c =
-    let f = woken_by c.args.inputs.network.now c.args.hearers.now in
+    let f = woken_by c.args.given.network.now c.args.hearers.now in
     let rows = c.in_ok-keys.keys.items in
     let changed = c.args.changed.rows.items in
-    subst (AreEnough c.args.inputs c.args.old) (sym c.deref-2.ensures.value)
-    (enough c.args.inputs c.args.hearers.now c.requires.made.0 c.args.old changed c.requires.inputs c.requires.hearers c.count-count.ensures.valid c.requires.made.1 rows c.in_ok-keys.ensures.ordered
+    subst (AreEnough c.args.given c.args.old) (sym c.deref-2.ensures.value)
+    (enough c.args.given c.args.hearers.now c.requires.made.0 c.args.old changed c.requires.given c.requires.hearers c.count-count.ensures.valid c.requires.made.1 rows c.in_ok-keys.ensures.ordered
     (there f rows c.deref.result.now changed c.deref.ensures.value (λ k. (c.in_ok-keys.ensures.same k).0))
     (back f rows c.deref.result.now changed c.deref.ensures.value (λ k. (c.in_ok-keys.ensures.same k).1)))

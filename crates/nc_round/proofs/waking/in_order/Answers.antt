@@ -12,8 +12,7 @@ returns-clause-ordered c =
 
 pub returns-clause-same : goal.returns-clause-same
 returns-clause-same c k =
-    let is : c.dedup.new.self.items ≡ dedup same_key c.sort_unstable.new.self.items = dedup_is same_key c.sort_unstable.new.self.items c.dedup.new.self.items c.dedup.ensures.filtered in
-    (
+    let is : c.dedup.new.self.items ≡ dedup same_key c.sort_unstable.new.self.items = dedup_is same_key c.sort_unstable.new.self.items c.dedup.new.self.items c.dedup.ensures.filtered in (
       (λ h. contains_sorted c.args.keys.items c.sort_unstable.new.self.items c.sort_unstable.ensures.permutation k (subst (λ (l : List Key). Contains l k) is h)),
       (λ h. subst (λ (l : List Key). Contains l k) (sym is) (sorted_contains c.args.keys.items c.sort_unstable.new.self.items c.sort_unstable.ensures.permutation k h)),
     )
