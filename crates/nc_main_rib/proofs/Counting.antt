@@ -104,7 +104,7 @@ nearer_count (row ∷ more) (other ∷ others) = on (nat_le row.distance other.d
     on true = omega arith
     on false = omega arith
 
-distinct_count : (ps : List Cidr) → length (distinct ps) ≤ length ps
+pub distinct_count : (ps : List Cidr) → length (distinct ps) ≤ length ps
 distinct_count [] = omega arith
 distinct_count (p ∷ ps) = on (list_any (same_prefix p) ps) (distinct_count ps)
   where

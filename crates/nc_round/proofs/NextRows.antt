@@ -28,6 +28,7 @@ use Rattle.nc_tables.proofs.Ordered.{in_its_order}
 use Rattle.nc_tables.proofs.InOrder.{Up, IsBelow, HaveSome, at_head, past_head}
 use Rattle.nc_base_rib.proofs.Members.{Rises, Ascends}
 use Rattle.nc_main_rib.proofs.Ascending.{distinct_ascend, in_distinct}
+use Rattle.nc_message.proofs.Distinct.{made_few}
 use Rattle.nc_round.proofs.Lists.{among, in_flat_map, all_made, pairs_made, made_at, made_past}
 
 -- ---- what is made anew of prefixes
@@ -193,6 +194,13 @@ module _ (routers : List ConfigView) (tables : List (List BaseRow)) (sessions : 
   next_some router = elim (cases_lt router (length routers)) [
     | inl lt ↦ subst HaveSome (sym (next_at router lt)) (made_have (chosen_anew routers tables sessions table router) (prefixes routers))
     | inr le ↦ subst HaveSome (sym (next_past router le)) (All-nil (λ (row : BgpRowView). 0 < length row.chosen))
+  ]
+
+  -- a router has no more rows than there are prefixes
+  pub next_few : (router : ℕ) → length (get_or next router []) ≤ length (prefixes routers)
+  next_few router = elim (cases_lt router (length routers)) [
+    | inl lt ↦ subst (λ (rows : List BgpRowView). length rows ≤ length (prefixes routers)) (sym (next_at router lt)) (made_few (row_at routers tables sessions table router) (prefixes routers))
+    | inr le ↦ subst (λ (rows : List BgpRowView). length rows ≤ length (prefixes routers)) (sym (next_past router le)) (omega arith)
   ]
 
   -- nothing is chosen of a prefix that no router begins

@@ -8,11 +8,11 @@ use Rattle.nc_types.specs.Cidr.{Cidr}
 use Rattle.nc_types.specs.Config.{ConfigView}
 use Rattle.nc_tables.specs.declared.base.BaseRow.{BaseRow}
 use Rattle.nc_tables.specs.declared.bgp.SessionRow.{SessionRow}
-use Rattle.nc_tables.specs.Rounds.{BgpRowView, chosen_in, chosen_at, no_routes, round, after, IsSettled, IsStable, IsUnstable}
+use Rattle.nc_tables.specs.Rounds.{BgpRowView, chosen_in, chosen_at, no_routes, prefixes, round, after, IsSettled, IsStable, IsUnstable}
 use Rattle.nc_tables.proofs.InOrder.{Up, HaveSome, same_rows}
 use Rattle.nc_round.specs.Keys.{Key, key}
 use Rattle.nc_round.specs.Changes.{HaveCandidates, IsDifference, IsRoundOf}
-use Rattle.nc_round.proofs.NextRows.{next_count, next_up, next_some}
+use Rattle.nc_round.proofs.NextRows.{next_count, next_up, next_some, next_few}
 
 module _ (routers : List ConfigView) (tables : List (List BaseRow)) (sessions : List (List SessionRow)) where
   abbrev pub at : ℕ → List (List BgpRowView)
@@ -38,6 +38,11 @@ module _ (routers : List ConfigView) (tables : List (List BaseRow)) (sessions : 
   unfolding after
   after_some zero r = none_at HaveSome (All-nil (λ (row : BgpRowView). 0 < length row.chosen)) routers r
   after_some (suc k) r = next_some routers tables sessions (at k) r
+
+  pub after_few : (k r : ℕ) → length (get_or (at k) r []) ≤ length (prefixes routers)
+  unfolding after
+  after_few zero r = none_at (λ (rows : List BgpRowView). length rows ≤ length (prefixes routers)) (omega arith) routers r
+  after_few (suc k) r = next_few routers tables sessions (at k) r
 
   after_candidates : (k : ℕ) → HaveCandidates (at k)
   after_candidates k r d lt = subst HaveSome (get_or_default (at k) r [] d lt) (after_some k r)

@@ -1,1 +1,3 @@
 pub mod WithoutBgp
+pub mod Bounds
+pub mod Found

@@ -1,5 +1,5 @@
 -- Rows of BGP in order: in two lists of them the same is found exactly where they are the same, and putting one keeps them in order.
-use Rattle.std.proofs.Common.{◌≡◌, ℕ, zero, suc, ◌<◌, ◌≤◌, Bool, true, false, cond, List, [], ◌∷◌, length, get_or, All, Some, None, Option, refl, sym, ap, subst, ◌∙◌, arith}
+use Rattle.std.proofs.Common.{◌≡◌, ◌<◌, ◌≤◌, Bool, true, false, cond, List, [], ◌∷◌, length, get_or, All, Some, Option, refl, sym, ap, subst, ◌∙◌, arith}
 use Rattle.std.specs.List.{AllPairs, find}
 use Rattle.std.specs.Option.{option_map_or}
 use Rattle.std.specs.Ordering.{ordering_reverse, is_eq}
@@ -14,7 +14,7 @@ use Rattle.nc_tables.specs.Base.{prefix_cmp, same_prefix}
 use Rattle.nc_tables.specs.Rounds.{BgpRowView, chosen_in, AreBgpRows}
 use Rattle.nc_tables.specs.Edit.{row_before, by_order, put}
 use Rattle.nc_tables.proofs.SideBySide.{prefix_total, same_by_cmp}
-use Rattle.nc_tables.proofs.ByPrefix.{same_itself, less_differs, less_differs_back, pairs_cons, pairs_head, pairs_tail}
+use Rattle.nc_tables.proofs.ByPrefix.{same_itself, less_differs_back, pairs_cons, pairs_head, pairs_tail}
 use Rattle.nc_tables.proofs.Finding.{found_none}
 
 abbrev pub IsBelow : BgpRowView → BgpRowView → Type 0

@@ -38,7 +38,7 @@ statics_count : (is : List Interface) (place : ℕ) (ss : List StaticRoute) → 
 statics_count is place [] = omega arith
 statics_count is place (s ∷ ss) = one_more (λ (row : BaseRow). row) (statics_from is (place + 1) ss) (length ss) (static_row is place s) (statics_count is (place + 1) ss)
 
-few_rows : (c : ConfigView) → IsWellFormed c → length (base_table c) ≤ length c.elements
+pub few_rows : (c : ConfigView) → IsWellFormed c → length (base_table c) ≤ length c.elements
 unfolding base_table
 few_rows c formed =
     let sorted : length (base_table c) ≡ length (filter (is_nearest (candidates c)) (candidates c)) = length_in_order row_cmp (filter (is_nearest (candidates c)) (candidates c)) in

@@ -1,8 +1,8 @@
 -- Rows in a vector: setting the row of a prefix, adding it and taking it out, each in its place.
-use Rattle.std.proofs.Common.{◌≡◌, ℕ, zero, suc, ◌+◌, ◌<◌, ◌≤◌, true, false, List, [], ◌∷◌, ◌++◌, length, map, take, drop, get_or, set, refl, sym, ap, subst, ◌∙◌, arith}
-use Rattle.std.specs.List.{AllPairs, insert, remove}
+use Rattle.std.proofs.Common.{◌≡◌, ℕ, zero, suc, ◌<◌, ◌≤◌, List, [], ◌∷◌, ◌++◌, length, map, take, drop, get_or, set, refl, sym, ap, subst, ◌∙◌, arith}
+use Rattle.std.specs.List.{insert, remove}
 use Rattle.std.specs.List.Sorted.{IsNonDecreasingBy, IsPartitionPoint}
-use Rattle.std.specs.Ordering.{ordering_index, ordering_reverse, is_lt}
+use Rattle.std.specs.Ordering.{ordering_index}
 use Rattle.std.specs.declared.cmp.Ordering.{Ordering}
 use Rattle.std.specs.declared.cmp.Ordering.TheVariants.{Less, Equal, Greater}
 use Rattle.std.proofs.lemmas.List.{length-map}
@@ -17,7 +17,7 @@ use Rattle.nc_tables.specs.Edit.{row_before, by_order, put}
 use Rattle.nc_tables.proofs.SideBySide.{prefix_total}
 use Rattle.nc_tables.proofs.ByPrefix.{pairs_head, pairs_tail}
 use Rattle.nc_tables.proofs.BgpRows.{by_prefix, view_at}
-use Rattle.nc_tables.proofs.InOrder.{Up, IsBelow, equal_is, back}
+use Rattle.nc_tables.proofs.InOrder.{Up, IsBelow, back}
 
 abbrev prefix_of : BgpRow → Cidr
 prefix_of row = row.prefix

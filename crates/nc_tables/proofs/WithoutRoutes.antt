@@ -3,7 +3,6 @@ use Rattle.std.proofs.Common.{◌≡◌, ℕ, zero, suc, ◌+◌, List, [], ◌�
 use Rattle.std.specs.List.{filter_map, flat_map, range_with_len}
 use Rattle.std.specs.Option.{option_map_or}
 use Rattle.nc_types.specs.declared.config.AggregateStatement.{AggregateStatement}
-use Rattle.nc_types.specs.Cidr.{Cidr}
 use Rattle.nc_types.specs.Config.{ConfigView, ProcessView}
 use Rattle.nc_tables.specs.declared.base.BaseRow.{BaseRow}
 use Rattle.nc_tables.specs.declared.bgp.SessionRow.{SessionRow}

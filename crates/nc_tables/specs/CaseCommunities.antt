@@ -1,18 +1,16 @@
 -- Communities: lists of them, what is set, and what a message carries (worked cases community-route and community-not-sent).
-use Rattle.std.specs.Prelude.{◌≡◌, ℕ, Bool, true, false, List, [], ◌∷◌, length, map, Option, Some, None, is_some, codes, refl}
+use Rattle.std.specs.Prelude.{◌≡◌, ℕ, Bool, true, false, List, [], ◌∷◌, length, map, Some, None, is_some, codes, refl}
 use Rattle.std.specs.List.{range_with_len}
 use Rattle.std.specs.List.Sorted.{IsStrictlyIncreasing}
-use Rattle.std.specs.Option.{option_map}
 use Rattle.std.proofs.Common.{arith}
 use Rattle.nc_types.specs.Config.{ConfigView, ClauseView, CommunityListView}
 use Rattle.nc_types.specs.Communities.{gather, union, holds_all, IsSmallSet}
 use Rattle.nc_types.specs.Setting.{deciding_community, set_all}
 use Rattle.nc_types.specs.declared.communities.CommunityEntry.{CommunityEntry}
-use Rattle.nc_types.specs.declared.communities.SetCommunity.{SetCommunity}
 use Rattle.nc_types.specs.declared.config.Reference.{Reference}
 use Rattle.nc_tables.specs.declared.bgp.Route.{Route}
 use Rattle.nc_tables.specs.declared.policy.Names.{Names}
-use Rattle.nc_tables.specs.Policy.{Verdict, Deny, Permit, verdict}
+use Rattle.nc_tables.specs.Policy.{Verdict, Permit, verdict}
 use Rattle.nc_tables.specs.Rounds.{unnamed, passed, carried}
 use Rattle.nc_tables.specs.Cases.{prefix, router, refers}
 use Rattle.nc_tables.specs.CasePolicy as policy

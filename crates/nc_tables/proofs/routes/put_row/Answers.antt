@@ -1,4 +1,4 @@
-use Rattle.std.proofs.Common.{◌≡◌, ℕ, ◌<◌, ◌≤◌, length, map, subst, ap, sym, ◌∙◌, refl, arith, rules, List, get_or, slice_set}
+use Rattle.std.proofs.Common.{◌≡◌, ℕ, map, subst, ap, sym, ◌∙◌, refl, rules, List, get_or, slice_set}
 use Rattle.std.specs.List.Sorted.{IsNonDecreasingBy, IsPartitionPoint}
 use Rattle.std.specs.Ordering.{ordering_index}
 use Rattle.std.specs.declared.cmp.Ordering.TheVariants.{Less, Equal, Greater}
@@ -6,7 +6,7 @@ use Rattle.std.proofs.lemmas.List.Sorted.{answers_always}
 use Rattle.nc_types.specs.Cidr.{Cidr}
 use Rattle.nc_tables.specs.declared.bgp.BgpRow.{BgpRow}
 use Rattle.nc_tables.specs.Base.{prefix_cmp}
-use Rattle.nc_tables.specs.Rounds.{BgpRowView, bgp_row_view, AreBgpRows}
+use Rattle.nc_tables.specs.Rounds.{bgp_row_view, AreBgpRows}
 use Rattle.nc_tables.specs.Edit.{put}
 use Rattle.nc_tables.proofs.InOrder.{equal_is, rows_put}
 use Rattle.nc_tables.proofs.RowEdits.{searchable, removed, set_is, inserted, kept}
@@ -40,7 +40,7 @@ returns-then-is_empty-clause-rows c =
 pub returns-then-is_empty-2-clause-put : goal.returns-then-is_empty-2-clause-put
 returns-then-is_empty-2-clause-put c = kept c.args.prefix c.args.chosen.items c.args.rows.now.items c.in-Err.place (search rules) (search rules) (parts c.args.rows.now.items c.deref.result.now c.in-Err.place c.args.prefix c.deref.ensures.value c.requires.rows (c.in-Err.ensures.position (λ (row : BgpRow). row.prefix) (answers_always _ _ _ (λ f a r g called. search rules))))
 
-set_row : (c : After-drop-index_mut) → map bgp_row_view (slice_set c.args.rows.now.items c.in-Ok.place record {prefix = c.index_mut.result.now.prefix; chosen = c.args.chosen}) ≡ put c.args.prefix c.args.chosen.items (map bgp_row_view c.args.rows.now.items)
+set_row : (c : After-drop-index_mut) → map bgp_row_view (slice_set c.args.rows.now.items c.in-Ok.place record { prefix = c.index_mut.result.now.prefix; chosen = c.args.chosen }) ≡ put c.args.prefix c.args.chosen.items (map bgp_row_view c.args.rows.now.items)
 set_row c =
     let d = c.index_mut.result.now in
     let y : BgpRow = record { prefix = d.prefix; chosen = c.args.chosen } in

@@ -4,7 +4,7 @@ use Rattle.nc_types.specs.Config.{config_view}
 use Rattle.nc_tables.specs.declared.bgp.BgpRow.{BgpRow}
 use Rattle.nc_tables.specs.Rounds.{bgp_row_view}
 use Rattle.nc_tables.proofs.WithoutRoutes.{all_empty, no_routes_is}
-use Rattle.nc_stable.proofs.settle.no_routes.Goals as goal
+use Rattle.nc_stable.proofs.without_routes.no_routes.Goals as goal
 
 pub returns : goal.returns
 returns c =

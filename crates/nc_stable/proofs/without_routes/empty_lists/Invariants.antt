@@ -1,5 +1,5 @@
 use Rattle.std.proofs.Common.{◌≡◌, ◌≤◌, ◌-◌, [], All, length}
-use Rattle.nc_stable.proofs.settle.empty_lists.Given as goal
+use Rattle.nc_stable.proofs.without_routes.empty_lists.Given as goal
 
 abbrev pub invariant-lists : goal.invariant-lists
 invariant-lists g l = record {

@@ -2,7 +2,7 @@ use Rattle.std.proofs.Common.{◌≡◌, All, map}
 use Rattle.std.specs.List.{range_with_len}
 use Rattle.nc_tables.specs.Rounds.{no_routes}
 use Rattle.nc_tables.specs.Main.{AreMainRows, main_table}
-use Rattle.nc_stable.proofs.settle.main_tables.Given as goal
+use Rattle.nc_stable.proofs.without_routes.main_tables.Given as goal
 
 abbrev pub invariant-routers : goal.invariant-routers
 invariant-routers l = record {

@@ -1,6 +1,6 @@
 use Rattle.std.proofs.Common.{◌≡◌, ◌++◌, drop}
 use Rattle.nc_stable.specs.MainRows.{main_rows}
-use Rattle.nc_stable.proofs.settle.main_rows.Given as goal
+use Rattle.nc_stable.proofs.without_routes.main_rows.Given as goal
 
 -- the main rows so far and those of the base rows that are left are all rows
 abbrev pub invariant-rows : goal.invariant-rows

@@ -2,7 +2,7 @@ use Rattle.std.proofs.Common.{◌≡◌, Some, sym, ap, subst, ◌∙◌}
 use Rattle.nc_tables.specs.State.{StateView, IsState, static_state}
 use Rattle.nc_tables.proofs.Settled.{without_routes}
 use Rattle.nc_stable.proofs.WithoutBgp.{static_is, is_state}
-use Rattle.nc_stable.proofs.settle.settle_static.Goals as goal
+use Rattle.nc_stable.proofs.without_routes.settle_static.Goals as goal
 
 pub new-requires : goal.new-requires
 new-requires c =

@@ -13,7 +13,7 @@ use Rattle.std.specs.List.Sorted.{IsSorted}
 use Rattle.nc_tables.proofs.RowCount.{few_base_rows}
 use Rattle.nc_stable.specs.MainRows.{main_rows}
 use Rattle.nc_stable.proofs.WithoutBgp.{main_is}
-use Rattle.nc_stable.proofs.settle.main_tables.Goals as goal
+use Rattle.nc_stable.proofs.without_routes.main_tables.Goals as goal
 
 pub main_rows-requires-clause-few : goal.main_rows-requires-clause-few
 main_rows-requires-clause-few c =

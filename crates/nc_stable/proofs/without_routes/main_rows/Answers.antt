@@ -4,7 +4,7 @@ use Rattle.nc_tables.specs.declared.bgp.MainRow.{MainRow}
 use Rattle.nc_tables.specs.Main.{AreMainRows}
 use Rattle.nc_stable.specs.MainRows.{main_rows}
 use Rattle.nc_stable.proofs.WithoutBgp.{are_main}
-use Rattle.nc_stable.proofs.settle.main_rows.Goals as goal
+use Rattle.nc_stable.proofs.without_routes.main_rows.Goals as goal
 
 pub returns-clause-valid : goal.returns-clause-valid
 returns-clause-valid c =

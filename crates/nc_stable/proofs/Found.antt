@@ -1,0 +1,47 @@
+-- The state that is computed over so many rounds, from the table that no round changes; and a network that has none.
+use Rattle.std.proofs.Common.{◌≡◌, ℕ, List, Option, Some, None, refl, sym, ap, subst, ◌∙◌}
+use Rattle.std.specs.Option.{MatchOption, option_map}
+use Rattle.nc_types.specs.Config.{ConfigView}
+use Rattle.nc_tables.specs.declared.base.BaseRow.{BaseRow}
+use Rattle.nc_tables.specs.declared.bgp.SessionRow.{SessionRow}
+use Rattle.nc_tables.specs.declared.bgp.MainRow.{MainRow}
+use Rattle.nc_tables.specs.Base.{base_tables}
+use Rattle.nc_tables.specs.Sessions.{sessions}
+use Rattle.nc_tables.specs.Main.{main_tables}
+use Rattle.nc_tables.specs.Rounds.{BgpRowView, IsStable, IsUnstable}
+use Rattle.nc_tables.specs.State.{StateView, state_at}
+use Rattle.nc_tables.specs.Settling.{settled_table, settled}
+use Rattle.nc_tables.proofs.Settled.{found, stable_found}
+
+module _ (routers : List ConfigView) (base : List (List BaseRow)) (established : List (List SessionRow)) (is_base : base ≡ base_tables routers) (is_sessions : established ≡ sessions routers base) where
+  same_sessions : established ≡ sessions routers (base_tables routers)
+  same_sessions = is_sessions ∙ ap (sessions routers) is_base
+
+  -- the tables of a network are its state
+  pub state_is : (bgp : List (List BgpRowView)) (main : List (List MainRow)) → main ≡ main_tables routers base bgp → record { routers = routers; base = base; sessions = established; bgp = bgp; main = main } ≡ state_at routers bgp
+  unfolding state_at
+  state_is bgp main is_main =
+      ap (λ (l : List (List MainRow)). record { routers = routers; base = base; sessions = established; bgp = bgp; main = l }) (is_main ∙ ap (λ (b : List (List BaseRow)). main_tables routers b bgp) is_base)
+      ∙ ap (λ (l : List (List SessionRow)). record { routers = routers; base = base; sessions = l; bgp = bgp; main = main_tables routers (base_tables routers) bgp }) same_sessions
+      ∙ ap (λ (b : List (List BaseRow)). record { routers = routers; base = b; sessions = sessions routers (base_tables routers); bgp = bgp; main = main_tables routers (base_tables routers) bgp }) is_base
+
+  abbrev table_over : List (List BaseRow) → List (List SessionRow) → ℕ → Option (List (List BgpRowView))
+  table_over b s rounds = settled_table routers b s rounds
+
+  over : (rounds : ℕ) (o : Option (List (List BgpRowView))) → table_over base established rounds ≡ o → settled rounds routers ≡ option_map (state_at routers) o
+  unfolding settled
+  over rounds o e =
+      ap (option_map (state_at routers))
+      (ap (λ (b : List (List BaseRow)). table_over b (sessions routers (base_tables routers)) rounds) (sym is_base) ∙ ap (λ (s : List (List SessionRow)). table_over base s rounds) (sym same_sessions) ∙ e)
+
+  -- it is computed
+  pub state_found : (rounds : ℕ) (bgp : List (List BgpRowView)) → IsStable routers base established rounds bgp → settled rounds routers ≡ Some (state_at routers bgp)
+  state_found rounds bgp stable = over rounds (Some bgp) (stable_found routers base established rounds bgp stable)
+
+  -- an unstable network has none
+  pub nothing_found : (rounds : ℕ) → IsUnstable routers base established rounds → settled rounds routers ≡ None
+  nothing_found rounds unstable = over rounds None (on (settled_table routers base established rounds) (found routers base established rounds))
+    where
+      on : (o : Option (List (List BgpRowView))) → MatchOption o (IsUnstable routers base established rounds) (IsStable routers base established rounds) → o ≡ None
+      on None is = refl
+      on (Some table) stable = absurd (unstable stable.count stable.within stable.settled)

@@ -1,0 +1,66 @@
+//! The stable state of any network.
+
+ghost use Rattle.std.specs.Prelude.{◌≡◌, None, Some, IfOk, IsErrOf};
+ghost use Rattle.nc_tables.specs.Base.{base_tables};
+ghost use Rattle.nc_tables.specs.Rounds.{IsStable, IsUnstable};
+ghost use Rattle.nc_tables.specs.Sessions.{sessions};
+ghost use Rattle.nc_tables.specs.Settling.{settled};
+
+use crate::fault::SettleFault;
+use nc_base_rib::base_tables;
+use nc_main_rib::main_tables;
+use nc_policy::Policies;
+use nc_round::{Given, settle_table};
+use nc_sessions::sessions;
+use nc_tables::{BaseTables, BgpTable, Sessions, Stable};
+use nc_types::Network;
+use std::alloc::Global;
+
+// The first BGP table that no round changes, if no more than so many rounds show it.
+fn stable_table(
+    alloc: Global,
+    network: &Network,
+    base: &BaseTables,
+    established: &Sessions,
+    rounds: u32,
+) -> Result<BgpTable, SettleFault>
+    requires base { base.now ≡ base_tables network.now }
+    requires sessions { established.now ≡ sessions network.now base.now }
+    ensures stable { IfOk result (IsStable network.now base.now established.now rounds) }
+    ensures unstable { IsErrOf result SettleFault.Unstable
+        → IsUnstable network.now base.now established.now rounds }
+{
+    let policies = Policies::new(alloc, network)?;
+    let given = Given {
+        network,
+        base,
+        sessions: established,
+        policies: &policies,
+    };
+    let table = settle_table(alloc, given, rounds)?;
+    match table {
+        Some(table) => Ok(table),
+        None => Err(SettleFault::Unstable),
+    }
+}
+
+/// The state in which a network settles within so many rounds of BGP: its base tables, its sessions, the
+/// first BGP table that no round changes, and its main tables.
+///
+/// # Errors
+///
+/// [`SettleFault::Unstable`] where each of so many rounds changes something; none where the state is found.
+/// [`SettleFault::Memory`] where memory runs out.
+pub fn settle(alloc: Global, network: Network, rounds: u32) -> Result<Stable, SettleFault>
+    ensures settled { IfOk result (λ state. settled rounds network ≡ Some state) }
+    ensures unstable { IsErrOf result SettleFault.Unstable → settled rounds network ≡ None }
+{
+    let base = base_tables(alloc, &network)?;
+    let sessions = sessions(alloc, &network, &base)?;
+    let bgp = stable_table(alloc, &network, &base, &sessions, rounds)?;
+    let _routers = network.routers();
+    let _elements = network.element_count();
+    let _count = bgp.count();
+    let main = main_tables(alloc, &network, &base, &bgp)?;
+    Ok(Stable::new(network, base, sessions, bgp, main))
+}
