@@ -1,22 +1,20 @@
 -- A row of the next table is made of what peers choose of its prefix, and of what the router chooses inside its aggregates.
-use Rattle.std.proofs.Common.{◌≡◌, ℕ, zero, suc, ◌+◌, ◌<◌, Bool, true, false, cond, ◌&&◌, nat_lt, List, [], ◌∷◌, ◌++◌, length, All, Option, Some, None, refl, sym, ap, subst, ◌∙◌, arith, inl, inr}
-use Rattle.std.specs.List.{list_any, filter_map, slice_index_or}
+use Rattle.std.proofs.Common.{◌≡◌, ℕ, suc, ◌<◌, Bool, true, false, cond, ◌&&◌, nat_lt, List, [], ◌∷◌, ◌++◌, length, Option, Some, None, refl, sym, ap, subst, ◌∙◌, arith, inl, inr}
+use Rattle.std.specs.List.{list_any, slice_index_or}
 use Rattle.std.specs.Option.{option_map, option_map_or, option_and_then}
-use Rattle.std.proofs.lemmas.Bool.{and_parts, and_from, lt-ltb, ltb-true}
+use Rattle.std.proofs.lemmas.Bool.{and_parts, and_from, lt-ltb}
 use Rattle.std.proofs.lemmas.List.Elements.{All-nil, All-head, All-tail}
 use Rattle.nc_types.specs.Cidr.{Cidr, same_prefix}
 use Rattle.nc_types.specs.Config.{ConfigView, ProcessView}
 use Rattle.nc_types.specs.Network.{up_at}
 use Rattle.nc_types.specs.declared.config.AggregateStatement.{AggregateStatement}
-use Rattle.nc_types.specs.declared.config.NetworkStatement.{NetworkStatement}
-use Rattle.nc_types.specs.declared.config.Neighbor.{Neighbor}
 use Rattle.nc_types.proofs.Members.{In, contains_by_in, some_passes, passes_some}
 use Rattle.nc_types.proofs.Sameness.{same_prefix_is}
 use Rattle.nc_types.proofs.Truth.{same_truth}
 use Rattle.nc_tables.specs.declared.base.BaseRow.{BaseRow}
 use Rattle.nc_tables.specs.declared.bgp.SessionRow.{SessionRow}
 use Rattle.nc_tables.specs.declared.bgp.Chosen.{Chosen}
-use Rattle.nc_tables.specs.declared.bgp.BgpFrom.TheVariants.{Origin, Aggregate, Entry}
+use Rattle.nc_tables.specs.declared.bgp.BgpFrom.TheVariants.{Aggregate}
 use Rattle.nc_tables.specs.Sessions.{first_of, end_at, process_of}
 use Rattle.nc_tables.specs.Rounds.{BgpRowView, Link, Message, made_from, chosen_in, chosen_at, is_active, is_longer_in, session_by, link_at, message_of, message_at, accepted_of, accepted_at, learnt_from, entry_at, begun, origin_at, aggregate_at, candidates_at, chosen_by, chosen_anew, row_of, row_at}
 use Rattle.nc_tables.proofs.ByPrefix.{same_itself}

@@ -1,9 +1,9 @@
 -- The order of rows by router and prefix.
-use Rattle.std.proofs.Common.{◌≡◌, ℕ, Bool, true, false, ◌&&◌, ◌==◌, List, [], ◌∷◌, Contains, refl, sym, ap, subst, ◌∙◌, arith}
+use Rattle.std.proofs.Common.{◌≡◌, ℕ, Bool, true, ◌&&◌, ◌==◌, List, Contains, refl, ap, ◌∙◌, arith}
 use Rattle.std.specs.Cmp.{IsTotalOrder, IsEquivalence}
 use Rattle.std.specs.List.{dedup}
 use Rattle.std.specs.List.Sorted.{IsSorted, IsPermutation}
-use Rattle.std.specs.Ordering.{is_eq, nat_cmp}
+use Rattle.std.specs.Ordering.{is_eq}
 use Rattle.std.proofs.lemmas.Bool.{and_parts, and_from, eqb-true, eq-eqb}
 use Rattle.std.proofs.lemmas.Bool.Decides.{nat_tests}
 use Rattle.std.proofs.lemmas.Cmp.{nat_cmp_total, on_total, then_total, on_equiv, and_equiv, nat_eq_equiv}
@@ -12,8 +12,6 @@ use Rattle.std.proofs.lemmas.List.Sorted.{Contains-permutation, IsPermutation-sy
 use Rattle.std.proofs.lemmas.Map.Keys.{Less-from_sorted}
 use Rattle.nc_types.specs.Cidr.{Cidr, same_prefix}
 use Rattle.nc_types.proofs.Sameness.{same_prefix_is}
-use Rattle.nc_types.specs.declared.config.RouterId.{RouterId}
-use Rattle.nc_tables.specs.Base.{prefix_cmp}
 use Rattle.nc_tables.proofs.SideBySide.{prefix_total}
 use Rattle.nc_tables.proofs.ByPrefix.{same_itself}
 use Rattle.nc_round.specs.Keys.{Key, key, key_cmp, AreInOrder}

@@ -1,14 +1,13 @@
 -- Rows made anew: what is put into a table, and that it becomes the next one.
-use Rattle.std.proofs.Common.{◌≡◌, ◌⊎◌, ℕ, ◌<◌, Bool, true, false, cond, ◌&&◌, ◌==◌, List, [], ◌∷◌, ◌++◌, length, map, get_or, All, Contains, Option, Some, None, refl, sym, ap, subst, ◌∙◌, arith, inl, inr}
+use Rattle.std.proofs.Common.{◌≡◌, ◌⊎◌, ℕ, ◌<◌, Bool, true, false, cond, ◌&&◌, ◌==◌, List, [], ◌∷◌, ◌++◌, length, map, get_or, All, Contains, Option, Some, None, refl, sym, ap, subst, ◌∙◌, inl, inr}
 use Rattle.std.specs.List.{AllPairs, filter_map}
 use Rattle.std.specs.List.Sorted.{IsPermutation}
 use Rattle.std.specs.declared.cmp.Ordering.TheVariants.{Less}
 use Rattle.std.proofs.lemmas.Bool.{and_parts, and_from, eqb-true, eq-eqb}
 use Rattle.std.proofs.lemmas.List.{same_lists, get_or_default}
-use Rattle.std.proofs.lemmas.List.Elements.{All-nil}
 use Rattle.std.proofs.lemmas.List.Sorted.{All-permutation, Contains-permutation, IsPermutation-map}
 use Rattle.nc_types.specs.Cidr.{Cidr, same_prefix}
-use Rattle.nc_types.proofs.Members.{In, in_left, in_right, in_either, in_map, in_by_contains, contains_by_in, all_in, all_by_in}
+use Rattle.nc_types.proofs.Members.{In, in_left, in_right, in_map, in_by_contains, contains_by_in, all_in, all_by_in}
 use Rattle.nc_types.proofs.Sameness.{same_prefix_is}
 use Rattle.nc_tables.specs.declared.bgp.Chosen.{Chosen}
 use Rattle.nc_tables.specs.Base.{prefix_cmp}
@@ -19,12 +18,12 @@ use Rattle.nc_tables.proofs.InOrder.{same_rows}
 use Rattle.nc_tables.proofs.SameTables.{same_list_is, same_list_itself, candidate_is, candidate_itself}
 use Rattle.nc_message.specs.declared.given.Given.{Given}
 use Rattle.nc_round.specs.declared.new_row.NewRow.{NewRow}
-use Rattle.nc_round.specs.Keys.{Key, key, key_cmp, AreInOrder}
+use Rattle.nc_round.specs.Keys.{Key, key, key_cmp}
 use Rattle.nc_round.specs.Given.{next}
 use Rattle.nc_round.specs.Changes.{IsDifference}
 use Rattle.nc_round.specs.Renewing.{RowChange, row_change, change_at, AreEnough, Leads}
 use Rattle.nc_round.proofs.KeyOrder.{same_key, same_key_is, key_itself}
-use Rattle.nc_round.proofs.Lists.{among, all_at, all_made, all_over, in_filter_map, pairs_made, pairs_over}
+use Rattle.nc_round.proofs.Lists.{among, all_made, all_over, in_filter_map, pairs_made, pairs_over}
 use Rattle.nc_round.proofs.NextRows.{next_chosen, next_count, next_up, next_some}
 
 abbrev pub key_of : RowChange → Key

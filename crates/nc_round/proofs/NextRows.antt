@@ -1,32 +1,30 @@
 -- The rows of the next table: in order, and of each prefix what is chosen anew.
-use Rattle.std.proofs.Common.{◌≡◌, ◌⊎◌, ℕ, zero, suc, ◌+◌, ◌<◌, ◌≤◌, Bool, true, false, cond, ◌&&◌, List, [], ◌∷◌, ◌++◌, length, map, get_or, All, Contains, Option, Some, None, refl, sym, ap, subst, ◌∙◌, arith, inl, inr}
-use Rattle.std.specs.List.{AllPairs, cons_option, filter_map, flat_map, list_any, range_with_len, slice_get}
+use Rattle.std.proofs.Common.{◌≡◌, ◌⊎◌, ℕ, suc, ◌<◌, ◌≤◌, Bool, true, false, cond, ◌&&◌, List, [], ◌∷◌, ◌++◌, length, map, get_or, Option, Some, None, refl, sym, ap, subst, ◌∙◌, arith, inl, inr}
+use Rattle.std.specs.List.{AllPairs, cons_option, filter_map, flat_map, list_any, slice_get}
 use Rattle.std.specs.Option.{option_map, option_map_or, option_and_then}
 use Rattle.std.specs.declared.cmp.Ordering.TheVariants.{Less}
 use Rattle.std.proofs.lemmas.Bool.{cases_lt}
-use Rattle.std.proofs.lemmas.List.{length-map}
 use Rattle.std.proofs.lemmas.List.Elements.{All-nil}
 use Rattle.std.proofs.lemmas.List.FromFn.{length-map-range_with_len}
 use Rattle.nc_types.specs.Cidr.{Cidr, same_prefix}
 use Rattle.nc_types.specs.Config.{ConfigView, ProcessView}
 use Rattle.nc_types.specs.declared.config.AggregateStatement.{AggregateStatement}
 use Rattle.nc_types.specs.declared.config.NetworkStatement.{NetworkStatement}
-use Rattle.nc_types.proofs.Members.{In, in_at, in_left, in_right, in_map, in_by_get, in_by_contains, contains_by_in}
+use Rattle.nc_types.proofs.Members.{In, in_at, in_left, in_right, in_map, in_by_get}
 use Rattle.nc_types.proofs.Sameness.{same_prefix_is}
 use Rattle.nc_tables.specs.declared.base.BaseRow.{BaseRow}
 use Rattle.nc_tables.specs.declared.bgp.SessionRow.{SessionRow}
 use Rattle.nc_tables.specs.declared.bgp.Chosen.{Chosen}
-use Rattle.nc_tables.specs.declared.bgp.BgpFrom.TheVariants.{Origin, Aggregate, Entry}
+use Rattle.nc_tables.specs.declared.bgp.BgpFrom.TheVariants.{Origin, Aggregate}
 use Rattle.nc_tables.specs.Base.{prefix_cmp}
 use Rattle.nc_tables.specs.Choice.{choose}
-use Rattle.nc_tables.specs.Order.{in_order}
 use Rattle.nc_tables.specs.Reach.{rows_of}
-use Rattle.nc_tables.specs.Sessions.{first_of, process_of}
+use Rattle.nc_tables.specs.Sessions.{first_of}
 use Rattle.nc_tables.specs.Rounds.{BgpRowView, Link, Message, made_from, distinct, chosen_in, chosen_at, is_active, link_at, message_of, message_at, accepted_of, accepted_at, learnt_from, entry_at, begun, origin_at, aggregate_at, candidates_at, chosen_by, chosen_anew, prefixes_in, prefixes, row_of, row_at, rows_anew, round}
 use Rattle.nc_tables.proofs.ByPrefix.{same_itself, pairs_cons}
 use Rattle.nc_tables.proofs.Ordered.{in_its_order}
 use Rattle.nc_tables.proofs.InOrder.{Up, IsBelow, HaveSome, at_head, past_head}
-use Rattle.nc_base_rib.proofs.Members.{Rises, Ascends}
+use Rattle.nc_base_rib.proofs.Members.{Rises}
 use Rattle.nc_main_rib.proofs.Ascending.{distinct_ascend, in_distinct}
 use Rattle.nc_message.proofs.Distinct.{made_few}
 use Rattle.nc_round.proofs.Lists.{among, in_flat_map, all_made, pairs_made, made_at, made_past}

@@ -1,14 +1,13 @@
 -- Rounds one behind the other, until nothing changes.
-use Rattle.std.proofs.Common.{◌≡◌, ℕ, zero, suc, ◌+◌, ◌<◌, ◌≤◌, List, [], ◌∷◌, length, map, get_or, All, Contains, refl, sym, ap, subst, ◌∙◌, arith, inl, inr}
-use Rattle.std.specs.List.{AllPairs}
+use Rattle.std.proofs.Common.{◌≡◌, ℕ, zero, suc, ◌<◌, ◌≤◌, List, [], ◌∷◌, length, get_or, sym, ap, subst, ◌∙◌, arith, inl, inr}
 use Rattle.std.proofs.lemmas.Bool.{cases_lt}
 use Rattle.std.proofs.lemmas.List.{same_lists, get_or_default, length-map}
-use Rattle.std.proofs.lemmas.List.Elements.{All-nil, All-cons}
+use Rattle.std.proofs.lemmas.List.Elements.{All-nil}
 use Rattle.nc_types.specs.Cidr.{Cidr}
 use Rattle.nc_types.specs.Config.{ConfigView}
 use Rattle.nc_tables.specs.declared.base.BaseRow.{BaseRow}
 use Rattle.nc_tables.specs.declared.bgp.SessionRow.{SessionRow}
-use Rattle.nc_tables.specs.Rounds.{BgpRowView, chosen_in, chosen_at, no_routes, prefixes, round, after, IsSettled, IsStable, IsUnstable}
+use Rattle.nc_tables.specs.Rounds.{BgpRowView, chosen_at, no_routes, prefixes, round, after, IsSettled, IsStable, IsUnstable}
 use Rattle.nc_tables.proofs.InOrder.{Up, HaveSome, same_rows}
 use Rattle.nc_round.specs.Keys.{Key, key}
 use Rattle.nc_round.specs.Changes.{HaveCandidates, IsDifference, IsRoundOf}

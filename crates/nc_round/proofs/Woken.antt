@@ -1,25 +1,22 @@
 -- What rows that changed wake, and the rows that routers begin: all that a round can change.
-use Rattle.std.proofs.Common.{◌≡◌, ◌⊎◌, ℕ, zero, suc, ◌+◌, ◌<◌, ◌≤◌, Bool, true, false, cond, ◌==◌, List, [], ◌∷◌, ◌++◌, length, map, filter, get_or, All, Contains, Option, Some, None, refl, sym, ap, subst, ◌∙◌, arith, inl, inr}
-use Rattle.std.specs.List.{cons_option, filter_map, flat_map, find, slice_get, slice_index_or}
-use Rattle.std.specs.Option.{option_map_or, option_and_then}
-use Rattle.std.proofs.lemmas.Bool.{cases_lt, eqb-true, eq-eqb}
+use Rattle.std.proofs.Common.{◌≡◌, ◌⊎◌, ℕ, zero, suc, ◌+◌, ◌<◌, ◌≤◌, Bool, true, false, cond, ◌==◌, List, [], ◌∷◌, length, map, filter, get_or, All, Contains, Option, Some, None, refl, sym, ap, subst, ◌∙◌, arith, inl, inr}
+use Rattle.std.specs.List.{cons_option, flat_map, find, slice_get, slice_index_or}
+use Rattle.std.proofs.lemmas.Bool.{cases_lt, eq-eqb}
 use Rattle.std.proofs.lemmas.List.{get_or_past, length-map}
 use Rattle.nc_types.specs.Cidr.{Cidr, same_prefix}
-use Rattle.nc_types.specs.Config.{ConfigView, ProcessView}
+use Rattle.nc_types.specs.Config.{ConfigView}
 use Rattle.nc_types.specs.declared.config.RouterId.{RouterId}
 use Rattle.nc_types.specs.declared.config.AggregateStatement.{AggregateStatement}
-use Rattle.nc_types.proofs.Members.{In, in_left, in_right, in_either, in_map, in_by_map, in_filter, in_by_filter, in_by_flat_map, in_by_contains, contains_by_in, all_in, all_by_in}
+use Rattle.nc_types.proofs.Members.{In, in_left, in_right, in_either, in_map, in_by_map, in_filter, in_by_flat_map, in_by_contains, contains_by_in, all_in, all_by_in}
 use Rattle.nc_types.proofs.Sameness.{same_prefix_is}
 use Rattle.nc_tables.specs.declared.bgp.SessionRow.{SessionRow}
-use Rattle.nc_tables.specs.declared.bgp.Chosen.{Chosen}
-use Rattle.nc_tables.specs.Sessions.{process_of, session_in}
-use Rattle.nc_tables.specs.Rounds.{BgpRowView, AreBgpRows, chosen_in, chosen_at, chosen_anew, is_longer_in, session_by, prefixes_in, prefixes, no_routes}
+use Rattle.nc_tables.specs.Rounds.{BgpRowView, AreBgpRows, chosen_in, chosen_at, is_longer_in, session_by, prefixes_in, prefixes, no_routes}
 use Rattle.nc_tables.proofs.ByPrefix.{same_itself}
 use Rattle.nc_message.specs.declared.given.Given.{Given}
 use Rattle.nc_round.specs.Keys.{Key, key, AreInOrder}
 use Rattle.nc_round.specs.Given.{AreOfNetwork, next}
 use Rattle.nc_round.specs.Hearing.{heard, hearers_from, AreHearers, aggregates_of, woken_by, begun_from}
-use Rattle.nc_round.specs.Changes.{IsDifference, IsRoundOf, ReadAlike}
+use Rattle.nc_round.specs.Changes.{IsRoundOf, ReadAlike}
 use Rattle.nc_round.specs.Renewing.{AreEnough}
 use Rattle.nc_round.proofs.Lists.{among, in_flat_map, in_filter_map}
 use Rattle.nc_round.proofs.Alike.{chosen_alike}

@@ -61,8 +61,8 @@ fn no_hearers(alloc: Global, count: usize) -> Result<Vec<Vec<RouterId>>, AllocEr
     Ok(lists)
 }
 
-/// Of each router those that have an established session with it. It is made once for all rounds, in the
-/// time of going over the sessions.
+/// Of each router those that have an established session with it. It is made once for all rounds,
+/// in the time of going over the sessions.
 #[derive(Debug, Drop)]
 pub struct Hearers {
     routers: Vec<Vec<RouterId>>,
@@ -96,8 +96,8 @@ impl Hearers {
         Ok(Hearers { routers })
     }
 
-    /// The routers that hear of a router, which has a number below that of the routers: each once for each
-    /// session with it.
+    /// The routers that hear of a router, which has a number below that of the routers: each once
+    /// for each session with it.
     pub fn of(&self, router: RouterId) -> &[RouterId]
         requires { router.0 < length self.now }
         ensures { result.now ≡ slice_index_or self.now router.0 [] }

@@ -116,8 +116,8 @@ fn put_all(table: &mut BgpTable, mut news: Vec<NewRow>) -> Result<(), AllocError
     Ok(())
 }
 
-/// The next table and the rows in which it differs, where these are all rows that may differ. The others
-/// aren't visited.
+/// The next table and the rows in which it differs, where these are all rows that may differ. The
+/// others aren't visited.
 pub(crate) fn renew(
     alloc: Global,
     given: Given<'_>,

@@ -20,7 +20,8 @@ use std::alloc::{AllocError, Global};
 pub fn first_round(alloc: Global, given: Given<'_>) -> Result<(BgpTable, Changed), AllocError>
     requires given { AreOfNetwork given }
     ensures table { IfOk result (λ r. r.0 ≡ next given.entry (no_routes given.entry.network.now)) }
-    ensures changed { IfOk result (λ r. IsDifference (no_routes given.entry.network.now) r.0 r.1.rows.items) }
+    ensures changed { IfOk result (λ r. IsDifference (no_routes given.entry.network.now) r.0
+        r.1.rows.items) }
 {
     let none = BgpTable::without_routes(alloc, given.network)?;
     let keys = begun_in_order(alloc, given.network)?;
@@ -28,10 +29,10 @@ pub fn first_round(alloc: Global, given: Given<'_>) -> Result<(BgpTable, Changed
     Ok(made)
 }
 
-/// One more round: the table that comes from one that a round made, given the rows in which that one differs
-/// from the table before it, and the rows in which the new one differs. It takes time in proportion to the
-/// rows that changed, the sessions over which they are heard, and the aggregates around them; a row that
-/// can't differ is neither copied nor visited.
+/// One more round: the table that comes from one that a round made, given the rows in which that
+/// one differs from the table before it, and the rows in which the new one differs. It takes time
+/// in proportion to the rows that changed, the sessions over which they are heard, and the
+/// aggregates around them; a row that can't differ is neither copied nor visited.
 ///
 /// # Errors
 ///
@@ -46,7 +47,8 @@ pub fn round_changed(
     requires given { AreOfNetwork given }
     requires hearers { AreHearers given.sessions.now hearers.now }
     requires made { (before : List (List BgpRowView))
-        × IsRoundOf given.network.now given.base.now given.sessions.now before old changed.rows.items }
+        × IsRoundOf given.network.now given.base.now given.sessions.now before old
+        changed.rows.items }
     ensures table { IfOk result (λ r. r.0 ≡ next given.entry old) }
     ensures changed { IfOk result (λ r. IsDifference old r.0 r.1.rows.items) }
 {

@@ -8,8 +8,8 @@ use nc_message::Given;
 use nc_tables::BgpTable;
 use std::alloc::{AllocError, Global};
 
-/// The first table that no round changes, if no more than so many rounds show it; `None` where each of so
-/// many rounds changes something. No more than so many rounds are made.
+/// The first table that no round changes, if no more than so many rounds show it; `None` where each
+/// of so many rounds changes something. No more than so many rounds are made.
 ///
 /// # Errors
 ///

@@ -35,7 +35,8 @@ fn wake_hearers(
     hearers: &[RouterId],
     prefix: Prefix,
 ) -> Result<(), AllocError>
-    ensures { OnOk result (woken.new.items ≡ woken.old.items ++ map (λ r. (r, prefix)) hearers.now) }
+    ensures { OnOk result (woken.new.items
+        ≡ woken.old.items ++ map (λ r. (r, prefix)) hearers.now) }
 {
     'hearers: for router in hearers {
         woken.push((*router, prefix))?;
@@ -70,17 +71,14 @@ fn woken(
 ) -> Result<Vec<(RouterId, Prefix)>, AllocError>
     requires hearers { length hearers.now ≡ length network.now }
     requires changed { All (λ k. k.0.0 < length network.now) changed.now }
-    ensures { IfOk result (λ woken. woken.items ≡ flat_map (woken_by network.now hearers.now) changed.now) }
+    ensures { IfOk result (λ woken. woken.items
+        ≡ flat_map (woken_by network.now hearers.now) changed.now) }
 {
     let mut woken = Vec::new(alloc);
     'changed: for (router, prefix) in changed {
         wake_hearers(&mut woken, hearers.of(*router), *prefix)?;
-        wake_aggregates(
-            &mut woken,
-            aggregates_of(network, *router),
-            *router,
-            *prefix,
-        )?;
+        let aggregates = aggregates_of(network, *router);
+        wake_aggregates(&mut woken, aggregates, *router, *prefix)?;
     }
     Ok(woken)
 }

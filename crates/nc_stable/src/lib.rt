@@ -1,10 +1,11 @@
 //! The state in which a network settles.
 //!
-//! [`settle`] makes rounds of BGP until none changes anything, and [`settle_static`] does without them where no
-//! router begins a prefix. The crate stands on `nc_base_rib` for the base tables, on `nc_sessions` for the
-//! sessions, on `nc_policy` and `nc_round` for the rounds, on `nc_main_rib` for the main tables, and on
-//! `nc_tables` for all tables and for the definition of what stands in them. Its contract promises exactly the
-//! state that is defined for the network, and that a network which doesn't settle is told as such.
+//! [`settle`] makes rounds of BGP until none changes anything, and [`settle_static`] does without
+//! them where no router begins a prefix. The crate stands on `nc_base_rib` for the base tables, on
+//! `nc_sessions` for the sessions, on `nc_policy` and `nc_round` for the rounds, on `nc_main_rib`
+//! for the main tables, and on `nc_tables` for all tables and for the definition of what stands in
+//! them. Its contract promises exactly the state that is defined for the network, and that a
+//! network which doesn't settle is told as such.
 #![tactic(auto)]
 
 mod fault;

@@ -44,13 +44,13 @@ fn stable_table(
     }
 }
 
-/// The state in which a network settles within so many rounds of BGP: its base tables, its sessions, the
-/// first BGP table that no round changes, and its main tables.
+/// The state in which a network settles within so many rounds of BGP: its base tables, its
+/// sessions, the first BGP table that no round changes, and its main tables.
 ///
 /// # Errors
 ///
-/// [`SettleFault::Unstable`] where each of so many rounds changes something; none where the state is found.
-/// [`SettleFault::Memory`] where memory runs out.
+/// [`SettleFault::Unstable`] where each of so many rounds changes something; none where the state
+/// is found. [`SettleFault::Memory`] where memory runs out.
 pub fn settle(alloc: Global, network: Network, rounds: u32) -> Result<Stable, SettleFault>
     ensures settled { IfOk result (λ state. settled rounds network ≡ Some state) }
     ensures unstable { IsErrOf result SettleFault.Unstable → settled rounds network ≡ None }

@@ -91,7 +91,7 @@ impl BgpTable {
         Ok(BgpTable { rows })
     }
 
-    /// How many routers the tables have rows of; the rows of each are as the rows of a router are.
+    /// How many routers the tables have rows of; those of each are as the rows of a router are.
     pub fn count(&self) -> usize
         ensures count { result ≡ length self.now }
         ensures valid { All AreBgpRows self.now }
@@ -99,9 +99,9 @@ impl BgpTable {
         self.rows.len()
     }
 
-    /// From now on this is chosen of a prefix at a router, which has a number below that of the routers: at most
-    /// [`nc_types::MULTIPATH_LIMIT`] candidates, each of that prefix. Its row is found by a binary search and
-    /// is set, added or taken out in its place; all else stays.
+    /// From now on this is chosen of a prefix at a router, which has a number below that of the
+    /// routers: at most [`nc_types::MULTIPATH_LIMIT`] candidates, each of that prefix. Its row is
+    /// found by a binary search and is set, added or taken out in its place; all else stays.
     ///
     /// # Errors
     ///

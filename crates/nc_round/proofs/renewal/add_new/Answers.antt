@@ -1,10 +1,9 @@
-use Rattle.std.proofs.Common.{◌≡◌, ◌++◌, ◌∷◌, [], List, Option, Some, None, map, append-nil, sym, ap, ◌∙◌, rules}
+use Rattle.std.proofs.Common.{◌≡◌, ◌++◌, ◌∷◌, [], List, Option, map, append-nil, sym, ap, ◌∙◌, rules}
 use Rattle.std.specs.List.{cons_option}
 use Rattle.std.proofs.lemmas.List.{map_push}
 use Rattle.nc_tables.specs.declared.bgp.Chosen.{Chosen}
 use Rattle.nc_tables.specs.Rounds.{chosen_at}
-use Rattle.nc_round.specs.Keys.{Key}
-use Rattle.nc_round.specs.Renewing.{RowChange, row_change, change_at}
+use Rattle.nc_round.specs.Renewing.{RowChange, row_change}
 use Rattle.nc_round.proofs.NewRows.{anew, change_none, change_some}
 use Rattle.nc_round.proofs.renewal.add_new.Goals as goal
 

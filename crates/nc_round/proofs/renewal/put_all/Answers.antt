@@ -1,12 +1,8 @@
-use Rattle.std.proofs.Common.{◌≡◌, ◌++◌, ◌∷◌, ◌<◌, ℕ, [], List, All, length, map, sym, ap, subst, ◌∙◌, arith, rules}
+use Rattle.std.proofs.Common.{◌≡◌, ◌++◌, ◌∷◌, ◌<◌, [], length, map, sym, ap, subst, ◌∙◌, arith, rules}
 use Rattle.std.proofs.lemmas.List.{length-map, map_push}
 use Rattle.std.proofs.lemmas.List.Sorted.{All-permutation}
-use Rattle.nc_types.specs.Cidr.{Cidr}
 use Rattle.nc_types.proofs.Members.{In, in_left, all_in, all_by_in}
-use Rattle.nc_tables.specs.declared.bgp.Chosen.{Chosen}
-use Rattle.nc_tables.specs.Rounds.{chosen_at}
-use Rattle.nc_round.specs.declared.new_row.NewRow.{NewRow}
-use Rattle.nc_round.specs.Renewing.{RowChange, row_change, IsNew, Leads}
+use Rattle.nc_round.specs.Renewing.{row_change, IsNew, Leads}
 use Rattle.nc_round.proofs.NewRows.{key_of, leads_moved, leads_put}
 use Rattle.nc_round.proofs.renewal.put_all.Goals as goal
 

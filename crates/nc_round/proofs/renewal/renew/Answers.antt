@@ -7,7 +7,7 @@ use Rattle.nc_round.specs.declared.new_row.NewRow.{NewRow}
 use Rattle.nc_round.specs.Keys.{Key}
 use Rattle.nc_round.specs.Given.{next}
 use Rattle.nc_round.specs.Changes.{IsDifference}
-use Rattle.nc_round.specs.Renewing.{RowChange, row_change, AreEnough, Leads}
+use Rattle.nc_round.specs.Renewing.{row_change, AreEnough, Leads}
 use Rattle.nc_round.proofs.NewRows.{key_of, target, changes, leads, difference, is_next}
 use Rattle.nc_round.proofs.renewal.renew.Goals as goal
 use Rattle.nc_round.proofs.renewal.renew.Goals.{After-count-count}

@@ -1,4 +1,4 @@
-use Rattle.std.proofs.Common.{◌≡◌, List, sym, subst}
+use Rattle.std.proofs.Common.{List, sym, subst}
 use Rattle.nc_tables.specs.Rounds.{BgpRowView}
 use Rattle.nc_round.specs.Keys.{Key}
 use Rattle.nc_round.specs.Renewing.{AreEnough}

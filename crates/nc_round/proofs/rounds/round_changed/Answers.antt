@@ -3,7 +3,7 @@ use Rattle.std.specs.List.{flat_map}
 use Rattle.nc_round.specs.Hearing.{woken_by}
 use Rattle.nc_round.specs.Keys.{Key}
 use Rattle.nc_round.specs.Renewing.{AreEnough}
-use Rattle.nc_round.proofs.Woken.{hearers_count, changed_within, enough}
+use Rattle.nc_round.proofs.Woken.{changed_within, enough}
 use Rattle.nc_round.proofs.rounds.round_changed.Goals as goal
 
 -- what is woken by rows is woken by the same rows

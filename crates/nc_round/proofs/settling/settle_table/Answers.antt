@@ -1,6 +1,5 @@
-use Rattle.std.proofs.Common.{◌≡◌, ℕ, suc, ◌+◌, ◌<◌, List, length, subst, arith, rules}
-use Rattle.nc_tables.specs.Rounds.{IsUnstable, after}
-use Rattle.nc_round.specs.Keys.{Key}
+use Rattle.std.proofs.Common.{◌≡◌, ℕ, suc, ◌+◌, subst, arith, rules}
+use Rattle.nc_tables.specs.Rounds.{IsUnstable}
 use Rattle.nc_round.proofs.Settled.{at, IsRun, run_start, run_made, run_stop, run_on, run_more}
 use Rattle.nc_round.proofs.settling.settle_table.Goals as goal
 

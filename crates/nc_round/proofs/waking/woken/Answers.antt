@@ -1,4 +1,4 @@
-use Rattle.std.proofs.Common.{◌≡◌, ◌+◌, ◌++◌, ◌∷◌, [], List, drop, map, filter, append_assoc, sym, ap, ◌∙◌, arith, slice_index_or}
+use Rattle.std.proofs.Common.{◌≡◌, ◌+◌, ◌++◌, ◌∷◌, List, drop, map, filter, append_assoc, sym, ap, ◌∙◌, arith}
 use Rattle.std.specs.List.{flat_map}
 use Rattle.nc_types.proofs.Walks.{drop_read}
 use Rattle.nc_types.specs.declared.config.RouterId.{RouterId}
@@ -21,8 +21,8 @@ changed-preserved c =
     let index = c.changed.router-index in
     let all = c.args.changed.now in
     one_more f k (drop (index + 1) all) (flat_map f all) c.changed.woken.items c.wake_hearers.new.woken.items c.wake_aggregates.new.woken.items
-    (map (λ (r : RouterId). (r, k.1)) c.of.result.now) (map (λ (a : AggregateStatement). (k.0, a.prefix)) (filter (λ (a : AggregateStatement). is_longer_in k.1 a.prefix) c.aggregates_of.result.now))
+    (map (λ (r : RouterId). (r, k.1)) c.of.result.now) (map (λ (a : AggregateStatement). (k.0, a.prefix)) (filter (λ (a : AggregateStatement). is_longer_in k.1 a.prefix) c.aggregates_of-aggregates.result.now))
     c.in_ok-wake_hearers.ensures c.in_ok-wake_aggregates.ensures
     (ap (λ (l : List RouterId). map (λ (r : RouterId). (r, k.1)) l ++ map (λ (a : AggregateStatement). (k.0, a.prefix)) (filter (λ (a : AggregateStatement). is_longer_in k.1 a.prefix) (aggregates_of c.args.network.now k.0.0))) (sym c.of.ensures)
-    ∙ ap (λ (l : List AggregateStatement). map (λ (r : RouterId). (r, k.1)) c.of.result.now ++ map (λ (a : AggregateStatement). (k.0, a.prefix)) (filter (λ (a : AggregateStatement). is_longer_in k.1 a.prefix) l)) (sym c.aggregates_of.ensures))
+    ∙ ap (λ (l : List AggregateStatement). map (λ (r : RouterId). (r, k.1)) c.of.result.now ++ map (λ (a : AggregateStatement). (k.0, a.prefix)) (filter (λ (a : AggregateStatement). is_longer_in k.1 a.prefix) l)) (sym c.aggregates_of-aggregates.ensures))
     (ap (λ (l : List Key). c.changed.woken.items ++ flat_map f l) (sym (drop_read all index k c.changed-item.is (omega arith))) ∙ c.changed.invariant)

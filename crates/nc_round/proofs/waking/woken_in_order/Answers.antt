@@ -1,4 +1,4 @@
-use Rattle.std.proofs.Common.{◌≡◌, List, Contains, sym, subst}
+use Rattle.std.proofs.Common.{List, Contains, sym, subst}
 use Rattle.nc_round.specs.Keys.{Key}
 use Rattle.nc_round.proofs.waking.woken_in_order.Goals as goal
 
