@@ -1,3 +1,3 @@
-pub mod WithoutBgp
+mod WithoutRoutes
 pub mod Bounds
 pub mod Found

@@ -52,6 +52,7 @@ fn stable_table(
 /// [`SettleFault::Unstable`] where each of so many rounds changes something; none where the state
 /// is found. [`SettleFault::Memory`] where memory runs out.
 pub fn settle(alloc: Global, network: Network, rounds: u32) -> Result<Stable, SettleFault>
+    ensures routers { IfOk result (λ state. state.routers ≡ network) }
     ensures settled { IfOk result (λ state. settled rounds network ≡ Some state) }
     ensures unstable { IsErrOf result SettleFault.Unstable → settled rounds network ≡ None }
 {
