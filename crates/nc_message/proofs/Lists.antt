@@ -1,10 +1,11 @@
 -- What passes a test in a list: whether anything does, and where.
-use Rattle.std.proofs.Common.{◌≡◌, ℕ, zero, suc, ◌+◌, ◌-◌, ◌<◌, ◌≤◌, Bool, true, false, cond, ◌||◌, nat_lt, List, [], ◌∷◌, filter, length, Option, Some, None, IfSome, refl, sym, ap, subst, ◌∙◌, arith}
+use Rattle.std.proofs.Common.{◌≡◌, ℕ, ◌+◌, ◌-◌, ◌<◌, Bool, true, false, cond, ◌||◌, nat_lt, List, [], ◌∷◌, filter, length, Option, Some, None, IfSome, refl, sym, ap, subst, ◌∙◌, arith}
 use Rattle.std.specs.Prelude.{position}
 use Rattle.std.specs.List.{list_any, position_from, range_with_len}
 use Rattle.std.specs.Option.{is_some}
 use Rattle.std.proofs.lemmas.Bool.Decides.{nat_tests}
 use Rattle.std.proofs.lemmas.Iterator.Adapters.{position_from-zero}
+use Rattle.std.proofs.lemmas.List.FromFn.{length-range_with_len}
 use Rattle.nc_tables.specs.Longest.{places_from}
 
 module _ {A : Type 0} (test : A → Bool) where
@@ -51,22 +52,21 @@ module _ {A : Type 0} (test : A → Bool) where
       on true more = grind (arith, nat_tests)
       on false more = more
 
-  -- something is kept
-  pub some_kept : (xs : List A) → nat_lt 0 (length (filter test xs)) ≡ list_any test xs
-  some_kept [] = refl
-  some_kept (x ∷ xs) = on (test x) (some_kept xs)
+  -- as many are kept as have a place
+  kept_count : (k : ℕ) (xs : List A) → length (filter test xs) ≡ length (places_from test k xs)
+  kept_count k [] = refl
+  kept_count k (x ∷ xs) = on (test x) (kept_count (k + 1) xs)
     where
-      on : (b : Bool) → nat_lt 0 (length (filter test xs)) ≡ list_any test xs → nat_lt 0 (length (cond b (x ∷ filter test xs) (filter test xs))) ≡ (b || list_any test xs)
-      on true more = grind (arith, nat_tests)
-      on false more = more
+      on : (b : Bool) → length (filter test xs) ≡ length (places_from test (k + 1) xs) → length (cond b (x ∷ filter test xs) (filter test xs)) ≡ length (cond b (k ∷ places_from test (k + 1) xs) (places_from test (k + 1) xs))
+      on true same = omega arith
+      on false same = same
 
-length_range : (from n : ℕ) → length (range_with_len from n) ≡ n
-length_range from zero = refl
-length_range from (suc n) = let more : length (range_with_len (from + 1) n) ≡ n = length_range (from + 1) n in omega arith
+  pub some_kept : (xs : List A) → nat_lt 0 (length (filter test xs)) ≡ list_any test xs
+  some_kept xs = ap (nat_lt 0) (kept_count 0 xs) ∙ sym (some_place 0 xs)
 
 -- something passes, where the places of what passes are these numbers
 pub placed_between : {A : Type 0} (test : A → Bool) (xs : List A) (from to : ℕ) → places_from test 0 xs ≡ range_with_len from (to - from) → nat_lt from to ≡ list_any test xs
 placed_between test xs from to places =
-    let count : length (places_from test 0 xs) ≡ to - from = ap (length {A = ℕ}) places ∙ length_range from (to - from) in
+    let count : length (places_from test 0 xs) ≡ to - from = ap (length {A = ℕ}) places ∙ length-range_with_len from (to - from) in
     let same : nat_lt from to ≡ nat_lt 0 (to - from) = grind (arith, nat_tests) in
     same ∙ ap (nat_lt 0) (sym count) ∙ sym (some_place test 0 xs)

@@ -1,6 +1,6 @@
 -- The process of a router, and the configuration that has it.
-use Rattle.std.proofs.Common.{◌≡◌, ℕ, ◌<◌, Bool, List, length, Option, Some, None, refl, ap, ◌∙◌}
-use Rattle.std.specs.Prelude.{option_and_then, position, slice_get}
+use Rattle.std.proofs.Common.{◌≡◌, ℕ, List, Option, Some, None, refl}
+use Rattle.std.specs.Prelude.{option_and_then, slice_get}
 use Rattle.nc_types.specs.Config.{ConfigView, ProcessView}
 use Rattle.nc_tables.specs.Sessions.{process_of}
 

@@ -1,14 +1,11 @@
 -- A route as it is sent over a session, field by field.
-use Rattle.std.proofs.Common.{◌≡◌, ℕ, zero, suc, ◌+◌, ◌<◌, ◌≤◌, ◌++◌, Bool, true, false, not, ◌&&◌, ◌||◌, ◌==◌, cond, nat_lt, List, [], ◌∷◌, length, Option, Some, None, option_and_then, refl, sym, ap, ◌∙◌, arith}
+use Rattle.std.proofs.Common.{◌≡◌, ℕ, ◌+◌, ◌≤◌, ◌++◌, Bool, true, false, not, ◌&&◌, ◌||◌, ◌==◌, cond, nat_lt, List, [], ◌∷◌, length, Option, Some, None, option_and_then, refl, sym, ap, ◌∙◌, arith}
 use Rattle.std.specs.List.{list_any}
 use Rattle.std.specs.Option.{option_map}
 use Rattle.std.proofs.lemmas.Bool.Decides.{nat_tests}
 use Rattle.std.proofs.lemmas.List.{length-append}
 use Rattle.std.proofs.lemmas.List.Folds.{list_any-append}
-use Rattle.nc_types.specs.Cidr.{Cidr}
 use Rattle.nc_types.specs.declared.TheConstants.{DEFAULT_PREFERENCE, PATH_LIMIT}
-use Rattle.nc_types.specs.declared.addr.Addr.{Addr}
-use Rattle.nc_types.specs.declared.config.OriginCode.{OriginCode}
 use Rattle.nc_tables.specs.declared.bgp.Chosen.{Chosen}
 use Rattle.nc_tables.specs.declared.bgp.Route.{Route}
 use Rattle.nc_tables.specs.declared.base.BaseRow.{BaseRow}

@@ -1,6 +1,5 @@
-use Rattle.std.proofs.Common.{◌≡◌, ◌≤◌, ◌+◌, ◌++◌, true, false, not, nat_lt, length, List, ℕ, Bool, sym, ap, ◌∙◌, arith}
+use Rattle.std.proofs.Common.{◌≡◌, true, nat_lt, length, sym, ap, ◌∙◌, arith}
 use Rattle.std.proofs.lemmas.List.{length-append}
-use Rattle.nc_types.specs.declared.TheConstants.{PATH_LIMIT}
 use Rattle.nc_types.specs.declared.addr.Addr.{Addr}
 use Rattle.nc_tables.specs.Reach.{hits}
 use Rattle.nc_policy.specs.Passing.{communities_by, passing_view, prepended_by}

@@ -1,12 +1,11 @@
-use Rattle.std.proofs.Common.{◌≡◌, ◌==◌, Bool, ℕ, List, Option, Some, sym, ap, ◌∙◌}
+use Rattle.std.proofs.Common.{Option, ap, ◌∙◌}
 use Rattle.std.specs.Option.{is_some}
-use Rattle.std.specs.Prelude.{option_and_then, position, slice_get}
+use Rattle.std.specs.Prelude.{option_and_then, position}
 use Rattle.nc_types.specs.Config.{ConfigView}
 use Rattle.nc_types.specs.Network.{has_address}
 use Rattle.nc_types.specs.declared.addr.Addr.{Addr}
 use Rattle.nc_types.specs.declared.config.IfaceId.{IfaceId}
 use Rattle.nc_tables.specs.Base.{is_own}
-use Rattle.nc_tables.specs.Reach.{own_place}
 use Rattle.nc_message.specs.Views.{message_view}
 use Rattle.nc_types.proofs.Placing.{same_some}
 use Rattle.nc_message.proofs.Lists.{is_placed}

@@ -1,5 +1,4 @@
 use Rattle.std.proofs.Common.{◌≡◌, ◌++◌, drop, All}
-use Rattle.nc_tables.specs.declared.bgp.Chosen.{Chosen}
 use Rattle.nc_tables.specs.Rounds.{made_from, entry_at}
 use Rattle.nc_message.specs.Given.{IsOf}
 use Rattle.nc_message.proofs.candidates.add_entries.Given as goal

@@ -1,4 +1,4 @@
-use Rattle.std.proofs.Common.{◌≡◌, ◌++◌, Bool, ℕ, List, [], ◌∷◌, cond, Option, slice_index_or, sym, ap, ◌∙◌}
+use Rattle.std.proofs.Common.{◌++◌, Bool, ℕ, List, [], ◌∷◌, cond, Option, sym, ap, ◌∙◌}
 use Rattle.std.specs.Option.{option_map_or}
 use Rattle.std.proofs.lemmas.List.{append-nil}
 use Rattle.nc_types.specs.Cidr.{Cidr}
@@ -7,7 +7,7 @@ use Rattle.nc_tables.specs.declared.bgp.Chosen.{Chosen}
 use Rattle.nc_tables.specs.declared.bgp.BgpFrom.TheVariants.{Origin}
 use Rattle.nc_tables.specs.Base.{same_prefix}
 use Rattle.nc_tables.specs.Rounds.{begun}
-use Rattle.nc_message.specs.Beginning.{has_base_row, networks_of}
+use Rattle.nc_message.specs.Beginning.{has_base_row}
 use Rattle.nc_message.proofs.Making.{one_has, single_made}
 use Rattle.nc_message.proofs.candidates.add_network.Goals as goal
 

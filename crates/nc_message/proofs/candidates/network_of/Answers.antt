@@ -1,8 +1,7 @@
-use Rattle.std.proofs.Common.{◌≡◌, List, [], Option, ap, ◌∙◌}
+use Rattle.std.proofs.Common.{[], Option, ap, ◌∙◌}
 use Rattle.std.specs.Prelude.{position}
 use Rattle.std.specs.Option.{option_map_or}
 use Rattle.nc_types.specs.Config.{ProcessView, process_view}
-use Rattle.nc_types.specs.declared.config.NetworkStatement.{NetworkStatement}
 use Rattle.nc_tables.specs.Base.{same_prefix}
 use Rattle.nc_message.proofs.Lists.{found_within}
 use Rattle.nc_message.proofs.Processes.{has_config}

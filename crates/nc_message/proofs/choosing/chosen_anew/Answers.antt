@@ -1,8 +1,6 @@
-use Rattle.std.proofs.Common.{◌≡◌, ◌+◌, ◌<◌, ◌≤◌, ℕ, List, [], Option, Some, IfSome, length, slice_get, sym, ap, subst, ◌∙◌, arith}
+use Rattle.std.proofs.Common.{List, [], Option, IfSome, sym, ap, subst, ◌∙◌, arith}
 use Rattle.std.specs.Option.{option_map, option_map_or, option_and_then}
-use Rattle.nc_types.specs.Cidr.{Cidr}
 use Rattle.nc_types.specs.Config.{ConfigView, ProcessView, config_view, process_view}
-use Rattle.nc_types.specs.Network.{element_count}
 use Rattle.nc_types.specs.WellFormed.{IsWellFormed, IsProcess}
 use Rattle.nc_types.specs.declared.config.Process.{Process}
 use Rattle.nc_types.specs.declared.config.RouterConfig.{RouterConfig}

@@ -1,4 +1,4 @@
-use Rattle.std.proofs.Common.{◌≡◌, ◌+◌, ◌++◌, ◌<◌, ◌≤◌, ℕ, Bool, List, Option, All, length, nat_eq, sym, ap, subst, ◌∙◌, arith}
+use Rattle.std.proofs.Common.{◌+◌, ◌++◌, ◌≤◌, ℕ, List, Option, All, length, nat_eq, sym, ap, subst, ◌∙◌, arith}
 use Rattle.std.specs.List.{filter_map, slice_get, IsDistinct}
 use Rattle.std.proofs.lemmas.List.{length-append}
 use Rattle.nc_types.specs.Cidr.{Cidr}
@@ -11,7 +11,6 @@ use Rattle.nc_types.proofs.Members.{all_in, all_by_in, in_by_filter_map, in_by_g
 use Rattle.nc_tables.specs.declared.base.BaseRow.{BaseRow}
 use Rattle.nc_tables.specs.declared.bgp.Chosen.{Chosen}
 use Rattle.nc_tables.specs.declared.bgp.SessionRow.{SessionRow}
-use Rattle.nc_tables.specs.Choice.{choose}
 use Rattle.nc_tables.specs.Rounds.{BgpRowView, aggregate_at, candidates_at, entry_at, made_from, origin_at}
 use Rattle.nc_message.specs.Given.{IsOf}
 use Rattle.nc_message.proofs.Distinct.{choose_distinct, choose_few, made_few}

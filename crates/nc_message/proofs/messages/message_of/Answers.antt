@@ -1,4 +1,4 @@
-use Rattle.std.proofs.Common.{◌≡◌, ◌≤◌, ◌+◌, ◌&&◌, false, cond, [], List, length, ℕ, Bool, sym, ap, ◌∙◌, arith}
+use Rattle.std.proofs.Common.{◌≡◌, ◌≤◌, ◌&&◌, false, cond, [], List, length, ℕ, Bool, sym, ap, ◌∙◌, arith}
 use Rattle.nc_types.specs.declared.TheConstants.{PATH_LIMIT}
 use Rattle.nc_sessions.specs.Views.{link_view}
 use Rattle.nc_message.specs.Views.{message_by}

@@ -1,11 +1,11 @@
-use Rattle.std.proofs.Common.{◌≡◌, false, List, get_or, map, sym, ap, subst, ◌∙◌, rules}
+use Rattle.std.proofs.Common.{◌≡◌, false, List, get_or, sym, ap, subst, ◌∙◌, rules}
 use Rattle.std.specs.Ordering.{is_le}
 use Rattle.std.proofs.lemmas.List.Sorted.{IsPartitionPoint-from_clause}
 use Rattle.nc_types.specs.Cidr.{IsCidr}
 use Rattle.nc_types.specs.declared.config.AggregateStatement.{AggregateStatement}
 use Rattle.nc_tables.specs.declared.bgp.BgpRow.{BgpRow}
 use Rattle.nc_tables.specs.Base.{prefix_cmp}
-use Rattle.nc_tables.specs.Rounds.{BgpRowView, bgp_row_view, is_longer_in}
+use Rattle.nc_tables.specs.Rounds.{BgpRowView, is_longer_in}
 use Rattle.nc_tables.proofs.BgpRows.{by_prefix}
 use Rattle.nc_tables.proofs.SideBySide.{rises, upto_first}
 use Rattle.nc_main_rib.specs.Sides.{is_active_in}

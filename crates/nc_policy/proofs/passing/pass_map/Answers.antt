@@ -1,4 +1,4 @@
-use Rattle.std.proofs.Common.{◌≡◌, ◌<◌, ◌≤◌, ◌-◌, length, ℕ, List, refl, ap, sym, ◌∙◌, arith, Some, None}
+use Rattle.std.proofs.Common.{◌<◌, ◌≤◌, ◌-◌, length, ℕ, ap, sym, ◌∙◌, arith, Some, None}
 use Rattle.std.proofs.lemmas.List.{length-map}
 use Rattle.nc_types.specs.Config.{clause_view, config_view}
 use Rattle.std.specs.Option.{option_map}
@@ -7,7 +7,7 @@ use Rattle.nc_tables.specs.Policy.{Permit, set_by}
 use Rattle.nc_policy.specs.declared.passing.PassedRoute.{PassedRoute}
 use Rattle.nc_policy.specs.Passing.{passing_view}
 use Rattle.nc_tables.specs.Rounds.{passed_by}
-use Rattle.nc_policy.specs.Views.{asked, candidate_view}
+use Rattle.nc_policy.specs.Views.{candidate_view}
 use Rattle.nc_policy.proofs.Few.{few_clauses}
 use Rattle.nc_policy.proofs.Verdicts.{decides_alike, names_alike, undecided, denied, permitted, too_long, too_full, not_over}
 use Rattle.nc_policy.proofs.passing.pass_map.Goals as goal
