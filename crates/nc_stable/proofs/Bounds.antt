@@ -1,6 +1,6 @@
 -- The main rows of each router of a network can be numbered: of its elements there are few, and of no table has it more rows.
-use Rattle.std.proofs.Common.{◌≡◌, ℕ, zero, suc, ◌+◌, ◌*◌, ◌^◌, ◌<◌, ◌≤◌, List, [], ◌∷◌, ◌++◌, length, map, get_or, All, Option, Some, None, refl, sym, ap, subst, ◌∙◌, arith}
-use Rattle.std.specs.List.{flat_map, slice_get, slice_index_or}
+use Rattle.std.proofs.Common.{◌≡◌, ℕ, ◌*◌, ◌^◌, ◌<◌, ◌≤◌, List, [], ◌∷◌, ◌++◌, length, map, get_or, All, Option, Some, None, sym, ap, subst, arith}
+use Rattle.std.specs.List.{flat_map, slice_index_or}
 use Rattle.std.specs.Option.{option_map_or, option_and_then}
 use Rattle.std.proofs.lemmas.List.{length-append, length-map, get_or-map}
 use Rattle.std.proofs.lemmas.List.Elements.{All-head, All-tail}
@@ -10,13 +10,11 @@ use Rattle.nc_types.specs.declared.TheConstants.{ROUTER_LIMIT, LINE_LIMIT}
 use Rattle.nc_types.specs.declared.config.AggregateStatement.{AggregateStatement}
 use Rattle.nc_types.specs.declared.config.NetworkStatement.{NetworkStatement}
 use Rattle.nc_types.specs.declared.config.Neighbor.{Neighbor}
-use Rattle.nc_types.specs.Cidr.{Cidr}
 use Rattle.nc_types.specs.Config.{ConfigView, ProcessView}
 use Rattle.nc_types.specs.Joining.{IsValid}
 use Rattle.nc_types.specs.Network.{element_count}
 use Rattle.nc_types.specs.WellFormed.{IsWellFormed, process_places}
 use Rattle.nc_types.proofs.Few.{few_parts}
-use Rattle.nc_tables.specs.declared.base.BaseRow.{BaseRow}
 use Rattle.nc_tables.specs.declared.bgp.SessionRow.{SessionRow}
 use Rattle.nc_tables.specs.declared.bgp.MainRow.{MainRow}
 use Rattle.nc_tables.specs.Base.{base_table, base_tables, prefix_cmp}

@@ -1,5 +1,5 @@
 -- The state that is computed over so many rounds, from the table that no round changes; and a network that has none.
-use Rattle.std.proofs.Common.{◌≡◌, ℕ, List, Option, Some, None, refl, sym, ap, subst, ◌∙◌}
+use Rattle.std.proofs.Common.{◌≡◌, ℕ, List, Option, Some, None, refl, sym, ap, ◌∙◌}
 use Rattle.std.specs.Option.{MatchOption, option_map}
 use Rattle.nc_types.specs.Config.{ConfigView}
 use Rattle.nc_tables.specs.declared.base.BaseRow.{BaseRow}
@@ -9,7 +9,7 @@ use Rattle.nc_tables.specs.Base.{base_tables}
 use Rattle.nc_tables.specs.Sessions.{sessions}
 use Rattle.nc_tables.specs.Main.{main_tables}
 use Rattle.nc_tables.specs.Rounds.{BgpRowView, IsStable, IsUnstable}
-use Rattle.nc_tables.specs.State.{StateView, state_at}
+use Rattle.nc_tables.specs.State.{state_at}
 use Rattle.nc_tables.specs.Settling.{settled_table, settled}
 use Rattle.nc_tables.proofs.Settled.{found, stable_found}
 

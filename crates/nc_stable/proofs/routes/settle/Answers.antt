@@ -6,8 +6,8 @@ use Rattle.nc_stable.specs.declared.fault.SettleFault.TheVariants.{Unstable}
 use Rattle.nc_tables.specs.declared.base.BaseRow.{BaseRow}
 use Rattle.nc_tables.specs.declared.bgp.MainRow.{MainRow}
 use Rattle.nc_tables.specs.Main.{main_tables}
-use Rattle.nc_tables.specs.Rounds.{IsStable, after}
-use Rattle.nc_tables.specs.State.{StateView, IsState}
+use Rattle.nc_tables.specs.Rounds.{after}
+use Rattle.nc_tables.specs.State.{StateView}
 use Rattle.nc_round.proofs.Settled.{after_count}
 use Rattle.nc_stable.proofs.Bounds.{main_few}
 use Rattle.nc_stable.proofs.Found.{state_is, state_found, nothing_found}
