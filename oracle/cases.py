@@ -1,10 +1,11 @@
 #!/usr/bin/env python3
 """Random and systematic cases for the comparison of NetCov with the oracle: files, words and a session each.
 
-Those of route maps and lists alone stand in policies.py.
+Those of route maps and lists alone stand in policies.py, those of processes and sessions in peers.py.
 """
 import oracle
 from pieces import MASKS, R, Case, b, dotted, mutate_words, named, network, random_banner, render, session_for
+from peers import kind_peers, kind_sides
 from policies import kind_policy
 
 TEMPLATES = """hostname r1
@@ -135,7 +136,7 @@ Interface Ethernet0
 IP route 10.9.0.0 255.255.0.0 10.0.0.2
 Hostname x
 """.split("\n")[:-1]
-CONTEXTS = ["none", "interface", "outside", "clause", "interface-comment", "after-route", "top", "top-indented", "deep", "plain-interface"]
+CONTEXTS = ["none", "interface", "outside", "clause", "process", "interface-comment", "after-route", "top", "top-indented", "deep", "plain-interface"]
 
 
 # --- kinds of cases -----------------------------------------------------------------------------------
@@ -296,6 +297,7 @@ def in_context(line_words, context):
         "outside": [b"hostname r1", b"interface Ethernet0", b" ip address 10.0.0.1 255.255.255.0", b"line vty 0 4", (b" ",), b" shutdown"],
         "clause": [b"hostname r1", b"interface Ethernet0", b" ip address 10.0.0.1 255.255.255.0", b"ip prefix-list A permit 10.0.0.0/8", b"ip community-list 5 permit 1:1",
                    b"ip community-list standard C permit 1:1", b"route-map M deny 10", (b" ",), b" set metric 7", b"ip prefix-list B permit 10.0.0.0/8", b" set metric 8"],
+        "process": [b"hostname r1", b"interface Ethernet0", b" ip address 10.0.0.1 255.255.255.0", b"router bgp 65001", b" neighbor 10.0.0.2 remote-as 2", (b" ",), b" neighbor 10.0.0.2 activate"],
         "interface-comment": [b"hostname r1", b"interface Ethernet0", b"!", b"banner motd ^C", b"interface X ^C", (b"\t",), b" ip address 10.0.0.1 255.255.255.0"],
         "after-route": [b"hostname r1", b"interface Ethernet0", b" ip address 10.0.0.1 255.255.255.0", b"ip route 10.9.0.0 255.255.0.0 10.0.0.2", (b" ",), None],
         "top": [None, b" shutdown", b" ip address 10.0.0.1 255.255.255.0", b"hostname r1"],
@@ -328,7 +330,7 @@ def table_cases(count):
             if not v or v == [b""]:
                 continue
             first = b(t).split(b" ")[0]
-            for context in CONTEXTS[:4] if v is not ws else CONTEXTS:
+            for context in CONTEXTS[:5] if v is not ws else CONTEXTS:
                 key = (b" ".join(v), context)
                 if key not in seen:
                     seen.add(key)
@@ -475,6 +477,8 @@ RANDOM_KINDS = {
     "join": kind_join,
     "static": kind_static,
     "policy": kind_policy,
+    "peers": kind_peers,
+    "sides": kind_sides,
     "names": kind_names,
     "bytes": kind_bytes,
     "banner": kind_banner,

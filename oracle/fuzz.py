@@ -3,8 +3,8 @@
 
     python3 oracle/fuzz.py KIND [COUNT] [SEED]
 
-KIND is one of net, odd, join, static, policy, names, bytes, banner, session, words, which are random and take COUNT cases each,
-or table, grid, policies, limits, facts, which are systematic (table takes COUNT random changes besides); all is all but facts.
+KIND is one of net, odd, join, static, policy, peers, sides, names, bytes, banner, session, words, which are random and take COUNT
+cases each, or table, grid, policies, processes, limits, facts, which are systematic (table takes COUNT random changes besides); all is all but facts.
 The program is crates/netcov/out/netcov, or what the variable NETCOV names. A difference goes to a folder of its own,
 which is printed. The status is 1 where there was one. At the end stands what was reached.
 """
@@ -19,6 +19,7 @@ import tempfile
 import oracle
 from cases import RANDOM_KINDS, facts_cases, grid_cases, limit_cases, table_cases
 from pieces import R, Case
+from peers import peer_cases
 from policies import policy_cases
 
 HERE = os.path.dirname(os.path.abspath(__file__))
@@ -116,6 +117,8 @@ def note(status, out, kind):
             w = line.split(b" ")
             if w[0] == b"test":
                 reached["reply test"] += 1
+            elif w[0] == b"strong" and w[3] != b"0":
+                reached["report with weak lines"] += 1
             elif w[0] == b"refused":
                 reached["reply " + (b" ".join(w[:3]) if w[1] == b"limit" else b" ".join(w[:2])).decode()] += 1
     else:
@@ -149,7 +152,7 @@ def systematic(kind, count):
     """The systematic cases of a kind."""
     if kind == "table":
         return table_cases(count)
-    return {"grid": grid_cases, "policies": policy_cases, "limits": limit_cases, "facts": facts_cases}[kind]()
+    return {"grid": grid_cases, "policies": policy_cases, "processes": peer_cases, "limits": limit_cases, "facts": facts_cases}[kind]()
 
 
 def cases_of(kind, count):
@@ -164,7 +167,7 @@ def main():
     seed = int(sys.argv[3]) if len(sys.argv) > 3 else random.SystemRandom().randrange(10**9)
     R.seed(seed)
     print(f"{kind} {count} seed {seed}", flush=True)
-    kinds = ["table", "grid", "policies", "limits"] + list(RANDOM_KINDS) if kind == "all" else [kind]
+    kinds = ["table", "grid", "policies", "processes", "limits"] + list(RANDOM_KINDS) if kind == "all" else [kind]
     bad = collections.Counter()
     top = tempfile.mkdtemp(prefix="netcov-cases-")
     try:

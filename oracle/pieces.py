@@ -238,6 +238,21 @@ def policy_blocks():
     return [(text, []) for text in entries + members] + [clause_block(lists, communities) for _ in range(R.choice([0, 1, 2, 4]))]
 
 
+def process_blocks(hops):
+    """A process with a few neighbors, in one block or two; a neighbor has mostly a number."""
+    asn, body = R.choice([1, 1, 2, 65001]), []
+    for a in R.choices(hops, k=R.choice([0, 1, 1, 2, 3])):
+        body.append(f"neighbor {a} remote-as {R.choice([1, 1, 2, 65001])}")
+        for text, share in (("shutdown", 0.1), ("ebgp-multihop", 0.2), ("update-source Ethernet0", 0.02), ("next-hop-self", 0.2), ("send-community", 0.2), ("activate", 0.3), ("description x", 0.2)):
+            body += [f"neighbor {a} {text}"] * (R.random() < share)
+    for text, share in (("bgp router-id 10.0.0.1", 0.2), ("maximum-paths 2", 0.2), ("bgp log-neighbor-changes", 0.2), ("address-family ipv4", 0.1), ("network 10.9.0.0 mask 255.255.0.0", 0.01)):
+        body += [text] * (R.random() < share)
+    if R.random() < 0.3:
+        R.shuffle(body)
+    cut = R.randrange(len(body) + 1) if R.random() < 0.3 else len(body)
+    return [(f"router bgp {asn}", body[:cut])] + ([(f"router bgp {asn if R.random() < 0.9 else 3}", body[cut:])] if cut < len(body) else [])
+
+
 def blocks_of(used):
     """The statements of a router, each with the statements of its block, in an order of their own."""
     own, hops = [], list(ADDRESSES)
@@ -247,6 +262,8 @@ def blocks_of(used):
         blocks += [(text, []) for text in route_statements(interfaces, hops)]
     if R.random() < 0.4:
         blocks += policy_blocks()
+    if R.random() < 0.4:
+        blocks += process_blocks(hops)
     if R.random() < 0.35:
         R.shuffle(blocks)
     if R.random() < 0.15 and blocks:
@@ -327,6 +344,8 @@ def session_for(files, names, odd):
             text = f"rib {name} {prefix}"
         if R.random() < 0.3:
             text += f" via {hop if hop and R.random() < 0.7 else R.choice(hops)}"
+        if R.random() < 0.2:
+            text = f"session {R.choice(names)} {R.choice(hops)}"
         line = write_words(b(text).split(b" "))
         if R.random() < odd:
             line = odd_session_line(line)
@@ -345,7 +364,8 @@ def odd_session_line(line):
         return R.choice([b"rib", b"rib r1", b"rib r1 10.0.0.1/24", b"rib r1 10.0.0.0/024", b"rib r1 10.0.0.0/33", b"rib r1 10.0.0.0/-1", b"rib r1 10.0.0.0/", b"rib r1 /8",
                          b"rib r1 10.0.0.0", b"rib r1 10.0.0.0/8/8", b"rib r1 10.0.0.0/8 via", b"rib r1 10.0.0.0/8 via x", b"rib r1 10.0.0.0/8 via 10.0.0.1 x",
                          b"rib r9 10.0.0.1/8", b"rib r9 0.0.0.0/0 via 1.1.1.1", b"rib r1 0.0.0.0/00", b"rib r1 10.9.0.0/16 from 10.0.0.2", b"RIB r1 10.0.0.0/24",
-                         b"bgp r1 10.0.0.0/8", b"session r1 10.0.0.2", b"reach r1 10.0.0.2", b"every r1 10.0.0.2", b"element r1 2", b"element r1 0", b"forget 1",
+                         b"bgp r1 10.0.0.0/8", b"session r1 10.0.0.2", b"session", b"session r1", b"session r1 10.0.0.256", b"session r1 10.0.0.2 x", b"session r9 10.0.0.2", b"Session r1 10.0.0.2",
+                         b"session r1 10.0.0.0/24", b"session 10.0.0.2", b"session r9 x", b"reach r1 10.0.0.2", b"every r1 10.0.0.2", b"element r1 2", b"element r1 0", b"forget 1",
                          b"forget 0", b"implies 1 1", b"show r1", b"lcov", b"json", b"cut 1", b"suite", b"dead", b"flow r1 1.1.1.1 2.2.2.2", b"frob", b"via",
                          b"rib via 10.0.0.0/8", b"rib r1 10.0.0.0/8 VIA 10.0.0.1", b"rib r1 10.0.0.0 /8", b"rib r1 10.0.0.0/4294967304", b"rib r1 10.0.0.0/8x"])
     if p < 0.9:
