@@ -1,5 +1,6 @@
 """Facts, their parents, and the marks of lines."""
 from network import HOPS, route_interface
+from paths import alternatives, step
 from routes import AGGREGATE, LEARNT, ORIGIN, chosen_at, contributors_of, entry_of, main_table, message_of
 
 
@@ -95,8 +96,23 @@ def main(net, r, row):
     return "Every", [main_table(net, r)[row][1]]
 
 
+def on_the_way(net, whole_kind, r, a, m, t):
+    """What a step by alternative m rests on."""
+    row, base_row, outcome = alternatives(net, r, a)[m]
+    behind = [("Connected",) + outcome[1:], (whole_kind, outcome[1], a, t - 1)] if outcome[0] == "Go" else []
+    return "Every", [("Main", r, row)] + ([] if base_row is None else [("Base", r, base_row)]) + behind
+
+
+def by_ways(net, kind, step_kind, every, r, a, t):
+    if net.owns(r, a):
+        return kind, [("Connected",) + net.owners[a]]
+    return kind, [(step_kind, r, a, m, t) for m in range(len(alternatives(net, r, a))) if step(net, every, r, a, m, t)]
+
+
 KINDS = {"Element": leaf, "Connected": connected, "Static": static, "Base": base, "Resolve": resolve, "Reach": reach, "Hop": hop, "Session": session, "NetSource": net_source,
-         "Origin": origin, "Contrib": contrib, "Aggregate": aggregate, "Message": message, "Entry": entry, "Chosen": chosen, "Main": main}
+         "Origin": origin, "Contrib": contrib, "Aggregate": aggregate, "Message": message, "Entry": entry, "Chosen": chosen, "Main": main,
+         "Step": lambda net, *f: on_the_way(net, "Trace", *f), "Trace": lambda net, *f: by_ways(net, "Any", "Step", False, *f),
+         "AllStep": lambda net, *f: on_the_way(net, "All", *f), "All": lambda net, *f: by_ways(net, "Every", "AllStep", True, *f)}
 
 
 def closure(net, facts):

@@ -4,23 +4,25 @@
     python3 oracle/oracle.py FILE.. < session
 
 It has the statements and the commands that the program serves, and works everything out from lists, by filters. As a
-module, run(words, session) gives the status and the bytes. With the variable NETCOV_ROUTES set to 1 it serves besides
-what the program doesn't serve yet: networks and aggregates, rounds with the word --rounds, the command bgp, and
-rows of the main table that come of BGP.
+module, run(words, session) gives the status and the bytes. The variable NETCOV_ALSO names what it is to serve besides,
+which the program doesn't serve yet: `routes` are networks and aggregates, rounds with the word --rounds, the command
+bgp, and rows of the main table that come of BGP; `paths` are these and the commands reach, every and element.
 """
 import os
 import sys
 
 from facts import closure, report
-from network import Net, base_table, begun, join
+from network import HOPS, Net, base_table, begun, join
+from paths import arrives
 from reading import Fault, read_file
 from routes import chosen_at, entry_of, main_table, settle
-from texts import address, bits, inside, lines_of, mask, number, prefix_word, words
+from texts import address, bits, inside, large, lines_of, mask, number, prefix_word, words
 
 LIMIT_FILE, LIMIT_LINES, LIMIT_ROUTERS = 4194304, 65535, 256
 LIMIT_SESSION, LIMIT_LINE, LIMIT_TESTS, LIMIT_FACTS = 16777216, 4096, 4096, 1048576
 MOST_ROUNDS, ROUNDS = 10000, 256
-ROUTES = os.environ.get("NETCOV_ROUTES") == "1"
+PATHS = "paths" in os.environ.get("NETCOV_ALSO", "").split()
+ROUTES = PATHS or "routes" in os.environ.get("NETCOV_ALSO", "").split()
 
 
 # --- the session -----------------------------------------------------------------------------
@@ -42,6 +44,10 @@ def asked_for(w):
     """(command, router's name, what, the address behind it or None) of a test, or None"""
     if w[0] == b"session" and len(w) == 3 and address(w[2]) is not None:
         return w[0], w[1], address(w[2]), None
+    if PATHS and w[0] in (b"reach", b"every") and len(w) == 3 and address(w[2]) is not None:
+        return w[0], w[1], address(w[2]), None
+    if PATHS and w[0] == b"element" and len(w) == 3 and large(w[2]) is not None:
+        return w[0], w[1], large(w[2]), None
     behind = {b"rib": b"via", b"bgp": b"from"} if ROUTES else {b"rib": b"via"}
     if w[0] not in behind or len(w) not in (3, 5) or prefix_word(w[2]) is None:
         return None
@@ -55,7 +61,16 @@ def neighbors_at(net, r, a):
     return [n for n, b in enumerate(process["neighbors"] if process else []) if b["addr"] == a]
 
 
+def owners_of(net, r, line):
+    """The element that has a line, as a fact; none where the line is outside."""
+    return [("Element", net.before[r] + place) for place, (_, lines) in enumerate(net.routers[r]["elements"]) if line in lines]
+
+
 def tested_facts(net, command, r, what, a):
+    if command == b"element":
+        return owners_of(net, r, what)
+    if command in (b"reach", b"every"):
+        return [("Trace" if command == b"reach" else "All", r, what, HOPS)] if arrives(net, command == b"every", r, what, HOPS) else []
     if command == b"session":
         return [("Session", r, n) for n in neighbors_at(net, r, what) if (r, n) in net.sessions]
     if command == b"rib":
@@ -92,6 +107,8 @@ class Conversation:
         if not named:
             return b"refused router " + test[1] + b"\n"
         facts = tested_facts(self.net, test[0], named[0], test[2], test[3])
+        if not facts and test[0] == b"element":
+            return b"refused line\n"
         if not facts:
             return b"refused absent " + b" ".join(w) + b"\n"
         return b"refused limit tests\n" if self.accepted == LIMIT_TESTS else self.accept(facts)
