@@ -43,10 +43,10 @@ address_behind key [] = Some None
 address_behind key (word ∷ address ∷ []) = if bytes_eq word key then option_map Some (addr_of address) else None
 address_behind key words = None
 
--- the test that the words behind `rib` make: a name, a prefix, and perhaps `via` and an address
-abbrev pub rib_of : List (List ℕ) → Option TestCommand
-rib_of (name ∷ prefix ∷ words) = option_and_then (λ p. option_map (λ via. Rib name p via) (address_behind (codes "via") words)) (prefix_of prefix)
-rib_of words = None
+-- the test that the words behind a command for a prefix make: a name, the prefix, and perhaps a key word and an address
+abbrev pub prefix_test_of : (List ℕ → Cidr → Option Addr → TestCommand) → List ℕ → List (List ℕ) → Option TestCommand
+prefix_test_of make key (name ∷ prefix ∷ words) = option_and_then (λ p. option_map (make name p) (address_behind key words)) (prefix_of prefix)
+prefix_test_of make key words = None
 
 -- the test that the words behind a command for an address make: a name, the address, and nothing more
 abbrev pub address_test_of : (List ℕ → Addr → TestCommand) → List (List ℕ) → Option TestCommand
@@ -56,9 +56,10 @@ address_test_of make words = None
 -- the test that a command's first word and the words behind it make, if they make one
 abbrev pub test_of : List ℕ → List (List ℕ) → Option TestCommand
 test_of word words =
-    if bytes_eq word (codes "rib") then rib_of words
+    if bytes_eq word (codes "rib") then prefix_test_of Rib (codes "via") words
+    else (if bytes_eq word (codes "bgp") then prefix_test_of Bgp (codes "from") words
     else (if bytes_eq word (codes "session") then address_test_of Session words
-    else None)
+    else None))
 
 -- `quit` and nothing behind it
 abbrev pub quit_of : List (List ℕ) → Line

@@ -1,10 +1,11 @@
 //! What a line of a session asks, read word by word.
 
-ghost use Rattle.std.specs.Prelude.{◌≡◌, ℕ, List, IfOk};
+ghost use Rattle.std.specs.Prelude.{◌≡◌, ℕ, List, Option, IfOk, codes};
 ghost use Rattle.std.specs.Option.{option_map};
 ghost use Rattle.nc_lines.specs.Lines.{words_of};
-ghost use Rattle.nc_command.specs.Command.{address_behind, rib_of, address_test_of};
+ghost use Rattle.nc_command.specs.Command.{address_behind, prefix_test_of, address_test_of};
 ghost use Rattle.nc_command.specs.Command.{test_of, command_of, IsRead};
+ghost use Rattle.nc_types.specs.Cidr.{Cidr};
 ghost use Rattle.nc_types.specs.declared.addr.Addr.{Addr};
 ghost use Rattle.nc_types.specs.declared.command.TestCommand.{TestCommand};
 ghost use Rattle.nc_types.specs.declared.command.TestCommand.TheVariants as command;
@@ -14,7 +15,7 @@ use crate::command::Command;
 use crate::fault::CommandFault;
 use nc_lines::cut::cut_word;
 use nc_lines::numbers::{read_address, read_prefix};
-use nc_types::{Addr, TestCommand, Text};
+use nc_types::{Addr, Prefix, TestCommand, Text};
 use std::alloc::{AllocError, Global};
 
 // What may stand at the end of a line: nothing, or a key word and an address. None where it is another
@@ -33,24 +34,42 @@ fn read_behind(rest: &[u8], key: &[u8]) -> Option<Option<Addr>>
     Some(Some(address))
 }
 
+// The name and the prefix behind a command for a prefix, and the address behind the key word, if one stands
+// there; None where another thing stands there.
+fn read_prefixed<'a>(rest: &'a [u8], key: &[u8]) -> Option<(&'a [u8], Prefix, Option<Addr>)>
+    ensures { (make : List ℕ → Cidr → Option Addr → TestCommand)
+        → option_map (λ asked. make asked.0.now asked.1 asked.2) result
+        ≡ prefix_test_of make key.now (words_of rest.entry.now) }
+{
+    let (name, rest) = cut_word(rest)?;
+    let (word, rest) = cut_word(rest)?;
+    let prefix = read_prefix(word)?;
+    let addr = read_behind(rest, key)?;
+    Some((name, prefix, addr))
+}
+
 // The test that the words behind `rib` make, if they make one.
 fn read_rib(alloc: Global, rest: &[u8]) -> Result<Option<TestCommand>, AllocError>
-    ensures { IfOk result (λ test. test ≡ rib_of (words_of rest.now)) }
+    ensures { IfOk result
+        (λ test. test ≡ prefix_test_of command.Rib (codes "via") (words_of rest.now)) }
 {
-    let Some((name, rest)) = cut_word(rest) else {
-        return Ok(None);
-    };
-    let Some((word, rest)) = cut_word(rest) else {
-        return Ok(None);
-    };
-    let Some(prefix) = read_prefix(word) else {
-        return Ok(None);
-    };
-    let Some(via) = read_behind(rest, b"via") else {
+    let Some((name, prefix, via)) = read_prefixed(rest, b"via") else {
         return Ok(None);
     };
     let name = Text::new(alloc, name)?;
     Ok(Some(TestCommand::Rib(name, prefix, via)))
+}
+
+// The test that the words behind `bgp` make, if they make one.
+fn read_bgp(alloc: Global, rest: &[u8]) -> Result<Option<TestCommand>, AllocError>
+    ensures { IfOk result
+        (λ test. test ≡ prefix_test_of command.Bgp (codes "from") (words_of rest.now)) }
+{
+    let Some((name, prefix, from)) = read_prefixed(rest, b"from") else {
+        return Ok(None);
+    };
+    let name = Text::new(alloc, name)?;
+    Ok(Some(TestCommand::Bgp(name, prefix, from)))
 }
 
 // The name and the address behind a command for an address; None where another thing stands there.
@@ -85,6 +104,9 @@ fn read_test(alloc: Global, word: &[u8], rest: &[u8]) -> Result<Option<TestComma
 {
     if word == b"rib".as_slice() {
         return read_rib(alloc, rest);
+    }
+    if word == b"bgp".as_slice() {
+        return read_bgp(alloc, rest);
     }
     if word == b"session".as_slice() {
         return read_session(alloc, rest);

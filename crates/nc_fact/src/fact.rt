@@ -22,6 +22,19 @@ pub enum Fact {
     Hop(RouterId, Addr, u32, u8),
     /// That the BGP session of the neighbor statement at a place of the process is established.
     Session(RouterId, u32),
+    /// That the network statement at a place of the process has a row in the base table, so that the
+    /// router begins its prefix.
+    Origin(RouterId, u32),
+    /// That the aggregate statement at a place of the process has a chosen route to gather.
+    Contrib(RouterId, u32),
+    /// That the router begins the prefix of this aggregate.
+    Aggregate(RouterId, u32),
+    /// The message for a prefix to the neighbor statement at a place of the process.
+    Message(RouterId, u32, Prefix),
+    /// That it is accepted.
+    Entry(RouterId, u32, Prefix),
+    /// The route of a prefix that is chosen at a place, the best at 0.
+    Chosen(RouterId, Prefix, u32),
     /// The row at a place of the main table.
     Main(RouterId, u32),
 }

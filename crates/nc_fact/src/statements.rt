@@ -15,8 +15,8 @@ fn config_at(state: &Stable, router: RouterId) -> Option<&RouterConfig>
     state.network().routers().get(router.0 as usize)
 }
 
-// The process in the configuration of a router.
-fn process_at(state: &Stable, router: RouterId) -> Option<&Process>
+/// The process in the configuration of a router.
+pub(crate) fn process_at(state: &Stable, router: RouterId) -> Option<&Process>
     ensures { option_map (λ p. process_view p.now) result
         ≡ process_of state.now.routers router.0 }
 {

@@ -1,27 +1,20 @@
 //! Whether a fact holds, and its rank.
 
-ghost use Rattle.std.specs.Prelude.{◌≡◌, ◌≤◌, ◌&&◌, true, is_some, length, nat_le};
-ghost use Rattle.std.specs.List.{list_any};
+ghost use Rattle.std.specs.Prelude.{◌≡◌, ◌&&◌, is_some, nat_le};
 ghost use Rattle.nc_types.specs.declared.TheConstants.{HOP_LIMIT};
-ghost use Rattle.nc_tables.specs.Base.{same_prefix};
 ghost use Rattle.nc_tables.specs.Reach.{reaches};
 ghost use Rattle.nc_tables.specs.Rounds.{session_by};
-ghost use Rattle.nc_fact.specs.Facts.{base_rows, base_of, hops_by, holds, rank};
+ghost use Rattle.nc_policy.specs.Indexes.{ArePolicies};
+ghost use Rattle.nc_fact.specs.Facts.{hops_by, holds, rank};
 
+use crate::bgp::{accepted_of, chosen_of, has_active, has_origin, has_source, message_of};
 use crate::exits::{has_hit, hits, leads_to};
 use crate::fact::Fact;
-use crate::rows::{base_rows, has_router, main_rows, rows_of_prefix, static_row};
-use nc_tables::{MainFrom, Stable};
-use nc_types::{Addr, HOP_LIMIT, Prefix, RouterId};
-
-// Whether a router's base table has a row of a prefix.
-fn has_prefix(state: &Stable, router: RouterId, prefix: Prefix) -> bool
-    ensures { result
-        ≡ list_any (λ row. same_prefix row.prefix prefix) (base_rows state.now router.0) }
-{
-    let rows = rows_of_prefix(state, router, prefix);
-    rows.from < rows.to
-}
+use crate::ranks::{aggregate_rank, chosen_rank, contrib_rank, entry_rank, message_rank, origin_rank};
+use crate::rows::{base_rows, has_router, main_rows, static_row};
+use nc_policy::Policies;
+use nc_tables::Stable;
+use nc_types::{Addr, HOP_LIMIT, RouterId};
 
 // Whether a packet comes from a router to the owner of an address over at most so many hops.
 fn reaches(state: &Stable, router: RouterId, addr: Addr, hops: u8) -> bool
@@ -57,22 +50,11 @@ fn has_session(state: &Stable, router: RouterId, place: u32) -> bool
     state.sessions().get(router, place).is_some()
 }
 
-/// The place of the base row that the main row at a place of a router is of; `None` where the row is of BGP,
-/// and where there is no such row or router.
-pub fn base_of(state: &Stable, router: RouterId, row: u32) -> Option<u32>
-    ensures { result ≡ base_of state.now router.0 row }
-{
-    let row = main_rows(state, router).get(row as usize)?;
-    match row.from {
-        MainFrom::Base(place) => Some(place),
-        MainFrom::Bgp(_) | MainFrom::Discard(_) => None,
-    }
-}
-
 /// Whether a fact holds. A fact of a router, an interface, an element, a statement or a row that doesn't
-/// exist doesn't hold. Takes no memory.
+/// exist doesn't hold. The policies are those of the state's routers. Takes no memory.
 #[tactic(auto, unfolding(crate::specs::Facts::holds))]
-pub fn holds(state: &Stable, fact: &Fact) -> bool
+pub fn holds(state: &Stable, policies: &Policies, fact: &Fact) -> bool
+    requires policies { ArePolicies state.now.routers policies.now }
     ensures { result ≡ holds state.now fact.now }
 {
     match *fact {
@@ -81,19 +63,31 @@ pub fn holds(state: &Stable, fact: &Fact) -> bool
         Fact::Static(router, place) => static_row(state, router, place).is_some(),
         Fact::Base(router, row) => (row as usize) < base_rows(state, router).len(),
         Fact::Resolve(router, addr) => has_hit(state, router, addr),
-        Fact::NetSource(router, prefix) => has_prefix(state, router, prefix),
+        Fact::NetSource(router, prefix) => has_source(state, router, prefix),
         Fact::Reach(router, addr, hops) => reaches(state, router, addr, hops),
         Fact::Hop(router, addr, row, hops) => hops_by(state, router, addr, row, hops),
         Fact::Session(router, place) => has_session(state, router, place),
-        Fact::Main(router, row) => base_of(state, router, row).is_some(),
+        Fact::Origin(router, place) => has_origin(state, router, place),
+        Fact::Contrib(router, place) | Fact::Aggregate(router, place) => {
+            has_active(state, router, place)
+        }
+        Fact::Message(router, place, prefix) => {
+            message_of(state, policies, router, place, prefix).is_some()
+        }
+        Fact::Entry(router, place, prefix) => {
+            accepted_of(state, policies, router, place, prefix).is_some()
+        }
+        Fact::Chosen(router, prefix, place) => chosen_of(state, router, prefix, place).is_some(),
+        Fact::Main(router, row) => (row as usize) < main_rows(state, router).len(),
     }
 }
 
-/// The rank of a fact that holds: above that of each fact from which it follows.
+/// The rank of a fact: above that of each fact from which it follows. That of a route's fact is 0 where there is
+/// no such route. The policies are those of the state's routers. Takes no memory.
 #[tactic(auto, unfolding(crate::specs::Facts::rank))]
-pub fn rank(_state: &Stable, fact: &Fact) -> u32
-    requires { holds _state.now fact.now ≡ true }
-    ensures { result ≡ rank _state.now fact.now }
+pub fn rank(state: &Stable, policies: &Policies, fact: &Fact) -> u32
+    requires policies { ArePolicies state.now.routers policies.now }
+    ensures { result ≡ rank state.now fact.now }
 {
     match *fact {
         Fact::Element(_) => 0,
@@ -104,6 +98,14 @@ pub fn rank(_state: &Stable, fact: &Fact) -> u32
         Fact::Hop(_, _, _, hops) => 5 + 2 * u32::from(hops),
         Fact::Reach(_, _, hops) => 6 + 2 * u32::from(hops),
         Fact::Session(_, _) => 70,
+        Fact::Origin(router, place) => origin_rank(state, router, place),
+        Fact::Contrib(router, place) => contrib_rank(state, router, place),
+        Fact::Aggregate(router, place) => aggregate_rank(state, router, place),
+        Fact::Message(router, place, prefix) => {
+            message_rank(state, policies, router, place, prefix)
+        }
+        Fact::Entry(router, place, prefix) => entry_rank(state, policies, router, place, prefix),
+        Fact::Chosen(router, prefix, place) => chosen_rank(state, router, prefix, place),
         Fact::Main(_, _) => 140_000,
     }
 }

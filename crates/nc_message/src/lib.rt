@@ -24,3 +24,4 @@ pub use choosing::chosen_anew;
 pub use entries::entry;
 pub use given::Given;
 pub use messages::{Sent, message_at};
+pub use rows::has_longer;

@@ -48,7 +48,7 @@ pub(crate) fn has_hit(network: &Network, base: &BaseTables, router: RouterId, ad
 /// Whether a router has chosen candidates of a longer prefix inside another. The rows stand in order
 /// of prefix, so those of longer ones follow the outer one, and the first that follows it is inside
 /// if any is.
-pub(crate) fn has_longer(table: &BgpTable, router: RouterId, outer: Prefix) -> bool
+pub fn has_longer(table: &BgpTable, router: RouterId, outer: Prefix) -> bool
     requires { router.0 < length table.now }
     ensures { result ≡ has_longer (slice_index_or table.now router.0 []) outer }
 {

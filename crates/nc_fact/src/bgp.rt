@@ -1,0 +1,146 @@
+//! The routes of a router's BGP process: what it begins, what it is sent, what it accepts and what it chooses.
+
+ghost use Rattle.std.specs.Prelude.{◌≡◌, ◌≤◌, [], IfSome, All, length, slice_index_or};
+ghost use Rattle.std.specs.List.{list_any};
+ghost use Rattle.std.specs.Option.{option_map, option_map_or};
+ghost use Rattle.nc_types.specs.declared.TheConstants.{MULTIPATH_LIMIT};
+ghost use Rattle.nc_tables.specs.Rounds.{chosen_at, is_active};
+ghost use Rattle.nc_policy.specs.Indexes.{ArePolicies};
+ghost use Rattle.nc_message.specs.Given.{AreGiven};
+ghost use Rattle.nc_message.specs.Views.{message_view, taken_view, IsTold, IsTaken};
+ghost use Rattle.nc_fact.specs.Facts.{network_of, aggregate_of, has_active, has_source};
+ghost use Rattle.nc_fact.specs.Facts.{message_of, accepted_of, chosen_of};
+
+use crate::rows::{has_router, rows_of_prefix};
+use crate::statements::process_at;
+use nc_message::{Given, Sent, Taken, accepted_at, has_longer, message_at};
+use nc_policy::Policies;
+use nc_tables::{Chosen, Stable};
+use nc_types::{AggregateStatement, NetworkStatement, Prefix, RouterId};
+
+// What is needed to tell messages: the network with its tables, and those of its maps.
+fn given<'a>(state: &'a Stable, policies: &'a Policies) -> Given<'a>
+    requires policies { ArePolicies state.now.routers policies.now }
+    ensures given { AreGiven result }
+    ensures network { result.network.now ≡ state.entry.now.routers }
+    ensures base { result.base.now ≡ state.entry.now.base }
+    ensures sessions { result.sessions.now ≡ state.entry.now.sessions }
+{
+    Given {
+        network: state.network(),
+        base: state.base(),
+        sessions: state.sessions(),
+        policies,
+    }
+}
+
+/// The network statement at a place of a router's process; `None` where there is no such statement, process or
+/// router.
+pub fn network_of(state: &Stable, router: RouterId, place: u32) -> Option<NetworkStatement>
+    ensures { result ≡ network_of state.now router.0 place }
+{
+    let process = process_at(state, router)?;
+    process.networks.get(place as usize).copied()
+}
+
+/// The same of its aggregate statements.
+pub fn aggregate_of(state: &Stable, router: RouterId, place: u32) -> Option<AggregateStatement>
+    ensures { result ≡ aggregate_of state.now router.0 place }
+{
+    let process = process_at(state, router)?;
+    process.aggregates.get(place as usize).copied()
+}
+
+/// Whether a router's base table has a row of a prefix.
+pub(crate) fn has_source(state: &Stable, router: RouterId, prefix: Prefix) -> bool
+    ensures { result ≡ has_source state.now router.0 prefix }
+{
+    let rows = rows_of_prefix(state, router, prefix);
+    rows.from < rows.to
+}
+
+/// Whether the network statement at a place of a router has a row in the base table.
+pub(crate) fn has_origin(state: &Stable, router: RouterId, place: u32) -> bool
+    ensures { result ≡ option_map_or (λ n. has_source state.now router.0 n.prefix)
+        (network_of state.now router.0 place) false }
+{
+    match network_of(state, router, place) {
+        Some(network) => has_source(state, router, network.prefix),
+        None => false,
+    }
+}
+
+// Whether an aggregate of a router is active: a longer prefix inside it has a chosen route.
+fn is_active(state: &Stable, router: RouterId, aggregate: &AggregateStatement) -> bool
+    ensures { result ≡ is_active state.now.bgp router.0 aggregate.now }
+{
+    if !has_router(state, router) {
+        return false;
+    }
+    has_longer(state.bgp(), router, aggregate.prefix)
+}
+
+/// Whether the aggregate statement at a place of a router is active.
+pub(crate) fn has_active(state: &Stable, router: RouterId, place: u32) -> bool
+    ensures { result ≡ has_active state.now router.0 place }
+{
+    match aggregate_of(state, router, place) {
+        Some(aggregate) => is_active(state, router, &aggregate),
+        None => false,
+    }
+}
+
+/// The message to the neighbor statement at a place of a router for a prefix, in the state as it settled; `None`
+/// where none is sent, and where there is no such statement or router. The policies are those of the state's
+/// routers. Takes no memory.
+pub fn message_of<'a>(
+    state: &'a Stable,
+    policies: &'a Policies,
+    router: RouterId,
+    place: u32,
+    prefix: Prefix,
+) -> Option<Sent<'a>>
+    requires policies { ArePolicies state.now.routers policies.now }
+    ensures message { option_map message_view result
+        ≡ message_of state.entry.now router.0 place prefix }
+    ensures told { IfSome result IsTold }
+{
+    let given = given(state, policies);
+    message_at(&given, state.bgp(), router, place, prefix)
+}
+
+/// What the router accepts of that message; `None` where it accepts nothing. Takes no memory.
+pub fn accepted_of<'a>(
+    state: &'a Stable,
+    policies: &'a Policies,
+    router: RouterId,
+    place: u32,
+    prefix: Prefix,
+) -> Option<Taken<'a>>
+    requires policies { ArePolicies state.now.routers policies.now }
+    ensures accepted { option_map taken_view result
+        ≡ accepted_of state.entry.now router.0 place prefix }
+    ensures taken { IfSome result IsTaken }
+{
+    let given = given(state, policies);
+    accepted_at(&given, state.bgp(), router, place, prefix)
+}
+
+/// The routes of a prefix that a router has chosen, best first; none where the prefix has no row, and where
+/// there is no such router.
+pub fn chosen_at(state: &Stable, router: RouterId, prefix: Prefix) -> &[Chosen]
+    ensures chosen { result.now ≡ chosen_at state.now.bgp router.0 prefix }
+    ensures few { length result.now ≤ MULTIPATH_LIMIT }
+{
+    if !has_router(state, router) {
+        return &[];
+    }
+    state.bgp().chosen(router, prefix)
+}
+
+/// The route of a prefix that a router has chosen at a place, the best at 0.
+pub fn chosen_of(state: &Stable, router: RouterId, prefix: Prefix, place: u32) -> Option<&Chosen>
+    ensures { option_map (λ x. x.now) result ≡ chosen_of state.now router.0 prefix place }
+{
+    chosen_at(state, router, prefix).get(place as usize)
+}
