@@ -15,12 +15,12 @@ use Rattle.nc_types.specs.Cidr.{Cidr}
 use Rattle.nc_types.specs.Masks.{network_of}
 use Rattle.nc_types.specs.declared.addr.Addr.{Addr}
 use Rattle.nc_types.specs.declared.command.TestCommand.{TestCommand}
-use Rattle.nc_types.specs.declared.command.TestCommand.TheVariants.{Rib, Session}
+use Rattle.nc_types.specs.declared.command.TestCommand.TheVariants.{Rib, Bgp, Session}
 use Rattle.nc_lines.specs.Lines.{words_of}
 use Rattle.nc_lines.specs.Numbers.{is_digit, value_after, is_plain, number_of, address_of, address_of_parts, prefix_of, prefix_of_parts}
 use Rattle.nc_lines.proofs.NumberLemmas.{value_after-ge}
 use Rattle.nc_command.specs.declared.command.Command.TheVariants.{Test}
-use Rattle.nc_command.specs.Command.{Passed, TooLong, Unread, Asks, begins_note, addr_of, address_behind, rib_of, address_test_of, test_of, quit_of, asked_by, command_of, dotted, cidr_text, spaced, prefix_text, address_text, text_of}
+use Rattle.nc_command.specs.Command.{Passed, TooLong, Unread, Asks, begins_note, addr_of, address_behind, prefix_test_of, address_test_of, test_of, quit_of, asked_by, command_of, dotted, cidr_text, spaced, prefix_text, address_text, text_of}
 
 -- ---- numbers
 
@@ -175,15 +175,17 @@ behind-text command name p key (word ∷ address ∷ []) via at = by_key (bytes_
         ∙ ap (λ w. spaced (command ∷ name ∷ cidr_text p ∷ key ∷ w ∷ [])) (address-text address addr.0 addr.1)
         ∙ ap (λ w. spaced (command ∷ name ∷ cidr_text p ∷ w ∷ address ∷ [])) same
 
-rib-text : (words : List (List ℕ)) (test : TestCommand) → rib_of words ≡ Some test → text_of test ≡ spaced (codes "rib" ∷ words)
-rib-text [] test at = absurd (cc)
-rib-text (a ∷ []) test at = absurd (cc)
-rib-text (name ∷ word ∷ words) test at =
+prefix-test-text : (command key : List ℕ) (make : List ℕ → Cidr → Option Addr → TestCommand) → ((name : List ℕ) (p : Cidr) (addr : Option Addr) → text_of (make name p addr) ≡ prefix_text command name p key addr) → (words : List (List ℕ)) (test : TestCommand)
+    → prefix_test_of make key words ≡ Some test → text_of test ≡ spaced (command ∷ words)
+prefix-test-text command key make texts [] test at = absurd (cc)
+prefix-test-text command key make texts (a ∷ []) test at = absurd (cc)
+prefix-test-text command key make texts (name ∷ word ∷ words) test at =
     option_and_then_some _ (prefix_of word) test at (λ p is-p in-p.
-    let via = map-some (λ via. Rib name p via) (address_behind (codes "via") words) test in-p in
-    ap text_of (sym via.2)
-    ∙ behind-text (codes "rib") name p (codes "via") words via.0 via.1
-    ∙ ap (λ w. spaced (codes "rib" ∷ name ∷ w ∷ words)) (prefix-text word p is-p))
+    let addr = map-some (make name p) (address_behind key words) test in-p in
+    ap text_of (sym addr.2)
+    ∙ texts name p addr.0
+    ∙ behind-text command name p key words addr.0 addr.1
+    ∙ ap (λ w. spaced (command ∷ name ∷ w ∷ words)) (prefix-text word p is-p))
 
 -- a name and an address behind a command
 address-test-text : (command : List ℕ) (make : List ℕ → Addr → TestCommand) → ((name : List ℕ) (a : Addr) → text_of (make name a) ≡ address_text command name a) → (words : List (List ℕ)) (test : TestCommand) → address_test_of make words ≡ Some test
@@ -208,10 +210,16 @@ test-text word words test at = by_rib (bytes_eq word (codes "rib")) refl at
     by_session false same is = absurd (cc)
     by_session true same is = address-test-text (codes "session") Session (λ name a. refl) words test is ∙ first-word word (codes "session") words same
 
-    by_rib : (b : Bool) → bytes_eq word (codes "rib") ≡ b → cond b (rib_of words) (cond (bytes_eq word (codes "session")) (address_test_of Session words) None) ≡ Some test
+    by_bgp : (b : Bool) → bytes_eq word (codes "bgp") ≡ b → cond b (prefix_test_of Bgp (codes "from") words) (cond (bytes_eq word (codes "session")) (address_test_of Session words) None) ≡ Some test
         → text_of test ≡ spaced (word ∷ words)
-    by_rib false same is = by_session (bytes_eq word (codes "session")) refl is
-    by_rib true same is = rib-text words test is ∙ first-word word (codes "rib") words same
+    by_bgp false same is = by_session (bytes_eq word (codes "session")) refl is
+    by_bgp true same is = prefix-test-text (codes "bgp") (codes "from") Bgp (λ name p addr. refl) words test is ∙ first-word word (codes "bgp") words same
+
+    by_rib : (b : Bool) → bytes_eq word (codes "rib") ≡ b
+        → cond b (prefix_test_of Rib (codes "via") words) (cond (bytes_eq word (codes "bgp")) (prefix_test_of Bgp (codes "from") words) (cond (bytes_eq word (codes "session")) (address_test_of Session words) None)) ≡ Some test
+        → text_of test ≡ spaced (word ∷ words)
+    by_rib false same is = by_bgp (bytes_eq word (codes "bgp")) refl is
+    by_rib true same is = prefix-test-text (codes "rib") (codes "via") Rib (λ name p addr. refl) words test is ∙ first-word word (codes "rib") words same
 
 -- a test that words ask has the words as its text
 asked-text : (words : List (List ℕ)) (test : TestCommand) → asked_by words ≡ Asks (Test test) → text_of test ≡ spaced words

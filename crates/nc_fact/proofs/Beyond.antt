@@ -1,4 +1,4 @@
--- A router that doesn't exist has no rows and no sessions, and no packet comes from there.
+-- A router that doesn't exist has no rows, no sessions and no routes, and no packet comes from there.
 use Rattle.std.proofs.Common.{◌≡◌, ℕ, zero, suc, ◌<◌, ◌≤◌, Bool, true, false, ◌||◌, List, [], length, map, filter, slice_index_or, Option, ap, ◌∙◌, arith, inl, inr}
 use Rattle.std.specs.List.{list_any, filter_map}
 use Rattle.std.specs.Option.{option_map_or}
@@ -12,7 +12,7 @@ use Rattle.nc_tables.specs.Base.{is_own}
 use Rattle.nc_tables.specs.Longest.{longest}
 use Rattle.nc_tables.specs.Reach.{hits, is_hit, leads_to, next_places, owns, reaches}
 use Rattle.nc_tables.specs.State.{StateView, IsState}
-use Rattle.nc_tables.proofs.State.{base_count, sessions_count, main_count}
+use Rattle.nc_tables.proofs.State.{base_count, sessions_count, bgp_count, main_count}
 use Rattle.nc_fact.specs.Facts.{base_rows, main_rows}
 
 -- what isn't below the count of routers
@@ -29,6 +29,9 @@ module _ (s : StateView) (is : IsState s) (router : ℕ) (beyond : length s.rout
 
   pub no_sessions : slice_index_or s.sessions router [] ≡ []
   no_sessions = get_or_past s.sessions router [] (omega (arith, beyond, sessions_count s is))
+
+  pub no_routes : slice_index_or s.bgp router [] ≡ []
+  no_routes = get_or_past s.bgp router [] (omega (arith, beyond, bgp_count s is))
 
   not_own : (addr : ℕ) → owns s.routers router addr ≡ false
   not_own addr = ap (λ (o : Option ConfigView). option_map_or (λ (c : ConfigView). is_own c.interfaces addr) o false) (slice_get_past s.routers router beyond)

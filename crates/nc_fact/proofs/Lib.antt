@@ -3,3 +3,4 @@ pub mod Beyond
 pub mod Places
 pub mod Hits
 pub mod Asked
+pub mod ByPlace

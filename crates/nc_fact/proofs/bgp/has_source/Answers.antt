@@ -3,7 +3,7 @@ use Rattle.nc_tables.specs.declared.base.BaseRow.{BaseRow}
 use Rattle.nc_tables.specs.Base.{same_prefix}
 use Rattle.nc_fact.specs.Facts.{base_rows}
 use Rattle.nc_fact.proofs.Places.{any_by_range}
-use Rattle.nc_fact.proofs.truth.has_prefix.Goals as goal
+use Rattle.nc_fact.proofs.bgp.has_source.Goals as goal
 
 pub returns : goal.returns
 returns c =
