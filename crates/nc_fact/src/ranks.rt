@@ -4,7 +4,6 @@ ghost use Rattle.std.specs.Prelude.{◌≡◌, ◌≤◌, length};
 ghost use Rattle.std.specs.Option.{option_map_or};
 ghost use Rattle.nc_types.specs.declared.TheConstants.{PATH_LIMIT};
 ghost use Rattle.nc_policy.specs.Indexes.{ArePolicies};
-
 ghost use Rattle.nc_message.specs.Views.{message_view, taken_view, IsTold, IsTaken};
 ghost use Rattle.nc_fact.specs.Facts.{weight, lowest_rank, rank_of_network, rank_of_aggregate};
 ghost use Rattle.nc_fact.specs.Facts.{rank_of_message, rank_of_accepted, rank_of_chosen};
@@ -79,14 +78,20 @@ fn rank_of_accepted(prefix: Prefix, taken: &Taken) -> u32
     requires { IsTaken taken.now }
     ensures { result ≡ rank_of_accepted prefix (taken_view taken.now) }
 {
-    lowest_rank(prefix, weight(taken_count(taken), taken.sent.link.session.internal)) + 3
+    lowest_rank(
+        prefix,
+        weight(taken_count(taken), taken.sent.link.session.internal),
+    ) + 3
 }
 
 // The rank of a route of a prefix that is chosen.
 fn rank_of_chosen(prefix: Prefix, chosen: &Chosen) -> u32
     ensures { result ≡ rank_of_chosen prefix chosen.now }
 {
-    lowest_rank(prefix, weight(chosen.route.path.numbers().len(), chosen.internal)) + 4
+    lowest_rank(
+        prefix,
+        weight(chosen.route.path.numbers().len(), chosen.internal),
+    ) + 4
 }
 
 /// The rank of a network statement's fact; 0 where there is no such statement.

@@ -271,9 +271,9 @@ fn named_facts(
             facts_of_bgp(alloc, state, policies, name, *prefix, *from)
         }
         TestCommand::Session(name, addr) => facts_of_session(alloc, state, policies, name, *addr),
-        TestCommand::Reach(_, _)
-        | TestCommand::Every(_, _)
-        | TestCommand::Element(_, _) => Ok(Vec::new(alloc)),
+        TestCommand::Reach(_, _) | TestCommand::Every(_, _) | TestCommand::Element(_, _) => Ok(
+            Vec::new(alloc),
+        ),
     }
 }
 

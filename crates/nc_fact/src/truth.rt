@@ -10,7 +10,9 @@ ghost use Rattle.nc_fact.specs.Facts.{hops_by, holds, rank};
 use crate::bgp::{accepted_of, chosen_of, has_active, has_origin, has_source, message_of};
 use crate::exits::{has_hit, hits, leads_to};
 use crate::fact::Fact;
-use crate::ranks::{aggregate_rank, chosen_rank, contrib_rank, entry_rank, message_rank, origin_rank};
+use crate::ranks::{
+    aggregate_rank, chosen_rank, contrib_rank, entry_rank, message_rank, origin_rank,
+};
 use crate::rows::{base_rows, has_router, main_rows, static_row};
 use nc_policy::Policies;
 use nc_tables::Stable;

@@ -1,4 +1,4 @@
-use Rattle.std.proofs.Common.{Bool, ◌&&◌, nat_lt, List, length, ap, sym}
+use Rattle.std.proofs.Common.{◌&&◌, nat_lt, List, length, ap, sym}
 use Rattle.std.specs.List.{list_any}
 use Rattle.nc_tables.specs.Rounds.{BgpRowView, is_longer_in}
 use Rattle.nc_fact.proofs.Beyond.{beyond_by, no_routes}
