@@ -65,7 +65,7 @@ fn is_learnt(from: BgpFrom) -> bool
 
 /// The next hop of a message: the sender, but within the system that of what was learnt stays,
 /// unless the sender's statement says `next-hop-self`.
-pub(crate) fn next_hop(sent: &Sent) -> Addr
+pub fn next_hop(sent: &Sent) -> Addr
     ensures { result ≡ (message_view sent.now).route.next_hop }
 {
     let link = &sent.link;

@@ -19,9 +19,9 @@ mod given;
 mod messages;
 mod rows;
 
-pub use accepting::{Taken, accepted_at};
+pub use accepting::{Taken, accepted_at, next_hop};
 pub use choosing::chosen_anew;
 pub use entries::entry;
 pub use given::Given;
 pub use messages::{Sent, message_at};
-pub use rows::has_longer;
+pub use rows::{has_longer, is_longer_in};

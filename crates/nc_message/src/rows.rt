@@ -13,7 +13,7 @@ use nc_types::{Addr, Network, Prefix, RouterId};
 use nc_underlay::is_hit;
 
 /// Whether a prefix is a longer one inside another.
-pub(crate) fn is_longer_in(prefix: Prefix, outer: Prefix) -> bool
+pub fn is_longer_in(prefix: Prefix, outer: Prefix) -> bool
     ensures longer { result ≡ is_longer_in prefix outer }
     ensures valid { IsCidr prefix.base prefix.len }
 {

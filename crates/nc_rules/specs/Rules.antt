@@ -4,7 +4,7 @@ use Rattle.nc_graph.specs.Flow.{Flow}
 use Rattle.nc_tables.specs.Base.{same_prefix}
 use Rattle.nc_tables.specs.State.{StateView}
 use Rattle.nc_fact.specs.declared.fact.Fact.{Fact}
-use Rattle.nc_fact.specs.declared.fact.Fact.TheVariants.{Element, Connected, Static, Base, Resolve, NetSource, Reach, Hop, Session, Main}
+use Rattle.nc_fact.specs.declared.fact.Fact.TheVariants.{Element, Connected, Static, Base, Resolve, NetSource, Reach, Hop, Session, Origin, Contrib, Aggregate, Message, Entry, Chosen, Main}
 use Rattle.nc_fact.specs.Facts.{holds, rank}
 use Rattle.nc_rules_route.specs.Parents.{kind, parents}
 
@@ -19,6 +19,12 @@ same_fact (NetSource r p) (NetSource s q) = (r.0 == s.0) && same_prefix p q
 same_fact (Reach r a m) (Reach s b n) = (r.0 == s.0) && ((a.0 == b.0) && (m == n))
 same_fact (Hop r a k m) (Hop s b l n) = (r.0 == s.0) && ((a.0 == b.0) && ((k == l) && (m == n)))
 same_fact (Session r k) (Session s l) = (r.0 == s.0) && (k == l)
+same_fact (Origin r k) (Origin s l) = (r.0 == s.0) && (k == l)
+same_fact (Contrib r k) (Contrib s l) = (r.0 == s.0) && (k == l)
+same_fact (Aggregate r k) (Aggregate s l) = (r.0 == s.0) && (k == l)
+same_fact (Message r k p) (Message s l q) = (r.0 == s.0) && ((k == l) && same_prefix p q)
+same_fact (Entry r k p) (Entry s l q) = (r.0 == s.0) && ((k == l) && same_prefix p q)
+same_fact (Chosen r p k) (Chosen s q l) = (r.0 == s.0) && (same_prefix p q && (k == l))
 same_fact (Main r k) (Main s l) = (r.0 == s.0) && (k == l)
 same_fact f g = false
 

@@ -1,14 +1,16 @@
-ghost use Rattle.std.specs.Prelude.{◌≡◌, ◌<◌, ◌^◌};
+ghost use Rattle.std.specs.Prelude.{◌≡◌, ◌<◌, ◌^◌, IfOk};
 ghost use Rattle.nc_tables.specs.State.{StateView, IsState};
+ghost use Rattle.nc_policy.specs.Indexes.{ArePolicies};
 ghost use Rattle.nc_graph.specs.Flow.{IsFlow};
 ghost use Rattle.nc_rules.specs.Rules.{flow_of};
 
 use nc_fact::Fact;
 use nc_graph::inference::Inference;
 use nc_graph::node::NodeKind;
+use nc_policy::Policies;
 use nc_rules_route::{route_parents, rules_are_lawful};
 use nc_tables::Stable;
-use std::alloc::AllocError;
+use std::alloc::{AllocError, Global};
 
 /// The flow graph of every state of a network meets the laws of flow graphs. It does nothing: a
 /// caller that needs the laws calls it.
@@ -18,13 +20,15 @@ pub fn rules_make_a_flow()
     rules_are_lawful();
 }
 
-/// The rules of a network: its state, which they own, and how many facts were asked for. Nothing
-/// gives the state back, so whatever is inferred of it is counted here.
+/// The rules of a network: its state and the tables of its maps, both of which they own, and how many
+/// facts were asked for. Nothing gives the state back, so whatever is inferred of it is counted here.
 #[derive(Drop)]
 pub struct Rules {
     state: Stable,
+    policies: Policies,
     asked: u64,
     ghost lawful: { IsFlow (flow_of state) },
+    ghost tables: { ArePolicies state.routers policies },
     ghost counted: { asked < 2 ^ 64 },
 }
 
@@ -32,13 +36,21 @@ impl Rules {
     ghost use Rattle.nc_rules.specs.Seen.{state_of, asked_of};
 
     /// The rules of a network in this state; no fact was asked for yet.
-    pub fn new(state: Stable) -> Rules
-        ensures state { state_of result ≡ state }
-        ensures asked { asked_of result ≡ 0 }
+    ///
+    /// # Errors
+    ///
+    /// Memory that runs out.
+    pub fn new(alloc: Global, state: Stable) -> Result<Rules, AllocError>
+        ensures state { IfOk result (λ rules. state_of rules ≡ state) }
+        ensures asked { IfOk result (λ rules. asked_of rules ≡ 0) }
     {
         rules_make_a_flow();
-        let _settled = state.network();
-        Rules { state, asked: 0 }
+        let policies = Policies::new(alloc, state.network())?;
+        Ok(Rules {
+            state,
+            policies,
+            asked: 0,
+        })
     }
 
     /// The state.
@@ -46,6 +58,13 @@ impl Rules {
         ensures { result.now ≡ state_of self.now }
     {
         &self.state
+    }
+
+    /// The tables of the maps of the state's routers.
+    pub fn policies(&self) -> &Policies
+        ensures { ArePolicies (state_of self.now).routers result.now }
+    {
+        &self.policies
     }
 
     /// How many facts were asked for so far, up to the largest `u64`, at which the count stays.
@@ -75,7 +94,7 @@ impl Inference for Rules {
     #[tactic(auto, unfolding(crate::specs::Rules::flow_of))]
     fn infer(&mut self, fact: &Fact, into: &mut Vec<Fact>) -> Result<NodeKind, AllocError> {
         self.asked = self.asked.saturating_add(1);
-        let kind = route_parents(&self.state, fact, into)?;
+        let kind = route_parents(&self.state, &self.policies, fact, into)?;
         Ok(kind)
     }
 

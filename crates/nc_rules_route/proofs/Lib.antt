@@ -10,3 +10,6 @@ pub mod Tables
 pub mod Holding
 pub mod Hops
 pub mod FlowLaws
+pub mod Messages
+pub mod Weights
+pub mod Choosing

@@ -1,25 +1,36 @@
 -- From which facts a fact follows, and how.
-use Rattle.std.specs.Prelude.{ℕ, ◌-◌, List, [], ◌∷◌, ◌++◌, map, filter, option_and_then, slice_get}
-use Rattle.std.specs.Option.{option_map_or}
+use Rattle.std.specs.Prelude.{ℕ, ◌-◌, List, [], ◌∷◌, ◌++◌, length, map, filter, Option, option_and_then, slice_get, slice_index_or}
+use Rattle.std.specs.List.{flat_map, range_with_len}
+use Rattle.std.specs.Option.{option_map, option_map_or}
 use Rattle.nc_types.specs.declared.TheConstants.{HOP_LIMIT}
+use Rattle.nc_types.specs.Cidr.{Cidr}
+use Rattle.nc_types.specs.Config.{ConfigView, ProcessView}
 use Rattle.nc_types.specs.Network.{number_at}
 use Rattle.nc_types.specs.declared.addr.Addr.{Addr}
 use Rattle.nc_types.specs.declared.config.RouterId.{RouterId}
+use Rattle.nc_types.specs.declared.config.NetworkStatement.{NetworkStatement}
+use Rattle.nc_types.specs.declared.config.AggregateStatement.{AggregateStatement}
 use Rattle.nc_tables.specs.declared.base.BaseFrom.{BaseFrom}
 use Rattle.nc_tables.specs.declared.base.BaseFrom.TheVariants as row
+use Rattle.nc_tables.specs.declared.bgp.BgpFrom.{BgpFrom}
+use Rattle.nc_tables.specs.declared.bgp.BgpFrom.TheVariants as by
+use Rattle.nc_tables.specs.declared.bgp.MainFrom.{MainFrom}
+use Rattle.nc_tables.specs.declared.bgp.MainFrom.TheVariants as main
+use Rattle.nc_tables.specs.declared.policy.Place.{Place}
+use Rattle.nc_tables.specs.declared.policy.Names.{Names}
 use Rattle.nc_tables.specs.Base.{same_prefix, static_at}
 use Rattle.nc_tables.specs.Longest.{places_from}
 use Rattle.nc_tables.specs.Reach.{hits, leads_to, own_place}
-use Rattle.nc_tables.specs.Sessions.{End}
-use Rattle.nc_tables.specs.Rounds.{Link, link_at}
+use Rattle.nc_tables.specs.Sessions.{End, process_of}
+use Rattle.nc_tables.specs.Rounds.{BgpRowView, Link, Message as SentMessage, Accepted, is_longer_in, link_at}
 use Rattle.nc_tables.specs.State.{StateView}
 use Rattle.nc_graph.specs.declared.node.NodeKind.{NodeKind}
 use Rattle.nc_graph.specs.declared.node.NodeKind.TheVariants.{Leaf, Every, Any}
 use Rattle.nc_fact.specs.declared.fact.Fact.{Fact}
-use Rattle.nc_fact.specs.declared.fact.Fact.TheVariants.{Element, Connected, Static, Base, Resolve, NetSource, Reach, Hop, Session, Main}
-use Rattle.nc_fact.specs.Facts.{base_rows, base_of, holds}
+use Rattle.nc_fact.specs.declared.fact.Fact.TheVariants.{Element, Connected, Static, Base, Resolve, NetSource, Reach, Hop, Session, Origin, Contrib, Aggregate, Message, Entry, Chosen, Main}
+use Rattle.nc_fact.specs.Facts.{base_rows, main_rows, aggregate_of, message_of, accepted_of, chosen_of, holds}
 
--- an element is the leaf of its number; what more than one row or hop can give follows from any of them; all else from all parents together
+-- an element is the leaf of its number; what more than one row, hop or route can give follows from any of them; all else from all parents together
 unfoldable pub kind : Fact → NodeKind
 kind (Element e) = Leaf e.0
 kind (Connected router iface) = Every
@@ -30,6 +41,12 @@ kind (NetSource router prefix) = Any
 kind (Reach router addr hops) = Any
 kind (Hop router addr row hops) = Every
 kind (Session router place) = Every
+kind (Origin router place) = Every
+kind (Contrib router place) = Any
+kind (Aggregate router place) = Every
+kind (Message router place prefix) = Every
+kind (Entry router place prefix) = Every
+kind (Chosen router prefix place) = Every
 kind (Main router row) = Every
 
 -- the connected route through which a static route's next hop is reached; one that discards has none
@@ -44,6 +61,37 @@ route_of router (row.Connected iface) = Connected router iface
 route_of router (row.Static place iface) = Static router place
 route_of router (row.Null place) = Static router place
 
+-- what a chosen route of a prefix is made from
+abbrev pub source_of : RouterId → Cidr → BgpFrom → Fact
+source_of router prefix (by.Origin place) = Origin router place
+source_of router prefix (by.Aggregate place) = Aggregate router place
+source_of router prefix (by.Entry place) = Entry router place prefix
+
+-- what a main row of a prefix is of
+abbrev pub main_of : RouterId → Cidr → MainFrom → Fact
+main_of router prefix (main.Base place) = Base router place
+main_of router prefix (main.Bgp place) = Chosen router prefix place
+main_of router prefix (main.Discard place) = Aggregate router place
+
+-- the routes of a prefix that are chosen, best first
+abbrev pub each_chosen : RouterId → BgpRowView → List Fact
+each_chosen router row = map (Chosen router row.prefix) (range_with_len 0 (length row.chosen))
+
+-- those of every longer prefix inside another, by prefix
+abbrev pub chosen_inside : RouterId → Cidr → List BgpRowView → List Fact
+chosen_inside router outer rows = flat_map (each_chosen router) (filter (λ row. is_longer_in row.prefix outer) rows)
+
+-- ---- which element of a configuration a part is
+
+abbrev pub clause_place : ℕ → ConfigView → Option ℕ
+clause_place place c = option_map (λ k. k.element) (slice_get c.clauses place)
+
+abbrev pub entry_place : Place → ConfigView → Option ℕ
+entry_place place c = option_and_then (λ l. option_map (λ e. e.element) (slice_get l.entries place.entry)) (slice_get c.lists place.list)
+
+abbrev pub community_place : Place → ConfigView → Option ℕ
+community_place place c = option_and_then (λ l. option_map (λ e. e.element) (slice_get l.entries place.entry)) (slice_get c.community_lists place.list)
+
 module _ (s : StateView) where
   -- the fact of the element at a place of a router, which is numbered behind the elements of all earlier routers
   abbrev pub element_in : ℕ → ℕ → Fact
@@ -57,6 +105,24 @@ module _ (s : StateView) where
   abbrev pub of_static : ℕ → ℕ → List Fact
   of_static router place =
       option_map_or (λ r. element_in router r.element ∷ []) (option_and_then (λ c. slice_get c.statics place) (slice_get s.routers router)) []
+
+  -- the element that a part of a router's configuration is
+  abbrev pub of_part : ℕ → (ConfigView → Option ℕ) → List Fact
+  of_part router part = option_map_or (λ place. element_in router place ∷ []) (option_and_then part (slice_get s.routers router)) []
+
+  -- those by which a map of a router let a route pass, where they are named: the deciding clause, the entry of the prefix list and
+  -- that of the community list
+  abbrev pub of_clause : ℕ → Option ℕ → List Fact
+  of_clause router clause = option_map_or (λ k. of_part router (clause_place k)) clause []
+
+  abbrev pub of_entry : ℕ → Option Place → List Fact
+  of_entry router entry = option_map_or (λ e. of_part router (entry_place e)) entry []
+
+  abbrev pub of_community : ℕ → Option Place → List Fact
+  of_community router entry = option_map_or (λ e. of_part router (community_place e)) entry []
+
+  abbrev pub of_passed : ℕ → Option ℕ → Names → List Fact
+  of_passed router clause names = of_clause router clause ++ (of_entry router names.entry ++ of_community router names.community)
 
   -- the hops by which a packet comes to the owner of an address
   abbrev pub hops_of : RouterId → Addr → ℕ → List Fact
@@ -82,6 +148,24 @@ module _ (s : StateView) where
   abbrev pub session_parents : RouterId → Link → List Fact
   session_parents router k = end_elements router.0 k.receiver ++ (end_elements k.session.peer.0 k.sender ++ ways_between router k)
 
+  -- what a network statement rests on to begin its prefix: its process, itself, and the rows of the prefix
+  abbrev pub origin_parents : RouterId → ProcessView → NetworkStatement → List Fact
+  origin_parents router p n = element_in router.0 p.element ∷ element_in router.0 n.element ∷ NetSource router n.prefix ∷ []
+
+  -- and an aggregate statement: its process, itself, and that it has something to gather
+  abbrev pub aggregate_parents : RouterId → ℕ → ProcessView → AggregateStatement → List Fact
+  aggregate_parents router place p a = element_in router.0 p.element ∷ element_in router.0 a.element ∷ Contrib router place ∷ []
+
+  -- what a message rests on: the session, the best that the sender has chosen, and by what its map let that pass
+  abbrev pub message_parents : RouterId → ℕ → Cidr → SentMessage → List Fact
+  message_parents router place prefix m =
+      Session router place ∷ Chosen m.link.session.peer prefix 0 ∷ of_passed m.link.session.peer.0 m.out.clause m.out.names
+
+  -- what is accepted of it: the message, that its next hop is reached, and by what the receiver's map let it pass
+  abbrev pub entry_parents : RouterId → ℕ → Cidr → Accepted → List Fact
+  entry_parents router place prefix a =
+      Message router place prefix ∷ Resolve router a.message.route.next_hop ∷ of_passed router.0 a.into.clause a.into.names
+
   -- the parents of a fact that holds, in order
   unfoldable pub parents : Fact → List Fact
   parents (Element e) = []
@@ -93,4 +177,10 @@ module _ (s : StateView) where
   parents (Reach router addr hops) = option_map_or (λ iface. Connected router (record { 0 = iface }) ∷ []) (own_place s.routers router.0 addr.0) (hops_of router addr hops)
   parents (Hop router addr row hops) = hop_parents router addr row hops
   parents (Session router place) = option_map_or (session_parents router) (link_at s.routers s.sessions router.0 place) []
-  parents (Main router row) = option_map_or (λ place. Base router place ∷ []) (base_of s router.0 row) []
+  parents (Origin router place) = option_map_or (λ p. option_map_or (origin_parents router p) (slice_get p.networks place) []) (process_of s.routers router.0) []
+  parents (Contrib router place) = option_map_or (λ a. chosen_inside router a.prefix (slice_index_or s.bgp router.0 [])) (aggregate_of s router.0 place) []
+  parents (Aggregate router place) = option_map_or (λ p. option_map_or (aggregate_parents router place p) (slice_get p.aggregates place) []) (process_of s.routers router.0) []
+  parents (Message router place prefix) = option_map_or (message_parents router place prefix) (message_of s router.0 place prefix) []
+  parents (Entry router place prefix) = option_map_or (entry_parents router place prefix) (accepted_of s router.0 place prefix) []
+  parents (Chosen router prefix place) = option_map_or (λ x. source_of router prefix x.from ∷ []) (chosen_of s router.0 prefix place) []
+  parents (Main router row) = option_map_or (λ m. main_of router m.prefix m.from ∷ []) (slice_get (main_rows s router.0) row) []

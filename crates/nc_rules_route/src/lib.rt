@@ -6,9 +6,11 @@
 //! graph: each parent holds and has a lower rank, and what follows from any of its parents has one.
 #![tactic(auto)]
 
+mod begun;
 mod configs;
 mod elements;
 mod laws;
+mod messages;
 mod parents;
 mod reach;
 mod routes;

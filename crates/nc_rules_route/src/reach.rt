@@ -1,32 +1,43 @@
 //! What follows from a way to the owner of an address.
 
 ghost use Rattle.std.specs.Prelude.{◌≡◌, ◌++◌, ◌&&◌, true, length, take, OnOk};
+ghost use Rattle.nc_policy.specs.Indexes.{ArePolicies};
 ghost use Rattle.nc_tables.specs.Reach.{is_hit};
 ghost use Rattle.nc_fact.specs.declared.fact.Fact.TheVariants as fact;
 ghost use Rattle.nc_fact.specs.Facts.{holds};
 ghost use Rattle.nc_rules_route.specs.Parents.{hops_of, parents};
 
 use nc_fact::{Fact, holds, is_hit, leads_to, longest_rows};
+use nc_policy::Policies;
 use nc_tables::Stable;
 use nc_types::{Addr, RouterId};
 use nc_underlay::own_interface;
 use std::alloc::AllocError;
 
 // Whether a row that doesn't discard makes a hop that holds.
-fn leads_on(state: &Stable, router: RouterId, row: u32, hop: &Fact) -> bool
+fn leads_on(
+    state: &Stable,
+    policies: &Policies,
+    router: RouterId,
+    row: u32,
+    hop: &Fact,
+) -> bool
+    requires { ArePolicies state.now.routers policies.now }
     ensures { result ≡ (is_hit state.now.base router.0 row && holds state.now hop.now) }
 {
-    is_hit(state, router, row) && holds(state, hop)
+    is_hit(state, router, row) && holds(state, policies, hop)
 }
 
 // Appends the hops by which a packet comes to the owner of an address.
 fn push_hops(
     state: &Stable,
+    policies: &Policies,
     router: RouterId,
     addr: Addr,
     hops: u8,
     into: &mut Vec<Fact>,
 ) -> Result<(), AllocError>
+    requires { ArePolicies state.now.routers policies.now }
     ensures ok { OnOk result (into.new.items
         ≡ into.old.items ++ hops_of state.now router addr hops) }
     ensures kept { take (length into.old.items) into.new.items ≡ into.old.items }
@@ -35,7 +46,7 @@ fn push_hops(
     'rows: for place in rows.from..rows.to {
         let row = place as u32;
         let hop = Fact::Hop(router, addr, row, hops);
-        if leads_on(state, router, row, &hop) {
+        if leads_on(state, policies, router, row, &hop) {
             into.push(hop)?;
         }
     }
@@ -47,11 +58,13 @@ fn push_hops(
 #[tactic(auto, unfolding(crate::specs::Parents::parents))]
 pub(crate) fn push_reach(
     state: &Stable,
+    policies: &Policies,
     router: RouterId,
     addr: Addr,
     hops: u8,
     into: &mut Vec<Fact>,
 ) -> Result<(), AllocError>
+    requires { ArePolicies state.now.routers policies.now }
     ensures ok { OnOk result (into.new.items
         ≡ into.old.items ++ parents state.now (fact.Reach router addr hops)) }
     ensures kept { take (length into.old.items) into.new.items ≡ into.old.items }
@@ -62,7 +75,7 @@ pub(crate) fn push_reach(
             Ok(())
         }
         None => {
-            push_hops(state, router, addr, hops, into)?;
+            push_hops(state, policies, router, addr, hops, into)?;
             Ok(())
         }
     }

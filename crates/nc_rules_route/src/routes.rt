@@ -4,13 +4,13 @@ ghost use Rattle.std.specs.Prelude.{◌≡◌, ◌++◌, [], ◌∷◌, length, 
 ghost use Rattle.std.specs.Option.{option_map_or};
 ghost use Rattle.nc_tables.specs.Base.{static_at};
 ghost use Rattle.nc_fact.specs.declared.fact.Fact.TheVariants as fact;
-ghost use Rattle.nc_fact.specs.Facts.{base_rows};
-ghost use Rattle.nc_rules_route.specs.Parents.{connected_by, route_of, parents};
+ghost use Rattle.nc_fact.specs.Facts.{base_rows, main_rows};
+ghost use Rattle.nc_rules_route.specs.Parents.{connected_by, route_of, main_of, parents};
 
 use crate::elements::{interface_element, static_element};
-use nc_fact::{Fact, base_of, base_rows, static_row};
-use nc_tables::{BaseFrom, BaseRow, Stable};
-use nc_types::{IfaceId, RouterId};
+use nc_fact::{Fact, base_rows, main_rows, static_row};
+use nc_tables::{BaseFrom, BaseRow, MainFrom, MainRow, Stable};
+use nc_types::{IfaceId, Prefix, RouterId};
 use std::alloc::AllocError;
 
 /// Appends what an interface follows from: its element.
@@ -98,7 +98,25 @@ pub(crate) fn push_base(
     Ok(())
 }
 
-/// Appends what a main row of the base table follows from: the base row.
+// The row at a place of a router's main table.
+fn main_at(state: &Stable, router: RouterId, place: u32) -> Option<MainRow>
+    ensures { result ≡ slice_get (main_rows state.now router.0) place }
+{
+    main_rows(state, router).get(place as usize).copied()
+}
+
+// What a main row of a prefix is of.
+fn main_of(router: RouterId, prefix: Prefix, from: MainFrom) -> Fact
+    ensures { result ≡ main_of router prefix from }
+{
+    match from {
+        MainFrom::Base(place) => Fact::Base(router, place),
+        MainFrom::Bgp(place) => Fact::Chosen(router, prefix, place),
+        MainFrom::Discard(place) => Fact::Aggregate(router, place),
+    }
+}
+
+/// Appends what a main row follows from: the base row, the chosen route or the aggregate that it is of.
 #[tactic(auto, unfolding(crate::specs::Parents::parents))]
 pub(crate) fn push_main(
     state: &Stable,
@@ -110,8 +128,8 @@ pub(crate) fn push_main(
         ≡ into.old.items ++ parents state.now (fact.Main router row)) }
     ensures kept { take (length into.old.items) into.new.items ≡ into.old.items }
 {
-    if let Some(place) = base_of(state, router, row) {
-        into.push(Fact::Base(router, place))?;
+    if let Some(row) = main_at(state, router, row) {
+        into.push(main_of(router, row.prefix, row.from))?;
     }
     Ok(())
 }

@@ -1,0 +1,180 @@
+//! What a router begins: its networks, and its aggregates with what they gather.
+
+ghost use Rattle.std.specs.Prelude.{◌≡◌, ◌<◌, ◌≤◌, ◌++◌, [], ◌∷◌, All, length, map, take, slice_get, slice_index_or, filter, ForSome, OnOk};
+ghost use Rattle.std.specs.List.{flat_map};
+ghost use Rattle.std.specs.Option.{option_map};
+ghost use Rattle.nc_types.specs.Config.{process_view};
+ghost use Rattle.nc_types.specs.declared.TheConstants.{MULTIPATH_LIMIT};
+ghost use Rattle.nc_tables.specs.Sessions.{process_of};
+ghost use Rattle.nc_tables.specs.Rounds.{bgp_row_view, is_longer_in, AreBgpRows};
+ghost use Rattle.nc_fact.specs.declared.fact.Fact.TheVariants as fact;
+ghost use Rattle.nc_rules_route.specs.Parents.{element_in, each_chosen, chosen_inside, parents};
+
+use crate::configs::config_of;
+use nc_fact::{Fact, aggregate_of};
+use nc_message::is_longer_in;
+use nc_tables::{BgpRow, Stable};
+use nc_types::{Prefix, Process, RouterId};
+use std::alloc::AllocError;
+
+// The process of a router.
+fn process_of(state: &Stable, router: RouterId) -> Option<&Process>
+    ensures { option_map (λ p. process_view p.now) result
+        ≡ process_of state.now.routers router.0 }
+{
+    config_of(state, router)?.process.as_ref()
+}
+
+// Appends the elements of a process and of one of its statements, and a further fact.
+fn push_begun(
+    state: &Stable,
+    router: RouterId,
+    process: u32,
+    statement: u32,
+    last: Fact,
+    into: &mut Vec<Fact>,
+) -> Result<(), AllocError>
+    requires router { router.0 < length state.now.routers }
+    requires process { ForSome (slice_get state.now.routers router.0)
+        (λ c. process < length c.elements) }
+    requires statement { ForSome (slice_get state.now.routers router.0)
+        (λ c. statement < length c.elements) }
+    ensures ok { OnOk result (into.new.items ≡ into.old.items
+        ++ element_in state.now router.0 process
+        ∷ element_in state.now router.0 statement ∷ last ∷ []) }
+    ensures kept { take (length into.old.items) into.new.items ≡ into.old.items }
+{
+    let network = state.network();
+    let process = Fact::Element(network.element_id(router, process));
+    let statement = Fact::Element(network.element_id(router, statement));
+    into.extend_from_slice(&[process, statement, last])?;
+    Ok(())
+}
+
+/// Appends what a network statement rests on to begin its prefix: its process, itself, and the rows of the prefix.
+#[tactic(auto, unfolding(crate::specs::Parents::parents))]
+pub(crate) fn push_origin(
+    state: &Stable,
+    router: RouterId,
+    place: u32,
+    into: &mut Vec<Fact>,
+) -> Result<(), AllocError>
+    ensures ok { OnOk result (into.new.items
+        ≡ into.old.items ++ parents state.now (fact.Origin router place)) }
+    ensures kept { take (length into.old.items) into.new.items ≡ into.old.items }
+{
+    let Some(process) = process_of(state, router) else {
+        return Ok(());
+    };
+    let Some(network) = process.networks.get(place as usize) else {
+        return Ok(());
+    };
+    let source = Fact::NetSource(router, network.prefix);
+    push_begun(state, router, process.element, network.element, source, into)
+}
+
+/// Appends what an aggregate statement rests on: its process, itself, and that it has something to gather.
+#[tactic(auto, unfolding(crate::specs::Parents::parents))]
+pub(crate) fn push_aggregate(
+    state: &Stable,
+    router: RouterId,
+    place: u32,
+    into: &mut Vec<Fact>,
+) -> Result<(), AllocError>
+    ensures ok { OnOk result (into.new.items
+        ≡ into.old.items ++ parents state.now (fact.Aggregate router place)) }
+    ensures kept { take (length into.old.items) into.new.items ≡ into.old.items }
+{
+    let Some(process) = process_of(state, router) else {
+        return Ok(());
+    };
+    let Some(aggregate) = process.aggregates.get(place as usize) else {
+        return Ok(());
+    };
+    let gathered = Fact::Contrib(router, place);
+    push_begun(state, router, process.element, aggregate.element, gathered, into)
+}
+
+// The rows of a router's BGP table; none where there is no such router.
+fn rows_of(state: &Stable, router: RouterId) -> &[BgpRow]
+    ensures rows { map bgp_row_view result.now ≡ slice_index_or state.now.bgp router.0 [] }
+    ensures valid { AreBgpRows (map bgp_row_view result.now) }
+{
+    let table = state.bgp();
+    if router.0 as usize >= state.network().routers().len() {
+        return &[];
+    }
+    table.rows(router)
+}
+
+// The rows of longer prefixes inside another, which stand side by side behind it.
+fn inside(rows: &[BgpRow], outer: Prefix) -> &[BgpRow]
+    requires { AreBgpRows (map bgp_row_view rows.now) }
+    ensures rows { map bgp_row_view result.now
+        ≡ filter (λ row. is_longer_in row.prefix outer) (map bgp_row_view rows.now) }
+    ensures few { All (λ row. length row.chosen.items ≤ MULTIPATH_LIMIT) result.now }
+{
+    let first = rows.partition_point(|row| row.prefix <= outer);
+    let behind = &rows[first..];
+    let count = behind.partition_point(|row| is_longer_in(row.prefix, outer));
+    &behind[..count]
+}
+
+// Appends the routes of a prefix that are chosen, best first.
+fn push_row(router: RouterId, row: &BgpRow, into: &mut Vec<Fact>) -> Result<(), AllocError>
+    requires { length row.now.chosen.items ≤ MULTIPATH_LIMIT }
+    ensures ok { OnOk result (into.new.items
+        ≡ into.old.items ++ each_chosen router (bgp_row_view row.now)) }
+    ensures kept { take (length into.old.items) into.new.items ≡ into.old.items }
+{
+    'places: for place in 0..row.chosen.len() {
+        into.push(Fact::Chosen(router, row.prefix, place as u32))?;
+    }
+    Ok(())
+}
+
+// Appends those of each row in turn.
+fn push_rows(router: RouterId, rows: &[BgpRow], into: &mut Vec<Fact>) -> Result<(), AllocError>
+    requires { All (λ row. length row.chosen.items ≤ MULTIPATH_LIMIT) rows.now }
+    ensures ok { OnOk result (into.new.items ≡ into.old.items
+        ++ flat_map (each_chosen router) (map bgp_row_view rows.now)) }
+    ensures kept { take (length into.old.items) into.new.items ≡ into.old.items }
+{
+    'rows: for row in rows {
+        push_row(router, row, into)?;
+    }
+    Ok(())
+}
+
+// Appends the chosen routes of every longer prefix inside another.
+fn push_inside(
+    state: &Stable,
+    router: RouterId,
+    outer: Prefix,
+    into: &mut Vec<Fact>,
+) -> Result<(), AllocError>
+    ensures ok { OnOk result (into.new.items ≡ into.old.items
+        ++ chosen_inside router outer (slice_index_or state.now.bgp router.0 [])) }
+    ensures kept { take (length into.old.items) into.new.items ≡ into.old.items }
+{
+    let rows = inside(rows_of(state, router), outer);
+    push_rows(router, rows, into)
+}
+
+/// Appends what an aggregate statement gathers: the chosen routes of every longer prefix inside its own.
+#[tactic(auto, unfolding(crate::specs::Parents::parents))]
+pub(crate) fn push_contrib(
+    state: &Stable,
+    router: RouterId,
+    place: u32,
+    into: &mut Vec<Fact>,
+) -> Result<(), AllocError>
+    ensures ok { OnOk result (into.new.items
+        ≡ into.old.items ++ parents state.now (fact.Contrib router place)) }
+    ensures kept { take (length into.old.items) into.new.items ≡ into.old.items }
+{
+    match aggregate_of(state, router, place) {
+        Some(aggregate) => push_inside(state, router, aggregate.prefix, into),
+        None => Ok(()),
+    }
+}
