@@ -21,8 +21,7 @@ use Rattle.nc_tables.specs.Reach.{rows_of}
 use Rattle.nc_tables.specs.Sessions.{process_of}
 use Rattle.nc_tables.specs.Rounds.{BgpRowView, Accepted, begun, chosen_anew, chosen_at, chosen_by, candidates_at, origin_at, aggregate_at, entry_at, is_active, learnt_from, made_from, accepted_at, prefixes, row_at, row_of, rows_anew, round}
 use Rattle.nc_tables.proofs.Ordered.{in_by_made}
-use Rattle.nc_rules_route.proofs.Members.{in_by_find, in_by_router}
-use Rattle.nc_rules_route.proofs.Ends.{made_of}
+use Rattle.nc_rules_route.proofs.Members.{made_of, in_by_find, in_by_router}
 
 -- a row of a prefix has the candidates of which it is made
 record IsRowOf (prefix : Cidr) (chosen : List Chosen) (row : BgpRowView) : Type 0 where

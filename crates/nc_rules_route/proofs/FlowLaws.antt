@@ -16,7 +16,6 @@ use Rattle.nc_types.specs.Cidr.{Cidr}
 use Rattle.nc_types.specs.Config.{ConfigView}
 use Rattle.nc_types.specs.Network.{PlaceIn, up_at, has_address}
 use Rattle.nc_tables.specs.declared.base.BaseRow.{BaseRow}
-use Rattle.nc_tables.specs.declared.bgp.MainRow.{MainRow}
 use Rattle.nc_tables.specs.Base.{static_row, static_at, same_prefix}
 use Rattle.nc_tables.specs.Longest.{places_from}
 use Rattle.nc_tables.specs.Reach.{hits, leads_to, own_place, reaches}
@@ -26,8 +25,8 @@ use Rattle.nc_tables.specs.Rounds.{Link, session_by, link_at}
 use Rattle.nc_tables.specs.State.{StateView, IsState}
 use Rattle.nc_graph.specs.declared.node.NodeKind.TheVariants.{Leaf, Any}
 use Rattle.nc_fact.specs.declared.fact.Fact.{Fact}
-use Rattle.nc_fact.specs.declared.fact.Fact.TheVariants.{Element, Connected, Static, Base, Resolve, NetSource, Reach, Hop, Session, Main}
-use Rattle.nc_fact.specs.Facts.{base_place, base_rows, main_rows, base_of, hops_by, holds, rank}
+use Rattle.nc_fact.specs.declared.fact.Fact.TheVariants.{Element, Connected, Static, Base, Resolve, NetSource, Reach, Hop, Session, Origin, Contrib, Aggregate, Message, Entry, Chosen, Main}
+use Rattle.nc_fact.specs.Facts.{base_rows, hops_by, holds, rank}
 use Rattle.nc_rules_route.specs.Parents.{kind, element_in, of_interface, of_static, connected_by, route_of, hops_of, end_elements, ways_between, session_parents, parents}
 use Rattle.nc_types.proofs.Members.{In, in_by_get, in_map, in_filter, some_in, all_by_in, is_among, among_is}
 use Rattle.nc_tables.proofs.Ordered.{some_place, place_within}
@@ -37,8 +36,8 @@ use Rattle.nc_rules_route.proofs.Numbers.{interface_element, static_element}
 use Rattle.nc_rules_route.proofs.Ends.{IsEnd, IsLink, end_is, end_elements_within, link_is}
 use Rattle.nc_rules_route.proofs.Established.{established, has_link}
 use Rattle.nc_rules_route.proofs.BaseRows.{found_up, address_up, row_leads}
-use Rattle.nc_rules_route.proofs.Tables.{base_of_main}
-use Rattle.nc_rules_route.proofs.Holding.{IsBelow, element_holds, connected_holds, base_holds, connected_below, route_below}
+use Rattle.nc_rules_route.proofs.Holding.{IsBelow, all_higher, element_holds, connected_holds, base_holds, connected_below, route_below}
+use Rattle.nc_rules_route.proofs.RouteFacts.{origin_parents_below, contrib_parents_below, aggregate_parents_below, message_parents_below, entry_parents_below, chosen_parents_below, main_parents_below, contrib_chosen}
 use Rattle.nc_rules_route.proofs.Hops.{GoesOn, hit_within, next_up, goes_on, not_own}
 
 module _ (s : StateView) (is : IsState s) where
@@ -60,17 +59,12 @@ module _ (s : StateView) (is : IsState s) where
       all_of_one (IsBelow s 1) (element_in s router r.element)
       (element_holds s router c r.element at (static_element c (formed_at s.routers is.valid.each router c at) place r at_route), omega arith)))
 
-  -- ---- more of a rank
-
-  all_higher : (low high : ℕ) → low ≤ high → (ps : List Fact) → All (IsBelow s low) ps → All (IsBelow s high) ps
-  all_higher low high le ps each k d lt = let here = each k d lt in (here.0, (let less : rank s _ < low = here.1 in omega arith))
-
   -- ---- what each kind of fact follows from
 
   static_parents : (router : RouterId) (place : ℕ) → All (IsBelow s 2) (parents s (Static router place))
   unfolding parents
   static_parents router place =
-      All-append (IsBelow s 2) (of_static s router.0 place) (option_map_or (λ (r : BaseRow). connected_by router r.from) (static_at s.routers router.0 place) []) (all_higher 1 2 (omega arith) (of_static s router.0 place) (static_below router.0 place))
+      All-append (IsBelow s 2) (of_static s router.0 place) (option_map_or (λ (r : BaseRow). connected_by router r.from) (static_at s.routers router.0 place) []) (all_higher s 1 2 (omega arith) (of_static s router.0 place) (static_below router.0 place))
       (all_by_option (IsBelow s 2) (λ (r : BaseRow). connected_by router r.from) (static_at s.routers router.0 place) (λ r found.
       option_and_then_some (λ (c : ConfigView). option_and_then (λ (route : StaticRoute). static_row c.interfaces place route) (slice_get c.statics place)) (slice_get s.routers router.0) r found (λ c at is_row.
       option_and_then_some (λ (route : StaticRoute). static_row c.interfaces place route) (slice_get c.statics place) r is_row (λ route at_route made. connected_below s router c place r.from at (row_leads c.interfaces place route r made)))))
@@ -119,7 +113,7 @@ module _ (s : StateView) (is : IsState s) where
       by_own : (o : Option ℕ) → own_place s.routers router.0 addr.0 ≡ o → All (IsBelow s (6 + 2 * hops)) (option_map_or (λ iface. Connected router (record { 0 = iface }) ∷ []) o (hops_of s router addr hops))
       by_own None found = hops_below router addr hops
       by_own (Some iface) found =
-          all_higher 2 (6 + 2 * hops) (omega arith) (Connected router (record { 0 = iface }) ∷ []) (all_of_one (IsBelow s 2) (Connected router (record { 0 = iface })) (own_below router addr iface found))
+          all_higher s 2 (6 + 2 * hops) (omega arith) (Connected router (record { 0 = iface }) ∷ []) (all_of_one (IsBelow s 2) (Connected router (record { 0 = iface })) (own_below router addr iface found))
 
   -- what a packet needs that goes on by a row
   hop_below : (router : RouterId) (addr : Addr) (row hops : ℕ) (next : PlaceIn) → hops_by s router.0 addr.0 row hops ≡ true → leads_to s.routers s.base router.0 addr.0 row ≡ Some next
@@ -179,21 +173,14 @@ module _ (s : StateView) (is : IsState s) where
       let ways : All below (ways_between s router k) =
       All-cons below source (peer_source ∷ on ∷ back ∷ []) (up_below router k.session.source both.source)
       (all_of_three below peer_source on back (up_below peer k.session.peer_source both.peer_source) (reach_below router k.receiver.statement.addr reach) (reach_below peer k.sender.statement.addr peer_reach)) in
-      let ends = all_higher 1 70 (omega arith) (end_elements s router.0 k.receiver) (end_below router.0 place k.receiver (end_is s.routers router.0 place k.receiver link.receiver)) in
-      let peer_ends = all_higher 1 70 (omega arith) (end_elements s peer.0 k.sender) (end_below peer.0 k.session.peer_neighbor k.sender (end_is s.routers peer.0 k.session.peer_neighbor k.sender link.sender)) in
+      let ends = all_higher s 1 70 (omega arith) (end_elements s router.0 k.receiver) (end_below router.0 place k.receiver (end_is s.routers router.0 place k.receiver link.receiver)) in
+      let peer_ends = all_higher s 1 70 (omega arith) (end_elements s peer.0 k.sender) (end_below peer.0 k.session.peer_neighbor k.sender (end_is s.routers peer.0 k.session.peer_neighbor k.sender link.sender)) in
       All-append below (end_elements s router.0 k.receiver) (end_elements s peer.0 k.sender ++ ways_between s router k) ends (All-append below (end_elements s peer.0 k.sender) (ways_between s router k) peer_ends ways)
 
   session_below : (router : RouterId) (place : ℕ) → All (IsBelow s 70) (parents s (Session router place))
   unfolding parents
   session_below router place =
       all_by_option (IsBelow s 70) (session_parents s router) (link_at s.routers s.sessions router.0 place) (λ k found. link_below router place k (link_is s.routers s.sessions router.0 place k found))
-
-  main_parents : (router : RouterId) (row : ℕ) → All (IsBelow s 4) (parents s (Main router row))
-  unfolding parents rank
-  main_parents router row =
-      all_by_option (IsBelow s 4) (λ (place : ℕ). Base router place ∷ []) (base_of s router.0 row) (λ place found.
-      option_and_then_some (λ (m : MainRow). base_place m.from) (slice_get (main_rows s router.0) row) place found (λ m at is_of.
-      all_of_one (IsBelow s 4) (Base router place) (base_holds s router place (base_of_main s is router.0 m (in_by_get (main_rows s router.0) row m at) place is_of), omega arith)))
 
   -- ---- the laws
 
@@ -209,7 +196,13 @@ module _ (s : StateView) (is : IsState s) where
   parents_below (Reach router addr hops) h = reach_parents router addr hops
   parents_below (Hop router addr row hops) h = hop_parents_below router addr row hops h
   parents_below (Session router place) h = session_below router place
-  parents_below (Main router row) h = all_higher 4 140000 (omega arith) (parents s (Main router row)) (main_parents router row)
+  parents_below (Origin router place) h = origin_parents_below s is router place h
+  parents_below (Contrib router place) h = contrib_parents_below s is router place
+  parents_below (Aggregate router place) h = aggregate_parents_below s is router place h
+  parents_below (Message router place prefix) h = message_parents_below s is router place prefix
+  parents_below (Entry router place prefix) h = entry_parents_below s is router place prefix
+  parents_below (Chosen router prefix place) h = chosen_parents_below s is router prefix place
+  parents_below (Main router row) h = main_parents_below s is router row
 
   -- a hop by which a packet comes to the owner of an address that is not the router's own
   hop_holds : (router : RouterId) (addr : Addr) (hops : ℕ) → hops ≤ HOP_LIMIT → (on : GoesOn s.routers s.base hops router.0 addr.0) → holds s (Hop router addr on.row hops) ≡ true
@@ -250,6 +243,12 @@ module _ (s : StateView) (is : IsState s) where
   parents_some (Reach router addr hops) h k = reach_chosen router addr hops h
   parents_some (Hop router addr row hops) h k = absurd (cc)
   parents_some (Session router place) h k = absurd (cc)
+  parents_some (Origin router place) h k = absurd (cc)
+  parents_some (Contrib router place) h k = contrib_chosen s is router place h
+  parents_some (Aggregate router place) h k = absurd (cc)
+  parents_some (Message router place prefix) h k = absurd (cc)
+  parents_some (Entry router place prefix) h k = absurd (cc)
+  parents_some (Chosen router prefix place) h k = absurd (cc)
   parents_some (Main router row) h k = absurd (cc)
 
   -- a session that is established rests on all that its link gives
@@ -273,4 +272,10 @@ parents_none s (NetSource router prefix) number k = absurd (cc)
 parents_none s (Reach router addr hops) number k = absurd (cc)
 parents_none s (Hop router addr row hops) number k = absurd (cc)
 parents_none s (Session router place) number k = absurd (cc)
+parents_none s (Origin router place) number k = absurd (cc)
+parents_none s (Contrib router place) number k = absurd (cc)
+parents_none s (Aggregate router place) number k = absurd (cc)
+parents_none s (Message router place prefix) number k = absurd (cc)
+parents_none s (Entry router place prefix) number k = absurd (cc)
+parents_none s (Chosen router prefix place) number k = absurd (cc)
 parents_none s (Main router row) number k = absurd (cc)

@@ -1,5 +1,5 @@
 -- Facts from which others follow hold.
-use Rattle.std.proofs.Common.{◌≡◌, ℕ, ◌<◌, true, length, All, Option, Some, sym, ap, subst, ◌∙◌, arith}
+use Rattle.std.proofs.Common.{◌≡◌, ℕ, ◌<◌, ◌≤◌, true, List, length, All, Option, Some, sym, ap, subst, ◌∙◌, arith}
 use Rattle.std.specs.List.{slice_get}
 use Rattle.std.specs.Option.{option_and_then, is_some}
 use Rattle.std.proofs.lemmas.Bool.{lt-ltb}
@@ -49,6 +49,10 @@ module _ (s : StateView) where
   -- a fact that holds and has a lower rank
   abbrev pub IsBelow : ℕ → Fact → Type 0
   IsBelow most p = (holds s p ≡ true) × (rank s p < most)
+
+  -- it stays below what is above that rank
+  pub all_higher : (low high : ℕ) → low ≤ high → (ps : List Fact) → All (IsBelow low) ps → All (IsBelow high) ps
+  all_higher low high le ps each k d lt = let here = each k d lt in (here.0, (let less : rank s _ < low = here.1 in omega arith))
 
   -- the interface through which a static route leads
   pub connected_below : (router : RouterId) (c : ConfigView) (place : ℕ) (from : BaseFrom) → slice_get s.routers router.0 ≡ Some c → LeadsBy c.interfaces place from → All (IsBelow 2) (connected_by router from)

@@ -10,6 +10,8 @@ pub mod Tables
 pub mod Holding
 pub mod Hops
 pub mod FlowLaws
-pub mod Messages
+pub mod SentRoutes
 pub mod Weights
 pub mod Choosing
+pub mod RowsByPrefix
+pub mod RouteFacts

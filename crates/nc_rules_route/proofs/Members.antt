@@ -1,12 +1,12 @@
 -- Items of lists that a test finds, and that a choice adds.
 use Rattle.std.proofs.Common.{◌≡◌, ℕ, zero, suc, ◌+◌, ◌<◌, ◌≤◌, Bool, true, false, cond, not, ◌||◌, List, [], ◌∷◌, length, get_or, map, Option, Some, None, All, refl, sym, ap, subst, ◌∙◌, arith, inl, inr}
-use Rattle.std.specs.List.{find, list_any, range_with_len, slice_get, slice_index_or, position, position_or_len}
-use Rattle.std.specs.Option.{option_map_or, unwrap_or}
+use Rattle.std.specs.List.{find, flat_map, list_any, range_with_len, slice_get, slice_index_or, position, position_or_len}
+use Rattle.std.specs.Option.{option_map, option_map_or, unwrap_or}
 use Rattle.std.proofs.lemmas.Bool.{lt-ltb, cases_lt}
 use Rattle.std.proofs.lemmas.List.Elements.{All-nil, All-cons}
 use Rattle.std.proofs.lemmas.List.Quantifiers.{position-Some}
-use Rattle.std.proofs.lemmas.Option.{slice_get-get_or, get_or_from_slice_get, unwrap_or-slice_get, none-some}
-use Rattle.nc_types.proofs.Members.{In}
+use Rattle.std.proofs.lemmas.Option.{slice_get-get_or, get_or_from_slice_get, unwrap_or-slice_get, none-some, same_Some}
+use Rattle.nc_types.proofs.Members.{In, in_left, in_right}
 
 module _ {X : Type 0} where
   -- the first item that passes
@@ -55,6 +55,18 @@ module _ {X : Type 0} where
   all_by_option P f None each = All-nil P
   all_by_option P f (Some y) each = each y refl
 
+-- a number of a range is below its end
+pub in_range : (from count k : ℕ) → In k (range_with_len from count) → k < from + count
+in_range from zero k i = absurd i
+in_range from (suc count) k (inl same) = omega arith
+in_range from (suc count) k (inr i) = let lt : k < (from + 1) + count = in_range (from + 1) count k i in omega arith
+
+-- at each place within a list there is an item
+pub item_at : {X : Type 0} (xs : List X) (k : ℕ) → k < length xs → (x : X) × (slice_get xs k ≡ Some x)
+item_at [] k lt = absurd (omega arith)
+item_at (x ∷ xs) zero lt = (x, refl)
+item_at (x ∷ xs) (suc k) lt = item_at xs k (omega arith)
+
 -- the item of a list made of the numbers below a bound
 pub get_by_range : {X : Type 0} (f : ℕ → X) (from count k : ℕ) → k < count → slice_get (map f (range_with_len from count)) k ≡ Some (f (from + k))
 get_by_range f from zero k lt = absurd (omega arith)
@@ -72,3 +84,14 @@ in_by_router f count router x i = elim (cases_lt router count) [
   | inl lt ↦ let e : 0 + router ≡ router = omega arith in subst (In x) (get_or_from_slice_get (map f (range_with_len 0 count)) router (f (0 + router)) [] (get_by_range f 0 count router lt) ∙ ap f e) i
   | inr le ↦ absurd (subst (In x) (sym (unwrap_or-slice_get (map f (range_with_len 0 count)) router []) ∙ ap (λ o. unwrap_or o []) (get_past f 0 count router le)) i)
 ]
+
+-- where an option is made of another, that one is there
+pub made_of : {A B : Type 0} (f : A → B) (o : Option A) (y : B) → option_map f o ≡ Some y → (x : A) × (o ≡ Some x) × (f x ≡ y)
+made_of f None y e = absurd (cc)
+made_of f (Some x) y e = (x, refl, same_Some (f x) y e)
+
+-- an item of what is made of an item
+pub in_flat_map : {X Y : Type 0} (f : Y → List X) (ys : List Y) (y : Y) (z : X) → In y ys → In z (f y) → In z (flat_map f ys)
+in_flat_map f [] y z i j = absurd i
+in_flat_map f (x ∷ ys) y z (inl same) j = in_left (f x) (flat_map f ys) z (subst (λ w. In z (f w)) (sym same) j)
+in_flat_map f (x ∷ ys) y z (inr i) j = in_right (f x) (flat_map f ys) z (in_flat_map f ys y z i j)

@@ -11,10 +11,10 @@ use Rattle.nc_tables.specs.Base.{base_table, base_tables}
 use Rattle.nc_tables.specs.Main.{main_table}
 use Rattle.nc_tables.specs.State.{StateView, state_at, IsState}
 use Rattle.nc_tables.specs.CaseRelations.{state_base}
-use Rattle.nc_fact.specs.Facts.{base_place, base_rows, main_rows}
+use Rattle.nc_fact.specs.Facts.{base_rows, main_rows}
 use Rattle.nc_types.proofs.Members.{In}
 use Rattle.nc_rules_route.proofs.Members.{in_by_router}
-use Rattle.nc_rules_route.proofs.MainRows.{main_of_row}
+use Rattle.nc_rules_route.proofs.MainRows.{IsOf, main_sound}
 
 module _ (s : StateView) (is : IsState s) where
   pub base_rows_at : (router : ℕ) (c : ConfigView) → slice_get s.routers router ≡ Some c → base_rows s router ≡ base_table c
@@ -44,8 +44,7 @@ module _ (s : StateView) (is : IsState s) where
   in_main : (router : ℕ) (m : MainRow) → In m (main_rows s router) → In m (Mains router)
   in_main router m i = in_by_router Mains (length s.routers) router m (subst (λ (t : List (List MainRow)). In m (slice_index_or t router [])) main_is i)
 
-  -- the base row that a main row is of exists
-  pub base_of_main : (router : ℕ) (m : MainRow) → In m (main_rows s router) → (place : ℕ) → base_place m.from ≡ Some place → place < length (base_rows s router)
-  base_of_main router m i place of =
-      let lt = main_of_row s.routers (base_tables s.routers) s.bgp router m (in_main router m i) place of in
-      subst (λ (t : List (List BaseRow)). place < length (slice_index_or t router [])) (sym (state_base s is)) lt
+  -- what a main row is of exists
+  pub main_is_of : (router : ℕ) (m : MainRow) → In m (main_rows s router) → IsOf s.routers s.base s.bgp router m.prefix m.from
+  main_is_of router m i =
+      subst (λ (t : List (List BaseRow)). IsOf s.routers t s.bgp router m.prefix m.from) (sym (state_base s is)) (main_sound s.routers (base_tables s.routers) s.bgp router m (in_main router m i))

@@ -12,7 +12,7 @@ use Rattle.nc_tables.specs.declared.policy.Names.{Names}
 use Rattle.nc_tables.specs.Choice.{is_learnt}
 use Rattle.nc_tables.specs.Policy.{Placed, Verdict, Deny, Permit, set_by, is_long, is_over, verdict_by, verdict, deciding, names_of}
 use Rattle.nc_tables.specs.Rounds.{Link, Passed, Message, passed, passed_by, outgoing, carried, sent_inside, sent_outside, sent_over, is_kept_inside, out_of}
-use Rattle.nc_rules_route.proofs.Messages.{IsSent, not_longer}
+use Rattle.nc_rules_route.proofs.SentRoutes.{IsSent, not_longer}
 
 -- ---- maps
 

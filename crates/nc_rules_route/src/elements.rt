@@ -3,7 +3,6 @@
 ghost use Rattle.std.specs.Prelude.{◌≡◌, ◌++◌, ◌<◌, [], ◌∷◌, length, take, slice_get, IfSome, OnOk, Some};
 ghost use Rattle.std.specs.Option.{option_map, option_map_or};
 ghost use Rattle.nc_types.specs.Config.{config_view};
-ghost use Rattle.nc_types.specs.WellFormed.{IsWellFormed};
 ghost use Rattle.nc_fact.specs.declared.fact.Fact.TheVariants as fact;
 ghost use Rattle.nc_rules_route.specs.Parents.{clause_place, entry_place, community_place};
 ghost use Rattle.nc_rules_route.specs.Parents.{element_in, of_interface, of_static, of_part};
@@ -59,9 +58,7 @@ pub(crate) fn static_element(state: &Stable, router: RouterId, place: u32) -> Op
 
 // The place of the element that the clause at a place is.
 fn clause_place(config: &RouterConfig, place: u32) -> Option<u32>
-    requires { IsWellFormed (config_view config.now) }
-    ensures place { result ≡ clause_place place (config_view config.now) }
-    ensures within { IfSome result (λ k. k < length (config_view config.now).elements) }
+    ensures { result ≡ clause_place place (config_view config.now) }
 {
     let clause = config.clauses.get(place as usize)?;
     Some(clause.element)
@@ -69,9 +66,7 @@ fn clause_place(config: &RouterConfig, place: u32) -> Option<u32>
 
 // The place of the element that an entry of a prefix list is.
 fn entry_place(config: &RouterConfig, place: Place) -> Option<u32>
-    requires { IsWellFormed (config_view config.now) }
-    ensures place { result ≡ entry_place place (config_view config.now) }
-    ensures within { IfSome result (λ k. k < length (config_view config.now).elements) }
+    ensures { result ≡ entry_place place (config_view config.now) }
 {
     let list = config.lists.get(place.list as usize)?;
     let entry = list.entries.get(place.entry as usize)?;
@@ -80,9 +75,7 @@ fn entry_place(config: &RouterConfig, place: Place) -> Option<u32>
 
 // The place of the element that an entry of a community list is.
 fn community_place(config: &RouterConfig, place: Place) -> Option<u32>
-    requires { IsWellFormed (config_view config.now) }
-    ensures place { result ≡ community_place place (config_view config.now) }
-    ensures within { IfSome result (λ k. k < length (config_view config.now).elements) }
+    ensures { result ≡ community_place place (config_view config.now) }
 {
     let list = config.community_lists.get(place.list as usize)?;
     let entry = list.entries.get(place.entry as usize)?;

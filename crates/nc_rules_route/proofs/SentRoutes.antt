@@ -13,7 +13,7 @@ use Rattle.nc_tables.specs.declared.bgp.Chosen.{Chosen}
 use Rattle.nc_tables.specs.Policy.{is_long}
 use Rattle.nc_tables.specs.Reach.{hits}
 use Rattle.nc_tables.specs.Rounds.{BgpRowView, Link, Passed, Message, Accepted, passed, is_held_back, is_kept_inside, out_of, sent_over, message_with, message_of, is_looped, has_own_hop, is_unresolved, accepted_of, link_at, best_at, message_at, accepted_at}
-use Rattle.nc_rules_route.proofs.Ends.{made_of}
+use Rattle.nc_rules_route.proofs.Members.{made_of}
 
 -- what isn't refused is there
 unrefused : {A : Type 0} (b : Bool) (o : Option A) (y : A) → cond b None o ≡ Some y → (b ≡ false) × (o ≡ Some y)
