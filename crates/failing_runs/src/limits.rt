@@ -23,6 +23,12 @@ const LINES: usize = 65_535;
 // How many prefixes a network may have.
 const PREFIXES: usize = 1_024;
 
+// How many neighbors a network may have.
+const NEIGHBORS: usize = 1_024;
+
+// Among how many files neighbors are shared.
+const SHARING: usize = 16;
+
 // How many bytes a session may have.
 const SESSION: usize = 16_777_216;
 
@@ -103,6 +109,34 @@ fn with_routes(alloc: Global, count: usize) -> Result<Vec<u8>, AllocError> {
     Ok(text)
 }
 
+// A router of this name with so many neighbors, the addresses of which differ.
+fn with_neighbors(alloc: Global, name: &str, count: usize) -> Result<Vec<u8>, AllocError> {
+    let head = format!(in alloc; "hostname {name}\nrouter bgp 1\n")?;
+    let mut text = head.as_str().as_bytes().to_vec(alloc)?;
+    for number in 0..count {
+        let (high, low) = (number / 256, number % 256);
+        let line = format!(in alloc; " neighbor 10.{high}.{low}.1 remote-as 2\n")?;
+        text.extend_from_slice(line.as_str().as_bytes())?;
+    }
+    Ok(text)
+}
+
+// One run over files that share neighbors evenly, and the first of which has so many more.
+fn over_shared(
+    alloc: Global,
+    more: usize,
+    wanted: Expectation<'_>,
+) -> Result<Verdict, AllocError> {
+    let mut network = Network::new(alloc);
+    for place in 0..SHARING {
+        let name = format!(in alloc; "r{place}")?;
+        let count = NEIGHBORS / SHARING + if place == 0 { more } else { 0 };
+        let text = with_neighbors(alloc, name.as_str(), count)?;
+        network.add_file(alloc, name.as_str(), &text)?;
+    }
+    Verdict::of(alloc, Trial::new(&network, b""), wanted)
+}
+
 // The replies to so many tests of one route.
 fn test_replies(alloc: Global, count: usize) -> Result<Vec<u8>, AllocError> {
     let mut replies = Vec::new(alloc);
@@ -155,6 +189,23 @@ fn add_prefixes(alloc: Global, rows: &mut Vec<Row>) -> Result<(), AllocError> {
     let text = with_routes(alloc, PREFIXES + 1)?;
     let verdict = over_file(alloc, &text, over_limit(b"refused limit prefixes\n"))?;
     rows.push(Row::new("limits", "1,025 prefixes", verdict))?;
+    Ok(())
+}
+
+// The rows on how many neighbors there are.
+fn add_neighbors(alloc: Global, rows: &mut Vec<Row>) -> Result<(), AllocError> {
+    let done = Expectation::done(b"");
+    let past = over_limit(b"refused limit neighbours\n");
+    let text = with_neighbors(alloc, "r1", NEIGHBORS)?;
+    let verdict = over_file(alloc, &text, done)?;
+    rows.push(Row::new("limits", "1,024 neighbors", verdict))?;
+    let text = with_neighbors(alloc, "r1", NEIGHBORS + 1)?;
+    let verdict = over_file(alloc, &text, past)?;
+    rows.push(Row::new("limits", "1,025 neighbors", verdict))?;
+    let verdict = over_shared(alloc, 0, done)?;
+    rows.push(Row::new("limits", "1,024 neighbors of 16 files", verdict))?;
+    let verdict = over_shared(alloc, 1, past)?;
+    rows.push(Row::new("limits", "1,025 neighbors of 16 files", verdict))?;
     Ok(())
 }
 
@@ -214,6 +265,7 @@ pub fn add_limits(alloc: Global, rows: &mut Vec<Row>) -> Result<(), AllocError> 
     add_routers(alloc, rows)?;
     add_files(alloc, rows)?;
     add_prefixes(alloc, rows)?;
+    add_neighbors(alloc, rows)?;
     add_sessions(alloc, rows)?;
     add_tests(alloc, rows)
 }

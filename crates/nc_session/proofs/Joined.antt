@@ -10,7 +10,7 @@ use Rattle.nc_types.specs.WellFormed.{IsWellFormed}
 use Rattle.nc_types.specs.declared.config.RouterConfig.{RouterConfig}
 use Rattle.nc_types.specs.declared.fault.Fault.{Fault}
 use Rattle.nc_reader.specs.Configuration.{configuration}
-use Rattle.nc_tables.specs.State.{StateView, HaveNoProcess}
+use Rattle.nc_tables.specs.State.{StateView}
 use Rattle.nc_tables.specs.Settling.{settled}
 use Rattle.nc_session.specs.declared.TheConstants.{ROUND_LIMIT}
 use Rattle.nc_network.specs.Judged.{Names, Overlaps, Addresses, References, Judgement, Clashing, OverLimit, Fine}
@@ -19,24 +19,25 @@ use Rattle.nc_network.specs.declared.fault.JoinFault.{JoinFault}
 use Rattle.nc_network.specs.declared.fault.JoinFault.TheVariants as joins
 use Rattle.nc_types.specs.declared.TheConstants.{LINE_LIMIT}
 use Rattle.nc_session.specs.File.{FileView, AreFilesOf}
-use Rattle.nc_session.specs.Load.{Unsettled, load_judged, load_settled}
+use Rattle.nc_session.specs.Begun.{LineIn, begun_from}
+use Rattle.nc_session.specs.declared.refusal.Reason.TheVariants.{Unsupported}
+use Rattle.nc_session.specs.Load.{Faulty, Unsettled, file_named, load_begun, load_judged, load_settled}
 use Rattle.nc_session.specs.Loading.{IsFault, IsConfigured, AreBeside, joining_fault}
 
 -- ---- one configuration
 
 by_parts : (count : ℕ) (make : ℕ × List ℕ → ConfigView) (fault : Option Fault) (name : Option (ℕ × List ℕ)) (none : Fault) (c : ConfigView)
-    → option_map_or Err fault (option_map_or (λ n. Ok (make n)) name (Err none)) ≡ Ok c → ((n : ℕ × List ℕ) → ((make n).process ≡ None) × ((make n).line_count ≡ count))
-    → (c.process ≡ None) × (c.line_count ≡ count)
+    → option_map_or Err fault (option_map_or (λ n. Ok (make n)) name (Err none)) ≡ Ok c → ((n : ℕ × List ℕ) → (make n).line_count ≡ count) → c.line_count ≡ count
 by_parts count make (Some fault) name none c e made = absurd cc
 by_parts count make None None none c e made = absurd cc
 by_parts count make None (Some name) none c e made =
     let same : make name ≡ c = cc in
-    subst (λ (x : ConfigView). (x.process ≡ None) × (x.line_count ≡ count)) same (made name)
+    subst (λ (x : ConfigView). x.line_count ≡ count) same (made name)
 
--- a file's configuration has no process yet, and counts the lines
-pub configured : (lines : List (List ℕ)) (c : ConfigView) → configuration lines ≡ Ok c → (c.process ≡ None) × (c.line_count ≡ length lines)
+-- a file's configuration counts the lines
+pub configured : (lines : List (List ℕ)) (c : ConfigView) → configuration lines ≡ Ok c → c.line_count ≡ length lines
 unfolding configuration
-configured lines c e = by_parts (length lines) _ _ _ _ c e (λ n. (refl, refl))
+configured lines c e = by_parts (length lines) _ _ _ _ c e (λ n. refl)
 
 -- ---- several
 
@@ -45,9 +46,6 @@ all_formed cs read = All-map IsWellFormed config_view cs (λ k d within. (read k
 
 pub all_short : (cs : List RouterConfig) → All (λ c. IsConfigured (config_view c)) cs → All (λ c. c.line_count ≤ LINE_LIMIT) cs
 all_short cs read = λ k d within. (read k d within).lines
-
-pub none_has_process : (cs : List RouterConfig) → All (λ c. IsConfigured (config_view c)) cs → HaveNoProcess (map config_view cs)
-none_has_process cs read = All-map (λ c. c.process ≡ None) config_view cs (λ k d within. (read k d within).process)
 
 module _ (names : List (List ℕ)) (routers : List ConfigView) where
   abbrev Holds : Judgement → JoinFault → Type 0
@@ -75,9 +73,19 @@ module _ (names : List (List ℕ)) (routers : List ConfigView) where
   told_fault T j (joins.Limit which) told = known j (joins.Limit which) told
 
 -- configurations with which nothing is wrong, and which settle
-pub load_fine : (names : List (List ℕ)) (routers : List ConfigView) (j : Judgement) (state : StateView) → j ≡ Fine → settled ROUND_LIMIT routers ≡ Some state → load_settled (load_judged names routers j) ≡ Ok state
-load_fine names routers j state fine is =
-    ap (λ (k : Judgement). load_settled (load_judged names routers k)) fine ∙ ap (λ (o : Option StateView). option_map_or Ok o (Err (Unsettled ROUND_LIMIT))) is
+pub load_fine : (names : List (List ℕ)) (routers : List ConfigView) (j : Judgement) (state : StateView) → j ≡ Fine → begun_from 0 routers ≡ None → settled ROUND_LIMIT routers ≡ Some state
+    → load_settled (load_judged names routers j) ≡ Ok state
+load_fine names routers j state fine none is =
+    ap (λ (k : Judgement). load_settled (load_judged names routers k)) fine
+    ∙ ap (λ (o : Option LineIn). load_settled (load_begun names routers o)) none
+    ∙ ap (λ (o : Option StateView). option_map_or Ok o (Err (Unsettled ROUND_LIMIT))) is
+
+-- configurations that begin a prefix
+pub load_unserved : (names : List (List ℕ)) (routers : List ConfigView) (j : Judgement) (at : LineIn) → j ≡ Fine → begun_from 0 routers ≡ Some at
+    → load_settled (load_judged names routers j) ≡ Err (Faulty (file_named names at.router) at.line Unsupported)
+load_unserved names routers j at fine some =
+    ap (λ (k : Judgement). load_settled (load_judged names routers k)) fine
+    ∙ ap (λ (o : Option LineIn). load_settled (load_begun names routers o)) some
 
 -- ---- the files of the routers
 

@@ -1,5 +1,6 @@
 mod Options
 mod EachFile
+mod BeginningNothing
 mod Joined
 mod AllFiles
 mod Taking

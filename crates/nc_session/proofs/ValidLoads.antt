@@ -18,8 +18,9 @@ use Rattle.nc_types.specs.declared.TheConstants.{ROUTER_LIMIT, LINE_LIMIT}
 use Rattle.nc_session.specs.declared.TheConstants.{FILE_LIMIT, ROUND_LIMIT}
 use Rattle.nc_session.specs.declared.refusal.Quantity.TheVariants.{Routers, Bytes, Lines}
 use Rattle.nc_session.specs.Words.{RequestView, request_of}
-use Rattle.nc_session.specs.Load.{Refusal, WrongWords, TooMany, Unsettled, load, load_result, load_lines, load_content, load_each, and_then, load_judged, load_joined, load_names, load_settled, load_request}
-use Rattle.nc_session.proofs.Joined.{configured}
+use Rattle.nc_session.specs.Load.{Refusal, WrongWords, TooMany, Unsettled, load, load_result, load_lines, load_content, load_each, and_then, load_begun, load_judged, load_joined, load_names, load_settled, load_request}
+use Rattle.nc_session.specs.Begun.{LineIn, begun_from}
+use Rattle.nc_session.proofs.BeginningNothing.{begins_nothing}
 
 -- ---- joining
 
@@ -40,43 +41,38 @@ valid routers formed fine =
 
 module _ (formed : (lines : List (List ℕ)) (c : ConfigView) → configuration lines ≡ Ok c → IsWellFormed c)
     (settles : (routers : List ConfigView) (rounds : ℕ) → BeginNothing routers → 0 < rounds → settled rounds routers ≡ Some (static_state routers)) where
-  -- what is known of a configuration that was loaded
-  record IsOne (c : ConfigView) : Type 0 where
-    well : IsWellFormed c
-    process : c.process ≡ None
-
-  result_one : (name : List ℕ) (lines : List (List ℕ)) (c : ConfigView) (r : Result ConfigView Fault) → configuration lines ≡ r → load_result name r ≡ Ok c → IsOne c
+  result_one : (name : List ℕ) (lines : List (List ℕ)) (c : ConfigView) (r : Result ConfigView Fault) → configuration lines ≡ r → load_result name r ≡ Ok c → IsWellFormed c
   result_one name lines c (Err fault) is e = absurd (cc)
   result_one name lines c (Ok d) is e =
       let same : d ≡ c = cc in
       let own : configuration lines ≡ Ok c = is ∙ ap Ok same in
-      record { well = formed lines c own; process = (configured lines c own).0 }
+      formed lines c own
 
-  lines_one : (name : List ℕ) (lines : List (List ℕ)) (c : ConfigView) (few : Bool) → cond few (load_result name (configuration lines)) (Err (TooMany Lines)) ≡ Ok c → IsOne c
+  lines_one : (name : List ℕ) (lines : List (List ℕ)) (c : ConfigView) (few : Bool) → cond few (load_result name (configuration lines)) (Err (TooMany Lines)) ≡ Ok c → IsWellFormed c
   lines_one name lines c true e = result_one name lines c (configuration lines) refl e
   lines_one name lines c false e = absurd (cc)
 
-  length_one : (name content : List ℕ) (c : ConfigView) (few : Bool) → cond few (load_lines name (lines_of content)) (Err (TooMany Bytes)) ≡ Ok c → IsOne c
+  length_one : (name content : List ℕ) (c : ConfigView) (few : Bool) → cond few (load_lines name (lines_of content)) (Err (TooMany Bytes)) ≡ Ok c → IsWellFormed c
   length_one name content c true e = lines_one name (lines_of content) c (nat_le (length (lines_of content)) LINE_LIMIT) e
   length_one name content c false e = absurd (cc)
 
-  content_one : (name : List ℕ) (content : Option (List ℕ)) (c : ConfigView) → load_content name content ≡ Ok c → IsOne c
+  content_one : (name : List ℕ) (content : Option (List ℕ)) (c : ConfigView) → load_content name content ≡ Ok c → IsWellFormed c
   content_one name None c e = absurd (cc)
   content_one name (Some content) c e = length_one name content c (nat_le (length content) FILE_LIMIT) e
 
   -- what is known of all that were loaded
   record AreLoaded (names : List (List ℕ)) (cs : List ConfigView) : Type 0 where
-    each : All IsOne cs
+    each : All IsWellFormed cs
     count : length cs ≡ length names
 
   one_more : (name : List ℕ) (names : List (List ℕ)) (one : Result ConfigView Refusal) (rest : Result (List ConfigView) Refusal) (cs : List ConfigView)
-      → ((c : ConfigView) → one ≡ Ok c → IsOne c) → ((ds : List ConfigView) → rest ≡ Ok ds → AreLoaded names ds) → and_then one rest ≡ Ok cs → AreLoaded (name ∷ names) cs
+      → ((c : ConfigView) → one ≡ Ok c → IsWellFormed c) → ((ds : List ConfigView) → rest ≡ Ok ds → AreLoaded names ds) → and_then one rest ≡ Ok cs → AreLoaded (name ∷ names) cs
   one_more name names (Err refusal) rest cs first more e = absurd (cc)
   one_more name names (Ok c) (Err refusal) cs first more e = absurd (cc)
   one_more name names (Ok c) (Ok ds) cs first more e =
       let same : c ∷ ds ≡ cs = cc in
       let are = more ds refl in
-      subst (AreLoaded (name ∷ names)) same (record { each = All-cons IsOne c ds (first c refl) are.each; count = omega (arith, are.count) })
+      subst (AreLoaded (name ∷ names)) same (record { each = All-cons IsWellFormed c ds (first c refl) are.each; count = omega (arith, are.count) })
 
   each_loaded : (files : List Named) (names : List (List ℕ)) (cs : List ConfigView) → load_each files names ≡ Ok cs → AreLoaded names cs
   each_loaded files [] cs e = let none : [] ≡ cs = cc in subst (AreLoaded []) none (record { each = λ k d lt. absurd (omega (arith, lt)); count = refl })
@@ -102,14 +98,19 @@ module _ (formed : (lines : List (List ℕ)) (c : ConfigView) → configuration 
   unfolding IsSettled
   refusal_settled refusal state e = absurd cc
 
-  judged_settled : (names : List (List ℕ)) (cs : List ConfigView) (j : Judgement) → judged cs ≡ j → All IsOne cs → length cs ≤ ROUTER_LIMIT → IsSettled (load_judged names cs j)
+  judged_settled : (names : List (List ℕ)) (cs : List ConfigView) (j : Judgement) → judged cs ≡ j → All IsWellFormed cs → length cs ≤ ROUTER_LIMIT → IsSettled (load_judged names cs j)
   judged_settled names cs (Clashing Names c) is each few = refusal_settled _
   judged_settled names cs (Clashing Overlaps c) is each few = refusal_settled _
   judged_settled names cs (Clashing Addresses c) is each few = refusal_settled _
   judged_settled names cs (Clashing References c) is each few = refusal_settled _
   judged_settled names cs (OverLimit which) is each few = refusal_settled _
-  judged_settled names cs Fine is each few =
-      routers_settled cs (λ k d lt. (each k d lt).process) (is_state cs (λ k d lt. (each k d lt).process) (valid cs (λ k d lt. (each k d lt).well) is) few)
+  judged_settled names cs Fine is each few = on (begun_from 0 cs) refl
+    where
+      on : (o : Option LineIn) → begun_from 0 cs ≡ o → IsSettled (load_begun names cs o)
+      on (Some at) some = refusal_settled _
+      on None none =
+          let nothing = begins_nothing cs 0 none in
+          routers_settled cs nothing (is_state cs nothing (valid cs each is) few)
 
   joined_settled : (names : List (List ℕ)) (each : Result (List ConfigView) Refusal) → length names ≤ ROUTER_LIMIT
       → ((cs : List ConfigView) → each ≡ Ok cs → AreLoaded names cs) → IsSettled (load_joined names each)

@@ -49,10 +49,9 @@ HasCauseOf files outcome before now (Err fault) = HasFaultCause files outcome be
 
 -- ---- one file
 
--- a configuration of a file: it is well formed, has no BGP process yet, and its lines are counted
+-- a configuration of a file: it is well formed, and its lines are counted
 pub record IsConfigured (c : ConfigView) : Type 0 where
   pub formed : IsWellFormed c
-  pub process : c.process ≡ None
   pub lines : c.line_count ≤ LINE_LIMIT
 
 -- a file is the one of this name, with its own lines where the files are told

@@ -8,6 +8,7 @@
 //! are public: `Facts`, `Marks`, `Standing`, `Session` and `Output`, in the order to read them.
 #![tactic(auto)]
 
+mod begun;
 mod engine;
 mod file;
 pub mod laws;

@@ -17,6 +17,7 @@ ghost use Rattle.nc_session.specs.Causes.{TakesOfEntered, TakesOfFiles, IsInTurn
 ghost use Rattle.nc_session.specs.Loading.{IsOne, IsFileOf, AddsOne, AddsFile, IsEach, AreBeside, AreFilesNamed, IsJoined, IsLoad, IsConfigured, joining_fault, HasCauseOf};
 
 use crate::FILE_LIMIT;
+use crate::begun::first_begun;
 use crate::file::LoadedFile;
 use crate::reading::read_file;
 use crate::refusal::{LoadFault, Quantity, Reason};
@@ -245,10 +246,14 @@ fn join_all(alloc: Global, configs: Vec<RouterConfig>) -> Result<Stable, LoadFau
         → IsJoined names result (map config_view configs.items) }
     ensures inside { IsErrOf result LoadFault.Outside → ⊥ }
 {
-    match join(alloc, configs) {
-        Ok(network) => Ok(settle_static(alloc, network)?),
-        Err(fault) => Err(join_fault(fault)),
+    let network = match join(alloc, configs) {
+        Ok(network) => network,
+        Err(fault) => return Err(join_fault(fault)),
+    };
+    if let Some((router, line)) = first_begun(network.routers()) {
+        return Err(bad(router, line, Reason::Unsupported));
     }
+    Ok(settle_static(alloc, network)?)
 }
 
 /// Loads the files of these names, one after another, joins their configurations and settles the network.

@@ -5,8 +5,8 @@ use Rattle.nc_session.proofs.load.read_lines.Goals as goal
 
 pub returns-in-Ok-clause-read : goal.returns-in-Ok-clause-read
 returns-in-Ok-clause-read c =
-    let facts = configured c.in_ok-lines.lines (config_view c.in-Ok.config) c.in-Ok.ensures.read in
-    record { formed = c.in-Ok.ensures.well_formed; process = facts.0; lines = omega (arith, facts.1, c.count.ensures, c.if-count-gt-LINE_LIMIT.false) }
+    let count = configured c.in_ok-lines.lines (config_view c.in-Ok.config) c.in-Ok.ensures.read in
+    record { formed = c.in-Ok.ensures.well_formed; lines = omega (arith, count, c.count.ensures, c.if-count-gt-LINE_LIMIT.false) }
 
 pub returns-in-Ok-clause-beside : goal.returns-in-Ok-clause-beside
-returns-in-Ok-clause-beside c = sym (configured c.in_ok-lines.lines (config_view c.in-Ok.config) c.in-Ok.ensures.read).1
+returns-in-Ok-clause-beside c = sym (configured c.in_ok-lines.lines (config_view c.in-Ok.config) c.in-Ok.ensures.read)
