@@ -1,6 +1,7 @@
 mod Options
 mod EachFile
 mod BeginningNothing
+mod OneFile
 mod Joined
 mod AllFiles
 mod Taking

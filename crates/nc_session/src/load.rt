@@ -116,9 +116,9 @@ fn load_file<F: Files>(
     ensures takes { TakesOfEntered (F.files files.old) (F.entered files.new) (F.left files.new) }
     ensures in_time { IsInTime (F.end files.old) (F.end files.new) }
 {
-    if files.enter(names[place].as_str()).is_err() {
+    let Ok(()) = files.enter(names[place].as_str()) else {
         return Err(LoadFault::Outside);
-    }
+    };
     let bytes = read_file(alloc, files)?;
     if bytes.len() > FILE_LIMIT {
         return Err(LoadFault::Over(Quantity::Bytes));
