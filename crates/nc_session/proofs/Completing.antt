@@ -37,7 +37,7 @@ pub many_ends : (words : List (List ℕ)) (before now : Seen) (status : Status) 
 many_ends words before now Done e many = absurd (few_files words e.2 many)
 many_ends words before now Config e many = absurd (few_files words e.2 many)
 many_ends words before now Usage e many = absurd (no_files words e.2 many)
-many_ends words before now Unstable e many = e
+many_ends words before now Unstable e many = absurd (few_files words e.2 many)
 many_ends words before now InputFault e many = absurd (few_files words e.3 many)
 many_ends words before now OutputFault e many = tt
 many_ends words before now FileFault e many = absurd (few_files words e.3 many)
@@ -71,6 +71,11 @@ other_config (inl e) = absurd cc
 other_config (inr (inl e)) = absurd cc
 other_config (inr (inr e)) = absurd cc
 
+other_unstable : (Unstable ≡ Done) ⊎ ((Unstable ≡ Limit) ⊎ (Unstable ≡ InputFault)) → ⊥
+other_unstable (inl e) = absurd cc
+other_unstable (inr (inl e)) = absurd cc
+other_unstable (inr (inr e)) = absurd cc
+
 module _ (words : List (List ℕ)) (fs : List Named) (session : List ℕ) (written : Option (List ℕ)) (faults : Faults) (failures : Failures) (now : Seen) where
   abbrev told_before : Seen
   told_before = record { files = Some fs; faults = faults; told = record { rest = Some session; written = written }; failures = failures }
@@ -89,7 +94,7 @@ module _ (words : List (List ℕ)) (fs : List Named) (session : List ℕ) (writt
   complete_by InputFault e files source sink = absurd (source e.1)
   complete_by OutputFault e files source sink = absurd (sink e.2)
   complete_by FileFault e files source sink = absent_file e.0 files
-  complete_by Unstable e files source sink = absurd e
+  complete_by Unstable e files source sink = by_refusal (load words fs) session Unstable other_unstable e.1.0
 
 -- the same for all objects
 pub completes : (words : List (List ℕ)) (files : Option (List Named)) (rest written : Option (List ℕ)) (faults : Faults) (failures : Failures) (now : Seen) (status : Status)

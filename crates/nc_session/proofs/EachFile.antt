@@ -7,8 +7,9 @@ use Rattle.nc_lines.specs.WholeLines.{all_but_last}
 use Rattle.std.proofs.lemmas.List.{take_more, drop_more, take-append-drop, map-append}
 use Rattle.nc_session.specs.declared.refusal.LoadFault.{LoadFault}
 use Rattle.nc_session.specs.declared.refusal.LoadFault.TheVariants.{Outside, Over, Bad, Memory}
+use Rattle.nc_session.specs.declared.refusal.LoadFault.TheVariants as faults
 use Rattle.nc_session.specs.File.{FileView}
-use Rattle.nc_session.specs.Load.{Refusal, TooMany, Missing, Faulty, load_content, load_each, file_named, file_of, and_then, before_all}
+use Rattle.nc_session.specs.Load.{Refusal, TooMany, Missing, Faulty, Unsettled, load_content, load_each, file_named, file_of, and_then, before_all}
 use Rattle.nc_session.specs.Causes.{EntersInTurn, EntersEach}
 use Rattle.nc_session.specs.Loading.{IsFault, IsMissingOf, HasFaultCause, IsFileOf, AddsFile, AreFilesNamed}
 use Rattle.nc_session.proofs.Options.{some_more}
@@ -123,6 +124,7 @@ module _ (names : List (List ℕ)) (files : Option (List Named)) (k : ℕ) (with
   fault_at fs Memory e is = tt
   fault_at fs (Over quantity) e is = stops_at fs (TooMany quantity) e is
   fault_at fs (Bad file line reason) e is = stops_at fs (Faulty (file_named names file) line reason) e is
+  fault_at fs (faults.Unsettled rounds) e is = stops_at fs (Unsettled rounds) e is
 
   -- its fault is that of all files, with its cause
   pub fault_of_all : (fault : LoadFault) → IfSome files (λ fs. IsFault names fault (one_of fs)) → IfSome files (λ fs. IsFault names fault (load_each fs names))
@@ -145,6 +147,7 @@ module _ (names : List (List ℕ)) (files : Option (List Named)) (k : ℕ) (with
   cause_of_all Memory before now cause = cause
   cause_of_all (Over quantity) before now cause = cause
   cause_of_all (Bad file line reason) before now cause = cause
+  cause_of_all (faults.Unsettled rounds) before now cause = cause
 
   -- with it one file more was loaded
   pub loaded_next : (ds : List ConfigView) → IfSome files (λ fs. (c : ConfigView) × (one_of fs ≡ Ok c) × (ds ≡ cs ++ c ∷ [])) → IfSome files (λ fs. load_each fs (take (k + 1) names) ≡ Ok ds)

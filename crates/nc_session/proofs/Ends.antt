@@ -13,12 +13,12 @@ use Rattle.nc_session.specs.declared.refusal.Quantity.TheVariants.{Routers}
 use Rattle.nc_session.specs.declared.status.Status.{Status}
 use Rattle.nc_session.specs.declared.status.Status.TheVariants.{Done, Config, Usage, Unstable, InputFault, OutputFault, FileFault, Memory, Limit}
 use Rattle.nc_session.specs.Words.{RequestView, request_of}
-use Rattle.nc_session.specs.Load.{Refusal, WrongWords, TooMany, Faulty, load, load_names, load_settled, load_request, file_named}
+use Rattle.nc_session.specs.Load.{Refusal, WrongWords, TooMany, Faulty, Unsettled, load, load_names, load_settled, load_request, file_named}
 use Rattle.nc_session.specs.Refusals.{usage_text, refusal_status, refusal_text}
 use Rattle.nc_session.specs.Output.{Concludes, Output, Writes, Serves, is_within}
 use Rattle.nc_session.specs.Serving.{AppendsFront}
 use Rattle.nc_session.specs.Leaving.{Takes, IsCutShort, Begins, Leaves, FailsAs, Told, Failures}
-use Rattle.nc_session.specs.Causes.{IsEarly, IsLate, IsAbsent, Settles, IsOverLimit, IsOpenSession, AnswersTaken, IsBeginning}
+use Rattle.nc_session.specs.Causes.{IsEarly, IsLate, IsAbsent, Settles, IsOverLimit, IsUnsettled, IsOpenSession, AnswersTaken, IsBeginning}
 use Rattle.nc_session.specs.Loading.{IsFault, IsMissingOf, HasFaultCause}
 use Rattle.nc_session.specs.Ending.{SinkSeen, Says, Silent, EndsRefused, Seen, NoFault, IsTold, IsLimited, IsTakenWhole, IsCutOff, IsBrokenOff, EndsAs}
 use Rattle.nc_session.proofs.Options.{some_of, some_more, writes, writes_none, writes_more}
@@ -141,6 +141,11 @@ module _ (words : List (List ℕ)) (before now : Seen) (result : Status) where
         let why : Refusal = Faulty (file_named request.files file) line reason in
         said_ends why cause source (is_load (Err why) is) (λ quiet told appends. (quiet, told, (request, named, few_by (load.Bad file line reason) (λ e. absurd cc) few))) said
     refused_ends (load.Bad file line reason) source is cause few (inr silent) = silent_memory cause source silent
+    refused_ends (load.Unsettled rounds) source is cause few (inl said) =
+        let why : Refusal = Unsettled rounds in
+        said_ends why cause source (is_load (Err why) is)
+        (λ quiet told appends. (quiet, told, (request, named, few_by (load.Unsettled rounds) (λ e. absurd cc) few), by_load words before.files (Err why) IsUnsettled (is_load (Err why) is) tt)) said
+    refused_ends (load.Unsettled rounds) source is cause few (inr silent) = silent_memory cause source silent
 
     -- the files give a network
     module _ (few : length request.files ≤ ROUTER_LIMIT) (state : StateView) (files : now.faults ≡ before.faults) (is : IfSome before.files (λ fs. load_request request fs ≡ Ok state)) where
@@ -223,6 +228,9 @@ refused_early names (load.Over quantity) before now result (inr silent) late = s
 refused_early names (load.Bad file line reason) before now result (inl (inl said)) late = subst IsLate said.0 late
 refused_early names (load.Bad file line reason) before now result (inl (inr failed)) late = subst IsLate failed.0 late
 refused_early names (load.Bad file line reason) before now result (inr silent) late = subst IsLate silent.0 late
+refused_early names (load.Unsettled rounds) before now result (inl (inl said)) late = subst IsLate said.0 late
+refused_early names (load.Unsettled rounds) before now result (inl (inr failed)) late = subst IsLate failed.0 late
+refused_early names (load.Unsettled rounds) before now result (inr silent) late = subst IsLate silent.0 late
 
 pub refused_outside : (names : List (List ℕ)) (fault : LoadFault) (before now : SinkSeen) (result : Status) → EndsRefused names fault before now result → result ≡ FileFault → fault ≡ load.Outside
 refused_outside names load.Outside before now result silent is = refl
@@ -233,6 +241,9 @@ refused_outside names (load.Over quantity) before now result (inr silent) is = l
 refused_outside names (load.Bad file line reason) before now result (inl (inl said)) is = let both : Config ≡ FileFault = sym said.0 ∙ is in absurd cc
 refused_outside names (load.Bad file line reason) before now result (inl (inr failed)) is = let both : OutputFault ≡ FileFault = sym failed.0 ∙ is in absurd cc
 refused_outside names (load.Bad file line reason) before now result (inr silent) is = let both : Memory ≡ FileFault = sym silent.0 ∙ is in absurd cc
+refused_outside names (load.Unsettled rounds) before now result (inl (inl said)) is = let both : Unstable ≡ FileFault = sym said.0 ∙ is in absurd cc
+refused_outside names (load.Unsettled rounds) before now result (inl (inr failed)) is = let both : OutputFault ≡ FileFault = sym failed.0 ∙ is in absurd cc
+refused_outside names (load.Unsettled rounds) before now result (inr silent) is = let both : Memory ≡ FileFault = sym silent.0 ∙ is in absurd cc
 
 -- a session that was served doesn't end before it is read
 pub served_late : (state : StateView) (before now : Told) (status : Status) → Leaves state before now status → IsEarly status → ⊥

@@ -12,7 +12,6 @@ use Rattle.nc_types.specs.declared.fault.Fault.{Fault}
 use Rattle.nc_reader.specs.Configuration.{configuration}
 use Rattle.nc_tables.specs.State.{StateView}
 use Rattle.nc_tables.specs.Settling.{settled}
-use Rattle.nc_session.specs.declared.TheConstants.{ROUND_LIMIT}
 use Rattle.nc_network.specs.Judged.{Names, Overlaps, Addresses, References, Judgement, Clashing, OverLimit, Fine}
 use Rattle.nc_network.specs.Told.{IsTold, fault_of, router_of}
 use Rattle.nc_network.specs.declared.fault.JoinFault.{JoinFault}
@@ -47,9 +46,9 @@ all_formed cs read = All-map IsWellFormed config_view cs (λ k d within. (read k
 pub all_short : (cs : List RouterConfig) → All (λ c. IsConfigured (config_view c)) cs → All (λ c. c.line_count ≤ LINE_LIMIT) cs
 all_short cs read = λ k d within. (read k d within).lines
 
-module _ (names : List (List ℕ)) (routers : List ConfigView) where
+module _ (rounds : ℕ) (names : List (List ℕ)) (routers : List ConfigView) where
   abbrev Holds : Judgement → JoinFault → Type 0
-  Holds j fault = IsFault names (joining_fault fault) (load_settled (load_judged names routers j))
+  Holds j fault = IsFault names (joining_fault fault) (load_settled rounds (load_judged names routers j))
 
   known : (j : Judgement) (fault : JoinFault) → fault_of j ≡ Some fault → Holds j fault
   known (Clashing Names c) fault e =
@@ -73,19 +72,27 @@ module _ (names : List (List ℕ)) (routers : List ConfigView) where
   told_fault T j (joins.Limit which) told = known j (joins.Limit which) told
 
 -- configurations with which nothing is wrong, and which settle
-pub load_fine : (names : List (List ℕ)) (routers : List ConfigView) (j : Judgement) (state : StateView) → j ≡ Fine → begun_from 0 routers ≡ None → settled ROUND_LIMIT routers ≡ Some state
-    → load_settled (load_judged names routers j) ≡ Ok state
-load_fine names routers j state fine none is =
-    ap (λ (k : Judgement). load_settled (load_judged names routers k)) fine
-    ∙ ap (λ (o : Option LineIn). load_settled (load_begun names routers o)) none
-    ∙ ap (λ (o : Option StateView). option_map_or Ok o (Err (Unsettled ROUND_LIMIT))) is
+pub load_fine : (rounds : ℕ) (names : List (List ℕ)) (routers : List ConfigView) (j : Judgement) (state : StateView) → j ≡ Fine → begun_from 0 routers ≡ None → settled rounds routers ≡ Some state
+    → load_settled rounds (load_judged names routers j) ≡ Ok state
+load_fine rounds names routers j state fine none is =
+    ap (λ (k : Judgement). load_settled rounds (load_judged names routers k)) fine
+    ∙ ap (λ (o : Option LineIn). load_settled rounds (load_begun names routers o)) none
+    ∙ ap (λ (o : Option StateView). option_map_or Ok o (Err (Unsettled rounds))) is
+
+-- configurations with which nothing is wrong, and which don't settle
+pub load_unsettled : (rounds : ℕ) (names : List (List ℕ)) (routers : List ConfigView) (j : Judgement) → j ≡ Fine → begun_from 0 routers ≡ None → settled rounds routers ≡ None
+    → load_settled rounds (load_judged names routers j) ≡ Err (Unsettled rounds)
+load_unsettled rounds names routers j fine none is =
+    ap (λ (k : Judgement). load_settled rounds (load_judged names routers k)) fine
+    ∙ ap (λ (o : Option LineIn). load_settled rounds (load_begun names routers o)) none
+    ∙ ap (λ (o : Option StateView). option_map_or Ok o (Err (Unsettled rounds))) is
 
 -- configurations that begin a prefix
-pub load_unserved : (names : List (List ℕ)) (routers : List ConfigView) (j : Judgement) (at : LineIn) → j ≡ Fine → begun_from 0 routers ≡ Some at
-    → load_settled (load_judged names routers j) ≡ Err (Faulty (file_named names at.router) at.line Unsupported)
-load_unserved names routers j at fine some =
-    ap (λ (k : Judgement). load_settled (load_judged names routers k)) fine
-    ∙ ap (λ (o : Option LineIn). load_settled (load_begun names routers o)) some
+pub load_unserved : (rounds : ℕ) (names : List (List ℕ)) (routers : List ConfigView) (j : Judgement) (at : LineIn) → j ≡ Fine → begun_from 0 routers ≡ Some at
+    → load_settled rounds (load_judged names routers j) ≡ Err (Faulty (file_named names at.router) at.line Unsupported)
+load_unserved rounds names routers j at fine some =
+    ap (λ (k : Judgement). load_settled rounds (load_judged names routers k)) fine
+    ∙ ap (λ (o : Option LineIn). load_settled rounds (load_begun names routers o)) some
 
 -- ---- the files of the routers
 

@@ -1,4 +1,5 @@
 mod Options
+mod Asking
 mod EachFile
 mod BeginningNothing
 mod OneFile

@@ -1,5 +1,5 @@
 -- The definitions allow one output and one status for the same words, files and session.
-use Rattle.std.proofs.Common.{◌≡◌, ℕ, suc, ◌+◌, ◌<◌, Bool, true, false, List, [], ◌∷◌, ◌++◌, length, map, Option, Some, None, Result, Ok, Err, inl, inr, refl, sym, ap, ◌∙◌, subst, arith}
+use Rattle.std.proofs.Common.{◌≡◌, ℕ, suc, ◌+◌, ◌<◌, ◌≤◌, Bool, true, false, List, [], ◌∷◌, ◌++◌, length, map, Option, Some, None, Result, Ok, Err, inl, inr, refl, sym, ap, ◌∙◌, subst, arith}
 use Rattle.std.specs.Prelude.{slice_get, slice_index_or, nat_lt}
 use Rattle.nc_types.specs.Config.{ConfigView}
 use Rattle.nc_types.specs.Network.{owner_at, router_named}
@@ -12,7 +12,9 @@ use Rattle.nc_marks.specs.Marks.{IsMark}
 use Rattle.nc_marks.specs.declared.mark.Mark.{Mark}
 use Rattle.nc_marks.specs.declared.mark.Mark.TheVariants.{Strong, Weak, Uncovered, Outside}
 use Rattle.nc_reader.specs.Configuration.{configuration}
-use Rattle.nc_tables.specs.State.{StateView, IsState, BeginNothing, static_state}
+use Rattle.nc_types.specs.Joining.{IsValid}
+use Rattle.nc_types.specs.declared.TheConstants.{ROUTER_LIMIT}
+use Rattle.nc_tables.specs.State.{StateView, IsState}
 use Rattle.nc_tables.specs.Settling.{settled}
 use Rattle.nc_fact.specs.declared.fact.Fact.{Fact}
 use Rattle.nc_fact.specs.Tested.{tested_facts}
@@ -155,7 +157,8 @@ module _ (lengths : (g : Flow Fact) → IsFlow g → (fs xs ys : List Fact) → 
 -- ---- one output
 
 module _ (formed : (lines : List (List ℕ)) (c : ConfigView) → configuration lines ≡ Ok c → IsWellFormed c)
-    (settles : (routers : List ConfigView) (rounds : ℕ) → BeginNothing routers → 0 < rounds → settled rounds routers ≡ Some (static_state routers)) (flows : (s : StateView) → IsState s → IsFlow (flow_of s))
+    (lawful : (routers : List ConfigView) (rounds : ℕ) (s : StateView) → IsValid routers → length routers ≤ ROUTER_LIMIT → settled rounds routers ≡ Some s → IsState s)
+    (flows : (s : StateView) → IsState s → IsFlow (flow_of s))
     (lengths : (g : Flow Fact) → IsFlow g → (fs xs ys : List Fact) → IsClosure g fs xs → IsClosure g fs ys → length xs ≡ length ys) where
   concludes_once : (loaded : Result StateView Refusal) (session : List ℕ) (m n : Status) (r t : List ℕ) → ((state : StateView) → loaded ≡ Ok state → IsState state)
       → Concludes loaded session m r → Concludes loaded session n t → (m ≡ n) × (r ≡ t)
@@ -164,4 +167,4 @@ module _ (formed : (lines : List (List ℕ)) (c : ConfigView) → configuration 
       replied_once lengths s (flows s (state s refl)) session (is_within session) m n r t p q
 
   pub one_output : (words : List (List ℕ)) (files : List Named) (session : List ℕ) (m n : Status) (r t : List ℕ) → Output words files session m r → Output words files session n t → (m ≡ n) × (r ≡ t)
-  one_output words files session m n r t p q = concludes_once (load words files) session m n r t (loaded_state formed settles words files) p q
+  one_output words files session m n r t p q = concludes_once (load words files) session m n r t (loaded_state formed lawful words files) p q

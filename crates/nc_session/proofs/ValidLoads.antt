@@ -11,16 +11,14 @@ use Rattle.nc_outside.specs.Named.{Named, content_of}
 use Rattle.nc_lines.specs.Lines.{lines_of}
 use Rattle.nc_reader.specs.Configuration.{configuration}
 use Rattle.nc_network.specs.Judged.{ClashKind, Names, Overlaps, Addresses, References, Judgement, Clashing, OverLimit, Fine, or_clash, judged}
-use Rattle.nc_tables.specs.State.{StateView, IsState, BeginNothing, static_state}
+use Rattle.nc_tables.specs.State.{StateView, IsState}
 use Rattle.nc_tables.specs.Settling.{settled}
-use Rattle.nc_stable.proofs.WithoutBgp.{is_state}
 use Rattle.nc_types.specs.declared.TheConstants.{ROUTER_LIMIT, LINE_LIMIT}
-use Rattle.nc_session.specs.declared.TheConstants.{FILE_LIMIT, ROUND_LIMIT}
+use Rattle.nc_session.specs.declared.TheConstants.{FILE_LIMIT}
 use Rattle.nc_session.specs.declared.refusal.Quantity.TheVariants.{Routers, Bytes, Lines}
 use Rattle.nc_session.specs.Words.{RequestView, request_of}
 use Rattle.nc_session.specs.Load.{Refusal, WrongWords, TooMany, Unsettled, load, load_result, load_lines, load_content, load_each, and_then, load_begun, load_judged, load_joined, load_names, load_settled, load_request}
 use Rattle.nc_session.specs.Begun.{LineIn, begun_from}
-use Rattle.nc_session.proofs.BeginningNothing.{begins_nothing}
 
 -- ---- joining
 
@@ -40,7 +38,7 @@ valid routers formed fine =
 -- ---- file by file
 
 module _ (formed : (lines : List (List ℕ)) (c : ConfigView) → configuration lines ≡ Ok c → IsWellFormed c)
-    (settles : (routers : List ConfigView) (rounds : ℕ) → BeginNothing routers → 0 < rounds → settled rounds routers ≡ Some (static_state routers)) where
+    (lawful : (routers : List ConfigView) (rounds : ℕ) (s : StateView) → IsValid routers → length routers ≤ ROUTER_LIMIT → settled rounds routers ≡ Some s → IsState s) where
   result_one : (name : List ℕ) (lines : List (List ℕ)) (c : ConfigView) (r : Result ConfigView Fault) → configuration lines ≡ r → load_result name r ≡ Ok c → IsWellFormed c
   result_one name lines c (Err fault) is e = absurd (cc)
   result_one name lines c (Ok d) is e =
@@ -81,22 +79,22 @@ module _ (formed : (lines : List (List ℕ)) (c : ConfigView) → configuration 
 
   -- ---- all together
 
-  -- routers that were loaded have a state, and so has what settles
+  -- what routers that were loaded settle in is a state
   IsSettled : Result (List ConfigView) Refusal → Type 0
-  IsSettled loaded = (state : StateView) → load_settled loaded ≡ Ok state → IsState state
+  IsSettled loaded = (rounds : ℕ) (state : StateView) → load_settled rounds loaded ≡ Ok state → IsState state
 
-  by_settled : (o : Option StateView) (s state : StateView) → o ≡ Some s → IsState s → option_map_or Ok o (Err (Unsettled ROUND_LIMIT)) ≡ Ok state → IsState state
-  by_settled None s state is holds e = absurd cc
-  by_settled (Some t) s state is holds e =
-      let same : s ≡ state = cc in subst IsState same holds
+  by_settled : (rounds : ℕ) (o : Option StateView) (state : StateView) → ((s : StateView) → o ≡ Some s → IsState s) → option_map_or Ok o (Err (Unsettled rounds)) ≡ Ok state → IsState state
+  by_settled rounds None state holds e = absurd cc
+  by_settled rounds (Some s) state holds e =
+      let same : s ≡ state = cc in subst IsState same (holds s refl)
 
-  routers_settled : (routers : List ConfigView) → BeginNothing routers → IsState (static_state routers) → IsSettled (Ok routers)
+  routers_settled : (routers : List ConfigView) → IsValid routers → length routers ≤ ROUTER_LIMIT → IsSettled (Ok routers)
   unfolding IsSettled
-  routers_settled routers none is state e = by_settled (settled ROUND_LIMIT routers) (static_state routers) state (settles routers ROUND_LIMIT none (omega arith)) is e
+  routers_settled routers valid few rounds state e = by_settled rounds (settled rounds routers) state (λ s. lawful routers rounds s valid few) e
 
   refusal_settled : (refusal : Refusal) → IsSettled (Err refusal)
   unfolding IsSettled
-  refusal_settled refusal state e = absurd cc
+  refusal_settled refusal rounds state e = absurd cc
 
   judged_settled : (names : List (List ℕ)) (cs : List ConfigView) (j : Judgement) → judged cs ≡ j → All IsWellFormed cs → length cs ≤ ROUTER_LIMIT → IsSettled (load_judged names cs j)
   judged_settled names cs (Clashing Names c) is each few = refusal_settled _
@@ -104,13 +102,11 @@ module _ (formed : (lines : List (List ℕ)) (c : ConfigView) → configuration 
   judged_settled names cs (Clashing Addresses c) is each few = refusal_settled _
   judged_settled names cs (Clashing References c) is each few = refusal_settled _
   judged_settled names cs (OverLimit which) is each few = refusal_settled _
-  judged_settled names cs Fine is each few = on (begun_from 0 cs) refl
+  judged_settled names cs Fine is each few = on (begun_from 0 cs)
     where
-      on : (o : Option LineIn) → begun_from 0 cs ≡ o → IsSettled (load_begun names cs o)
-      on (Some at) some = refusal_settled _
-      on None none =
-          let nothing = begins_nothing cs 0 none in
-          routers_settled cs nothing (is_state cs nothing (valid cs each is) few)
+      on : (o : Option LineIn) → IsSettled (load_begun names cs o)
+      on (Some at) = refusal_settled _
+      on None = routers_settled cs (valid cs each is) few
 
   joined_settled : (names : List (List ℕ)) (each : Result (List ConfigView) Refusal) → length names ≤ ROUTER_LIMIT
       → ((cs : List ConfigView) → each ≡ Ok cs → AreLoaded names cs) → IsSettled (load_joined names each)
@@ -130,7 +126,7 @@ module _ (formed : (lines : List (List ℕ)) (c : ConfigView) → configuration 
   by_request : (asked : Option RequestView) (files : List Named) (state : StateView) → option_map_or (λ request. load_request request files) asked (Err WrongWords) ≡ Ok state → IsState state
   unfolding IsSettled
   by_request None files state e = absurd cc
-  by_request (Some request) files state e = request_settled request files state e
+  by_request (Some request) files state e = request_settled request files request.rounds state e
 
   -- what the words and the files load is a state
   pub loaded_state : (words : List (List ℕ)) (files : List Named) (state : StateView) → load words files ≡ Ok state → IsState state

@@ -10,7 +10,7 @@ use Rattle.nc_session.specs.declared.TheConstants.{FILE_LIMIT, SESSION_LIMIT}
 use Rattle.nc_session.specs.declared.status.Status.{Status}
 use Rattle.nc_session.specs.declared.status.Status.TheVariants.{Done, Config, Usage, Unstable, InputFault, OutputFault, FileFault, Memory, Limit}
 use Rattle.nc_session.specs.Words.{request_of}
-use Rattle.nc_session.specs.Load.{Refusal, TooMany, Missing, load, load_each}
+use Rattle.nc_session.specs.Load.{Refusal, TooMany, Missing, Unsettled, load, load_each}
 use Rattle.nc_session.specs.Refusals.{refusal_status}
 use Rattle.nc_session.specs.Output.{Concludes, Writes, has_quit, is_within}
 use Rattle.nc_session.specs.Reading.{TakesAtMost}
@@ -86,6 +86,11 @@ abbrev pub IsOverLimit : Result StateView Refusal → List ℕ → Type 0
 IsOverLimit (Ok state) session = is_within session ≡ false
 IsOverLimit (Err (TooMany quantity)) session = Unit {0}
 IsOverLimit (Err refusal) session = ⊥
+
+-- the routing of the files doesn't settle
+abbrev pub IsUnsettled : Result StateView Refusal → Type 0
+IsUnsettled (Err (Unsettled rounds)) = Unit {0}
+IsUnsettled loaded = ⊥
 
 -- the files are told, and the first refusal is of one that isn't there
 abbrev pub IsAbsent : List (List ℕ) → Option (List Named) → Type 0

@@ -7,12 +7,12 @@ use Rattle.nc_types.specs.declared.TheConstants.{ROUTER_LIMIT}
 use Rattle.nc_session.specs.declared.refusal.LoadFault.{LoadFault}
 use Rattle.nc_session.specs.declared.refusal.LoadFault.TheVariants as load
 use Rattle.nc_session.specs.declared.status.Status.{Status}
-use Rattle.nc_session.specs.declared.status.Status.TheVariants.{Done, Config, Usage, InputFault, OutputFault, FileFault, Memory, Limit}
+use Rattle.nc_session.specs.declared.status.Status.TheVariants.{Done, Config, Usage, Unstable, InputFault, OutputFault, FileFault, Memory, Limit}
 use Rattle.nc_session.specs.Words.{RequestView, request_of}
 use Rattle.nc_session.specs.Load.{load, file_named}
-use Rattle.nc_session.specs.Refusals.{usage_text, limit_text, fault_text}
+use Rattle.nc_session.specs.Refusals.{usage_text, limit_text, fault_text, unsettled_text}
 use Rattle.nc_session.specs.Output.{Output, Writes, is_within, TookQuit}
-use Rattle.nc_session.specs.Causes.{Settles, IsAbsent, IsOverLimit, IsOpenSession, AnswersTaken, IsBeginning}
+use Rattle.nc_session.specs.Causes.{Settles, IsAbsent, IsOverLimit, IsUnsettled, IsOpenSession, AnswersTaken, IsBeginning}
 use Rattle.nc_session.specs.Serving.{AppendsFront}
 use Rattle.nc_session.specs.Leaving.{Takes, Told, Failures}
 
@@ -40,6 +40,8 @@ EndsRefused names (load.Over quantity) before now result =
     Says Limit (limit_text quantity) before now result ⊎ Silent Memory before now result
 EndsRefused names (load.Bad file line reason) before now result =
     Says Config (fault_text (file_named names file) line reason) before now result ⊎ Silent Memory before now result
+EndsRefused names (load.Unsettled rounds) before now result =
+    Says Unstable (unsettled_text rounds) before now result ⊎ Silent Memory before now result
 
 -- what is seen of the three objects: the files and their faults, and what the source and the sink tell, and their faults
 pub record Seen : Type 0 where
@@ -93,6 +95,9 @@ abbrev pub EndsAs : List (List ℕ) → Seen → Seen → Status → Type 0
 EndsAs words before now Done =
     NoFault before now × IsTold words before now Done × IsNamingFew words × IsTakenWhole before now
 EndsAs words before now Config = NoFault before now × IsTold words before now Config × IsNamingFew words
+EndsAs words before now Unstable =
+    NoFault before now × IsTold words before now Unstable × IsNamingFew words
+    × IfSome before.files (λ files. IsUnsettled (load words files))
 EndsAs words before now Limit =
     NoFault before now × IsTold words before now Limit × IsNaming words × IsLimited words before
 EndsAs words before now Usage =
@@ -108,4 +113,3 @@ EndsAs words before now FileFault =
     (Rose before.faults now.faults ⊎ IsAbsent words before.files) × (now.failures.source ≡ before.failures.source)
     × (now.failures.sink ≡ before.failures.sink) × IsNamingFew words × Keeps before.told.written now.told.written
 EndsAs words before now Memory = NoFault before now × IsNaming words × IsBrokenOff words before now
-EndsAs words before now status = ⊥

@@ -17,7 +17,7 @@ use Rattle.nc_network.specs.declared.fault.LimitWord.TheVariants as words
 use Rattle.nc_tables.specs.State.{StateView}
 use Rattle.nc_tables.specs.Settling.{settled}
 use Rattle.nc_types.specs.declared.TheConstants.{ROUTER_LIMIT, LINE_LIMIT}
-use Rattle.nc_session.specs.declared.TheConstants.{FILE_LIMIT, ROUND_LIMIT}
+use Rattle.nc_session.specs.declared.TheConstants.{FILE_LIMIT}
 use Rattle.nc_session.specs.declared.refusal.Quantity.{Quantity}
 use Rattle.nc_session.specs.declared.refusal.Quantity.TheVariants.{Routers, Bytes, Lines, Prefixes, Neighbors}
 use Rattle.nc_session.specs.declared.refusal.Reason.{Reason}
@@ -118,14 +118,14 @@ load_names names files =
 
 -- ---- their state
 
--- the state in which the routing settles within the limit of rounds, if it does
-abbrev pub load_settled : Result (List ConfigView) Refusal → Result StateView Refusal
-load_settled (Ok routers) = option_map_or Ok (settled ROUND_LIMIT routers) (Err (Unsettled ROUND_LIMIT))
-load_settled (Err refusal) = Err refusal
+-- the state in which the routing settles within so many rounds, if it does
+abbrev pub load_settled : ℕ → Result (List ConfigView) Refusal → Result StateView Refusal
+load_settled rounds (Ok routers) = option_map_or Ok (settled rounds routers) (Err (Unsettled rounds))
+load_settled rounds (Err refusal) = Err refusal
 
 -- what comes of a request over files
 abbrev pub load_request : RequestView → List Named → Result StateView Refusal
-load_request request files = load_settled (load_names request.files files)
+load_request request files = load_settled request.rounds (load_names request.files files)
 
 -- what comes of the words and the files
 abbrev pub load : List (List ℕ) → List Named → Result StateView Refusal

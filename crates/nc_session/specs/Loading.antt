@@ -16,9 +16,10 @@ use Rattle.nc_session.specs.declared.load.FilesRead.{FilesRead}
 use Rattle.nc_session.specs.declared.load.Loaded.{Loaded}
 use Rattle.nc_session.specs.declared.refusal.LoadFault.{LoadFault}
 use Rattle.nc_session.specs.declared.refusal.LoadFault.TheVariants.{Outside, Over, Bad, Memory}
+use Rattle.nc_session.specs.declared.refusal.LoadFault.TheVariants as faults
 use Rattle.nc_session.specs.declared.refusal.Reason.TheVariants.{SameName, Overlap, SameAddress, Undefined}
 use Rattle.nc_session.specs.File.{FileView, file_view}
-use Rattle.nc_session.specs.Load.{Refusal, TooMany, Missing, Faulty, quantity_of, load_judged, load_settled, file_named, file_of}
+use Rattle.nc_session.specs.Load.{Refusal, TooMany, Missing, Faulty, Unsettled, quantity_of, load_judged, load_settled, file_named, file_of}
 
 abbrev pub load_stop : Stop → LoadFault
 load_stop stop.Outside = Outside
@@ -30,6 +31,7 @@ IsFault names Outside outcome = Unit {0}
 IsFault names Memory outcome = Unit {0}
 IsFault names (Over quantity) outcome = outcome ≡ Err (TooMany quantity)
 IsFault names (Bad file line reason) outcome = outcome ≡ Err (Faulty (file_named names file) line reason)
+IsFault names (faults.Unsettled rounds) outcome = outcome ≡ Err (Unsettled rounds)
 
 -- the files are told, and the outcome is that one isn't there
 abbrev pub IsMissingOf : {T : Type 0} → Option (List Named) → (List Named → Result T Refusal) → Type 0
@@ -103,11 +105,11 @@ joining_fault (joins.Undefined router line) = Bad router.0 line Undefined
 joining_fault (joins.Limit which) = Over (quantity_of which)
 joining_fault joins.Memory = Memory
 
--- what was returned is the outcome of configurations together: the state of their network
-abbrev pub IsJoined : List (List ℕ) → Result StateView LoadFault → List ConfigView → Type 0
-IsJoined names (Ok state) routers =
-    (load_settled (load_judged names routers (judged routers)) ≡ Ok state) × (state.routers ≡ routers)
-IsJoined names (Err fault) routers = IsFault names fault (load_settled (load_judged names routers (judged routers)))
+-- what was returned is the outcome of configurations together: the state in which their network settles within so many rounds
+abbrev pub IsJoined : List (List ℕ) → ℕ → Result StateView LoadFault → List ConfigView → Type 0
+IsJoined names rounds (Ok state) routers =
+    (load_settled rounds (load_judged names routers (judged routers)) ≡ Ok state) × (state.routers ≡ routers)
+IsJoined names rounds (Err fault) routers = IsFault names fault (load_settled rounds (load_judged names routers (judged routers)))
 
 -- what was returned is the outcome of all files together: the state of their network
 abbrev pub IsLoad : List (List ℕ) → Result Loaded LoadFault → Result StateView Refusal → Type 0

@@ -34,8 +34,11 @@ pub use status::Status;
 /// How many bytes of a file are read.
 pub const FILE_LIMIT: usize = 4_194_304;
 
-/// How many rounds of the routing are made until it settles.
-pub const ROUND_LIMIT: usize = 256;
+/// How many rounds of the routing are made at most, where the words ask for none.
+pub const DEFAULT_ROUNDS: u32 = 256;
+
+/// How many rounds the words may ask for.
+pub const MOST_ROUNDS: u32 = 10_000;
 
 /// How many bytes of a session are read.
 pub const SESSION_LIMIT: usize = 16_777_216;

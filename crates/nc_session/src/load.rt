@@ -25,7 +25,7 @@ use nc_lines::split::split_lines;
 use nc_network::{JoinFault, join};
 use nc_outside::Files;
 use nc_reader::read_config;
-use nc_stable::settle_static;
+use nc_stable::{SettleFault, settle};
 use nc_tables::Stable;
 use nc_types::{ConfigFault, LINE_LIMIT, ROUTER_LIMIT, RouterConfig, RouterId, Text};
 use std::alloc::{AllocError, Global};
@@ -238,12 +238,12 @@ fn join_fault(fault: JoinFault) -> LoadFault
     }
 }
 
-// Joins configurations, and settles their network.
-fn join_all(alloc: Global, configs: Vec<RouterConfig>) -> Result<Stable, LoadFault>
+// Joins configurations, and settles their network within so many rounds.
+fn join_all(alloc: Global, configs: Vec<RouterConfig>, rounds: u32) -> Result<Stable, LoadFault>
     requires few { length configs.items ≤ ROUTER_LIMIT }
     requires read { All (λ c. IsConfigured (config_view c)) configs.items }
     ensures joined { (names : List (List ℕ))
-        → IsJoined names result (map config_view configs.items) }
+        → IsJoined names rounds result (map config_view configs.items) }
     ensures inside { IsErrOf result LoadFault.Outside → ⊥ }
 {
     let network = match join(alloc, configs) {
@@ -253,18 +253,24 @@ fn join_all(alloc: Global, configs: Vec<RouterConfig>) -> Result<Stable, LoadFau
     if let Some((router, line)) = first_begun(network.routers()) {
         return Err(bad(router, line, Reason::Unsupported));
     }
-    Ok(settle_static(alloc, network)?)
+    match settle(alloc, network, rounds) {
+        Ok(state) => Ok(state),
+        Err(SettleFault::Unstable) => Err(LoadFault::Unsettled(rounds)),
+        Err(SettleFault::Memory) => Err(LoadFault::Memory),
+    }
 }
 
-/// Loads the files of these names, one after another, joins their configurations and settles the network.
+/// Loads the files of these names, one after another, joins their configurations and settles the network within so
+/// many rounds.
 pub(crate) fn load<F: Files>(
     alloc: Global,
     names: &[String],
+    rounds: u32,
     files: &mut F,
 ) -> Result<Loaded, LoadFault>
     ensures files { F.files files.new ≡ F.files files.old }
     ensures loaded { IfSome (F.files files.old) (λ fs. IsLoad (texts names.now) result
-        (load_settled (load_names (texts names.now) fs))) }
+        (load_settled rounds (load_names (texts names.now) fs))) }
     ensures named { IfOk result (λ loaded. AreFilesNamed (F.files files.old)
         (texts names.now) (map file_view loaded.files.items)) }
     ensures fit { IfOk result (λ loaded.
@@ -272,7 +278,7 @@ pub(crate) fn load<F: Files>(
     ensures few { MatchResult result (λ _. length names.now ≤ ROUTER_LIMIT)
         (λ fault. (fault ≡ LoadFault.Over Quantity.Routers) ⊎ (length names.now ≤ ROUTER_LIMIT)) }
     ensures cause { HasCauseOf (F.files files.old)
-        (λ fs. load_settled (load_names (texts names.now) fs))
+        (λ fs. load_settled rounds (load_names (texts names.now) fs))
         (F.faults files.old) (F.faults files.new) result }
     ensures entered { IsInTurn (texts names.now) (F.files files.old)
         (F.entered files.old) (F.entered files.new) }
@@ -296,7 +302,7 @@ pub(crate) fn load<F: Files>(
         Ok(each) => each,
         Err(fault) => return Err(fault),
     };
-    match join_all(alloc, each.configs) {
+    match join_all(alloc, each.configs, rounds) {
         Ok(state) => Ok(Loaded {
             state,
             files: each.files,

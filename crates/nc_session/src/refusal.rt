@@ -117,6 +117,8 @@ pub(crate) enum LoadFault {
         line: u32,
         reason: Reason,
     },
+    /// The routing doesn't settle within so many rounds.
+    Unsettled(u32),
     /// Memory ran out.
     Memory,
 }

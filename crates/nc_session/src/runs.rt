@@ -7,11 +7,11 @@ ghost use Rattle.nc_types.specs.declared.TheConstants.{ROUTER_LIMIT};
 ghost use Rattle.nc_session.specs.declared.TheConstants.{SESSION_LIMIT};
 ghost use Rattle.nc_session.specs.Words.{texts, request_of};
 ghost use Rattle.nc_session.specs.Load.{load, file_named};
-ghost use Rattle.nc_session.specs.Refusals.{usage_text, limit_text, fault_text};
+ghost use Rattle.nc_session.specs.Refusals.{usage_text, limit_text, fault_text, unsettled_text};
 ghost use Rattle.nc_session.specs.Output.{Output, Writes, TookQuit, is_within};
 ghost use Rattle.nc_session.specs.Reading.{TakesAtMost, IsInTime, StaysInTime};
 ghost use Rattle.nc_session.specs.Leaving.{Takes};
-ghost use Rattle.nc_session.specs.Causes.{IsAnswer, IsUsageOrUntold, IsLimitOrUntold, IsOfFiles, IsEarly, IsLate, IsCut, files_of, status_of, Settles, IsOverLimit, IsAbsent, EntersInTurn, IsInTurn, EntersEach, TakesOfFiles, IsOpenSession, AnswersTaken, IsBeginning};
+ghost use Rattle.nc_session.specs.Causes.{IsAnswer, IsUsageOrUntold, IsLimitOrUntold, IsOfFiles, IsEarly, IsLate, IsCut, files_of, status_of, Settles, IsOverLimit, IsUnsettled, IsAbsent, EntersInTurn, IsInTurn, EntersEach, TakesOfFiles, IsOpenSession, AnswersTaken, IsBeginning};
 ghost use Rattle.nc_session.specs.Ending.{Says, Silent, EndsRefused, EndsAs, IsNamingFew};
 ghost use Rattle.nc_session.specs.declared.status.Status.TheVariants as Status;
 
@@ -20,7 +20,7 @@ use crate::pieces::serve;
 use crate::refusal::{LoadFault, Quantity, Reason};
 use crate::report::push_line;
 use crate::status::Status;
-use crate::words::read_words;
+use crate::words::{file_names, read_words};
 use crate::writing::write_all;
 use nc_outside::{Files, Sink, Source};
 use std::alloc::{AllocError, Global};
@@ -46,6 +46,16 @@ fn fault_line(alloc: Global, name: &str, line: u32, reason: Reason) -> Result<Ve
     text.extend_from_slice(line.to_string(alloc)?.as_bytes())?;
     text.push(b' ')?;
     push_line(&mut text, reason.text())?;
+    Ok(text)
+}
+
+// The refusal of a routing that doesn't settle within so many rounds.
+fn unsettled_line(alloc: Global, rounds: u32) -> Result<Vec<u8>, AllocError>
+    ensures { IfOk result (λ text. text.items ≡ unsettled_text rounds) }
+{
+    let mut text = Vec::new(alloc);
+    text.extend_from_slice(b"refused unstable ")?;
+    push_line(&mut text, rounds.to_string(alloc)?.as_bytes())?;
     Ok(text)
 }
 
@@ -103,6 +113,9 @@ fn refuse<K: Sink>(alloc: Global, names: &[String], fault: LoadFault, output: &m
             let text = fault_line(alloc, name_at(names, file), line, reason);
             say_made(output, text, Status::Config)
         }
+        LoadFault::Unsettled(rounds) => {
+            say_made(output, unsettled_line(alloc, rounds), Status::Unstable)
+        }
     }
 }
 
@@ -110,12 +123,13 @@ fn refuse<K: Sink>(alloc: Global, names: &[String], fault: LoadFault, output: &m
 fn run_files<F: Files, S: Source, K: Sink>(
     alloc: Global,
     names: &[String],
+    rounds: u32,
     files: &mut F,
     input: &mut S,
     output: &mut K,
 ) -> Status
     ensures ends { (words : List (List ℕ))
-        → request_of words ≡ Some (record { files = texts names.now }) → EndsAs words
+        → request_of words ≡ Some (record { rounds = rounds; files = texts names.now }) → EndsAs words
         (record {
           files = F.files files.old;
           faults = F.faults files.old;
@@ -149,7 +163,7 @@ fn run_files<F: Files, S: Source, K: Sink>(
     ensures session_unread { IsEarly result
         → (S.rest input.new ≡ S.rest input.old) × (S.end input.new ≡ S.end input.old) }
 {
-    match load(alloc, names, files) {
+    match load(alloc, names, rounds, files) {
         Ok(loaded) => serve(alloc, loaded.state, loaded.files, input, output),
         Err(fault) => refuse(alloc, names, fault, output),
     }
@@ -197,17 +211,20 @@ fn run_words<F: Files, S: Source, K: Sink>(
     ensures session_unread { IsEarly result
         → (S.rest input.new ≡ S.rest input.old) × (S.end input.new ≡ S.end input.old) }
 {
-    let Some(request) = read_words(words) else {
+    let Some(rounds) = read_words(words) else {
         return say(output, b"refused usage\n", Status::Usage);
     };
-    run_files(alloc, request.files, files, input, output)
+    match file_names(alloc, words) {
+        Ok(names) => run_files(alloc, &names, rounds, files, input, output),
+        Err(_) => Status::Memory,
+    }
 }
 
 /// Runs NetCov: reads the files that the words name, answers the session, and writes every reply.
 ///
 /// The words are judged first, then how many files they name. Each file is entered once and read whole in its
 /// turn, and judged before the next: that it is there, its length, its number of lines, its configuration.
-/// Then the configurations are judged together. The session is read to its end, or one byte past
+/// Then the configurations are judged together, and last whether the routing settles. The session is read to its end, or one byte past
 /// [`SESSION_LIMIT`], and each of its lines is answered before the next read, up to the line that ends it. A session
 /// longer than the limit is answered as far as its lines end within it, and then refused, unless one of them
 /// ends it. Nothing is read of a file or of the session after its end was told.
@@ -285,7 +302,8 @@ pub fn run<F: Files, S: Source, K: Sink>(
     ensures session_in_time { StaysInTime (S.end input.old) (S.end input.new) }
     ensures session_unread { IsEarly result
         → (S.rest input.new ≡ S.rest input.old) × (S.end input.new ≡ S.end input.old) }
-    ensures stable { result ≢ Status.Unstable }
+    ensures unstable { result ≡ Status.Unstable
+        → IfSome (F.files files.old) (λ fs. IsUnsettled (load (texts words.now) fs)) }
 {
     run_words(alloc, words, files, input, output)
 }

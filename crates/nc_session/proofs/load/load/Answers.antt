@@ -13,30 +13,30 @@ use Rattle.nc_session.proofs.load.load.Goals as goal
 pub returns-then-names-gt-ROUTER_LIMIT-clause-loaded : goal.returns-then-names-gt-ROUTER_LIMIT-clause-loaded
 returns-then-names-gt-ROUTER_LIMIT-clause-loaded g c =
     let many : ROUTER_LIMIT < length (texts c.args.names.now) = omega (arith, length-map c.args.names.now string_bytes, c.if-names-gt-ROUTER_LIMIT.true) in
-    too_many (texts c.args.names.now) (g.F.Files.files c.args.files.now) many
+    too_many c.args.rounds (texts c.args.names.now) (g.F.Files.files c.args.files.now) many
 
 pub returns-in-Err-clause-loaded : goal.returns-in-Err-clause-loaded
 returns-in-Err-clause-loaded g c =
     let few : length (texts c.args.names.now) ≤ ROUTER_LIMIT = omega (arith, length-map c.args.names.now string_bytes, c.if-names-gt-ROUTER_LIMIT.false) in
-    fault_each (texts c.args.names.now) few (g.F.Files.files c.args.files.now) c.in-Err.fault c.in-Err.ensures.loaded
+    fault_each c.args.rounds (texts c.args.names.now) few (g.F.Files.files c.args.files.now) c.in-Err.fault c.in-Err.ensures.loaded
 
 pub returns-in-Err-clause-cause : goal.returns-in-Err-clause-cause
 returns-in-Err-clause-cause g c =
     let few : length (texts c.args.names.now) ≤ ROUTER_LIMIT = omega (arith, length-map c.args.names.now string_bytes, c.if-names-gt-ROUTER_LIMIT.false) in
-    cause_each (texts c.args.names.now) few (g.F.Files.files c.args.files.now) c.in-Err.fault _ _ c.in-Err.ensures.cause
+    cause_each c.args.rounds (texts c.args.names.now) few (g.F.Files.files c.args.files.now) c.in-Err.fault _ _ c.in-Err.ensures.cause
 
 pub returns-in-Ok-join_all-clause-loaded : goal.returns-in-Ok-join_all-clause-loaded
 returns-in-Ok-join_all-clause-loaded g c =
     let names = texts c.args.names.now in
     let few : length names ≤ ROUTER_LIMIT = omega (arith, length-map c.args.names.now string_bytes, c.if-names-gt-ROUTER_LIMIT.false) in
     let joined = c.in-Ok-join_all.ensures.joined names in
-    fine_together names few (g.F.Files.files c.args.files.now) (map config_view c.in-Ok.each.configs.items) c.in-Ok.ensures.loaded c.in-Ok-join_all.state joined.0
+    fine_together c.args.rounds names few (g.F.Files.files c.args.files.now) (map config_view c.in-Ok.each.configs.items) c.in-Ok.ensures.loaded c.in-Ok-join_all.state joined.0
 
 pub returns-in-Err-join_all-clause-loaded : goal.returns-in-Err-join_all-clause-loaded
 returns-in-Err-join_all-clause-loaded g c =
     let names = texts c.args.names.now in
     let few : length names ≤ ROUTER_LIMIT = omega (arith, length-map c.args.names.now string_bytes, c.if-names-gt-ROUTER_LIMIT.false) in
-    fault_together names few (g.F.Files.files c.args.files.now) (map config_view c.in-Ok.each.configs.items) c.in-Ok.ensures.loaded c.in-Err-join_all.fault (c.in-Err-join_all.ensures.joined names)
+    fault_together c.args.rounds names few (g.F.Files.files c.args.files.now) (map config_view c.in-Ok.each.configs.items) c.in-Ok.ensures.loaded c.in-Err-join_all.fault (c.in-Err-join_all.ensures.joined names)
 
 pub returns-in-Ok-join_all-clause-fit : goal.returns-in-Ok-join_all-clause-fit
 returns-in-Ok-join_all-clause-fit g c =

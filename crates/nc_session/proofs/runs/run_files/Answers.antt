@@ -13,7 +13,7 @@ use Rattle.nc_session.proofs.runs.run_files.Goals as goal
 
 pub returns-in-Ok-clause-ends : goal.returns-in-Ok-clause-ends
 returns-in-Ok-clause-ends g c words named =
-    let request : RequestView = record { files = texts c.args.names.now } in
+    let request : RequestView = record { rounds = c.args.rounds; files = texts c.args.names.now } in
     let before : Seen = record {
       files = g.F.Files.files c.args.files.now;
       faults = g.F.Files.faults c.args.files.now;
@@ -31,7 +31,7 @@ returns-in-Ok-clause-ends g c words named =
 
 pub returns-in-Err-clause-ends : goal.returns-in-Err-clause-ends
 returns-in-Err-clause-ends g c words named =
-    let request : RequestView = record { files = texts c.args.names.now } in
+    let request : RequestView = record { rounds = c.args.rounds; files = texts c.args.names.now } in
     let before : Seen = record {
       files = g.F.Files.files c.args.files.now;
       faults = g.F.Files.faults c.args.files.now;
