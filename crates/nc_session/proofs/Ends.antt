@@ -21,7 +21,7 @@ use Rattle.nc_session.specs.Leaving.{Takes, IsCutShort, Begins, Leaves, FailsAs,
 use Rattle.nc_session.specs.Causes.{IsEarly, IsLate, IsAbsent, Settles, IsOverLimit, IsUnsettled, IsOpenSession, AnswersTaken, IsBeginning}
 use Rattle.nc_session.specs.Loading.{IsFault, IsMissingOf, HasFaultCause}
 use Rattle.nc_session.specs.Ending.{SinkSeen, Says, Silent, EndsRefused, Seen, NoFault, IsTold, IsLimited, IsTakenWhole, IsCutOff, IsBrokenOff, EndsAs}
-use Rattle.nc_session.proofs.Options.{some_of, some_more, writes, writes_none, writes_more}
+use Rattle.nc_session.proofs.Options.{some_of, some_more, keeps_same, writes, writes_none, writes_more}
 
 abbrev Outcome : Type 0
 Outcome = Result StateView Refusal
@@ -101,6 +101,12 @@ module _ (words : List (List ℕ)) (before now : Seen) (result : Status) where
       said_ends WrongWords files source (some_of before.files (λ fs. load words fs ≡ Err WrongWords) (λ fs. load_nothing words fs none)) (λ quiet told appends. (quiet, told, none, appends)) said
 
   module _ (request : RequestView) (named : request_of words ≡ Some request) where
+    -- there is no memory for the names of the files
+    pub unnamed_ends : now.faults ≡ before.faults → now.failures.source ≡ before.failures.source → now.failures.sink ≡ before.failures.sink
+        → now.told.written ≡ before.told.written → result ≡ Memory → EndsAs words before now result
+    unnamed_ends files source sink written is =
+        by_status Memory is (record { files = files; source = source; sink = sink }, (request, named), begun_none words before now (keeps_same before.told.written now.told.written written))
+
     -- what was loaded, by the words
     is_load : (loaded : Outcome) → IfSome before.files (λ fs. load_request request fs ≡ loaded) → IsLoadOf words before.files loaded
     is_load loaded is = some_more before.files (λ fs. load_request request fs ≡ loaded) (λ fs. load words fs ≡ loaded) (λ fs same. load_is words request fs named ∙ same) is

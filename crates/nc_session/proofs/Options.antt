@@ -13,6 +13,12 @@ pub some_more : {A : Type 0} (o : Option A) (P Q : A → Type 0) → ((x : A) �
 some_more None P Q holds h = tt
 some_more (Some x) P Q holds h = holds x h
 
+-- the same bytes are kept
+pub keeps_same : (old new : Option (List ℕ)) → new ≡ old → Keeps old new
+keeps_same None new same = tt
+keeps_same (Some xs) None same = absurd cc
+keeps_same (Some xs) (Some ys) same = cc
+
 -- what was appended is what was written
 pub writes : (old new : Option (List ℕ)) (bytes : List ℕ) (P : List ℕ → Type 0) → Appends old new bytes → P bytes → Writes old new P
 writes None new bytes P appends holds = tt

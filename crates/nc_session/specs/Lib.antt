@@ -3,6 +3,7 @@ pub mod Marks
 pub mod Session
 pub mod File
 pub mod Words
+pub mod CaseWords
 pub mod Begun
 pub mod Load
 pub mod Refusals

@@ -1,5 +1,5 @@
 -- What the words of a run ask for. They are read from left to right.
-use Rattle.std.specs.Prelude.{ℕ, Bool, true, false, ◌==◌, nat_lt, List, [], ◌∷◌, length, map, take, drop, codes, Option, Some, None, option_and_then, unwrap_or, String, string_bytes, if◌then◌else◌}
+use Rattle.std.specs.Prelude.{ℕ, Bool, true, false, ◌==◌, List, [], ◌∷◌, map, take, drop, codes, Option, Some, None, option_and_then, unwrap_or, String, string_bytes, if◌then◌else◌}
 use Rattle.std.specs.Option.{option_map}
 use Rattle.std.specs.Str.{bytes_eq}
 use Rattle.std.specs.declared.alloc.Global.{Global}
@@ -84,8 +84,12 @@ abbrev pub no_words : Progress
 no_words = record { rounds = None; next = AsWritten }
 
 -- a request that names a file
+abbrev pub are_some : List (List ℕ) → Bool
+are_some [] = false
+are_some (name ∷ names) = true
+
 abbrev pub naming : RequestView → Option RequestView
-naming request = if nat_lt 0 (length request.files) then Some request else None
+naming request = if are_some request.files then Some request else None
 
 -- what words ask for: at least one file is named
 unfoldable pub request_of : List (List ℕ) → Option RequestView
