@@ -34,7 +34,7 @@ module _ (rounds : ℕ) (names : List (List ℕ)) (few : length names ≤ ROUTER
   outcome fs = load_settled rounds (load_names names fs)
 
   refused : (fs : List Named) (refusal : Refusal) → load_each fs names ≡ Err refusal → outcome fs ≡ Err refusal
-  refused fs refusal e = ap (load_settled rounds) rounds (names_is fs ∙ ap (load_joined names) e)
+  refused fs refusal e = ap (load_settled rounds) (names_is fs ∙ ap (load_joined names) e)
 
   fault_one : (fs : List Named) (fault : LoadFault) → IsFault names fault (load_each fs names) → IsFault names fault (outcome fs)
   fault_one fs Outside is = tt
@@ -61,7 +61,7 @@ module _ (rounds : ℕ) (names : List (List ℕ)) (few : length names ≤ ROUTER
 
   module _ (files : Option (List Named)) (cs : List ConfigView) (each : IfSome files (λ fs. load_each fs names ≡ Ok cs)) where
     together : (fs : List Named) → load_each fs names ≡ Ok cs → outcome fs ≡ load_settled rounds (load_judged names cs (judged cs))
-    together fs e = ap (load_settled rounds) rounds (names_is fs ∙ ap (load_joined names) e)
+    together fs e = ap (load_settled rounds) (names_is fs ∙ ap (load_joined names) e)
 
     fault_two : (fs : List Named) (fault : LoadFault) → load_each fs names ≡ Ok cs → IsFault names fault (load_settled rounds (load_judged names cs (judged cs))) → IsFault names fault (outcome fs)
     fault_two fs Outside e is = tt

@@ -1,4 +1,4 @@
-use Rattle.std.proofs.Common.{◌≡◌, refl, ap, sym, ◌∙◌, subst, List, ℕ, IfSome, length, arith}
+use Rattle.std.proofs.Common.{◌≡◌, refl, ap, sym, ◌∙◌, subst, List, ℕ, String, Global, IfSome, length, arith}
 use Rattle.std.proofs.lemmas.List.{length-map}
 use Rattle.std.specs.String.{string_bytes}
 use Rattle.nc_outside.specs.Counts.{entries_after}
@@ -39,40 +39,47 @@ returns-in_default-clause-entered_last g c is = absurd ((usage_other _ _ _ c.say
 
 pub returns-in-Ok-clause-ends : goal.returns-in-Ok-clause-ends
 returns-in-Ok-clause-ends g c =
-    c.run_files.ensures.ends (texts c.args.words.now) (is_asked (request_of (texts c.args.words.now)) c.in-Some.rounds (texts c.in-Ok.names.items) c.in-Some.ensures c.in-Ok.ensures)
+    let gathered = subst (λ (names : List (String Global)). IfSome (request_of (texts c.args.words.now)) (λ request. texts names ≡ request.files)) (sym c.deref.ensures.value) c.in-Ok.ensures in
+    let named = is_asked (request_of (texts c.args.words.now)) c.in-Some.rounds (texts c.deref.result.now) c.in-Some.ensures gathered in
+    c.run_files.ensures.ends (texts c.args.words.now) named
 
 pub returns-in-Ok-clause-entered : goal.returns-in-Ok-clause-entered
 returns-in-Ok-clause-entered g c =
-    let request : RequestView = record { rounds = c.in-Some.rounds; files = texts c.in-Ok.names.items } in
-    let named = is_asked (request_of (texts c.args.words.now)) c.in-Some.rounds (texts c.in-Ok.names.items) c.in-Some.ensures c.in-Ok.ensures in
+    let request : RequestView = record { rounds = c.in-Some.rounds; files = texts c.deref.result.now } in
+    let gathered = subst (λ (names : List (String Global)). IfSome (request_of (texts c.args.words.now)) (λ request. texts names ≡ request.files)) (sym c.deref.ensures.value) c.in-Ok.ensures in
+    let named = is_asked (request_of (texts c.args.words.now)) c.in-Some.rounds (texts c.deref.result.now) c.in-Some.ensures gathered in
     subst (λ (names : List (List ℕ)). IsInTurn names (g.F.Files.files c.args.files.now) (g.F.Files.entered c.args.files.now) (g.F.Files.entered c.run_files.new.files))
     (sym (files_are (texts c.args.words.now) request named)) c.run_files.ensures.entered
 
 pub returns-in-Ok-clause-entries : goal.returns-in-Ok-clause-entries
 returns-in-Ok-clause-entries g c =
-    let request : RequestView = record { rounds = c.in-Some.rounds; files = texts c.in-Ok.names.items } in
-    let named = is_asked (request_of (texts c.args.words.now)) c.in-Some.rounds (texts c.in-Ok.names.items) c.in-Some.ensures c.in-Ok.ensures in
+    let request : RequestView = record { rounds = c.in-Some.rounds; files = texts c.deref.result.now } in
+    let gathered = subst (λ (names : List (String Global)). IfSome (request_of (texts c.args.words.now)) (λ request. texts names ≡ request.files)) (sym c.deref.ensures.value) c.in-Ok.ensures in
+    let named = is_asked (request_of (texts c.args.words.now)) c.in-Some.rounds (texts c.deref.result.now) c.in-Some.ensures gathered in
     subst (λ (names : List (List ℕ)). EntersEach names (g.F.Files.files c.args.files.now) (g.F.Files.entries c.args.files.now) (g.F.Files.entries c.run_files.new.files))
     (sym (files_are (texts c.args.words.now) request named)) c.run_files.ensures.entries
 
 pub returns-in-Ok-clause-entries_all : goal.returns-in-Ok-clause-entries_all
 returns-in-Ok-clause-entries_all g c late =
-    let request : RequestView = record { rounds = c.in-Some.rounds; files = texts c.in-Ok.names.items } in
-    let named = is_asked (request_of (texts c.args.words.now)) c.in-Some.rounds (texts c.in-Ok.names.items) c.in-Some.ensures c.in-Ok.ensures in
+    let request : RequestView = record { rounds = c.in-Some.rounds; files = texts c.deref.result.now } in
+    let gathered = subst (λ (names : List (String Global)). IfSome (request_of (texts c.args.words.now)) (λ request. texts names ≡ request.files)) (sym c.deref.ensures.value) c.in-Ok.ensures in
+    let named = is_asked (request_of (texts c.args.words.now)) c.in-Some.rounds (texts c.deref.result.now) c.in-Some.ensures gathered in
     c.run_files.ensures.entries_all late ∙ ap (λ (names : List (List ℕ)). entries_after names (g.F.Files.entries c.args.files.now)) (sym (files_are (texts c.args.words.now) request named))
 
 pub returns-in-Ok-clause-entered_last : goal.returns-in-Ok-clause-entered_last
 returns-in-Ok-clause-entered_last g c is =
-    let request : RequestView = record { rounds = c.in-Some.rounds; files = texts c.in-Ok.names.items } in
-    let named = is_asked (request_of (texts c.args.words.now)) c.in-Some.rounds (texts c.in-Ok.names.items) c.in-Some.ensures c.in-Ok.ensures in
+    let request : RequestView = record { rounds = c.in-Some.rounds; files = texts c.deref.result.now } in
+    let gathered = subst (λ (names : List (String Global)). IfSome (request_of (texts c.args.words.now)) (λ request. texts names ≡ request.files)) (sym c.deref.ensures.value) c.in-Ok.ensures in
+    let named = is_asked (request_of (texts c.args.words.now)) c.in-Some.rounds (texts c.deref.result.now) c.in-Some.ensures gathered in
     subst (λ (names : List (List ℕ)). IfSome (g.F.Files.entered c.run_files.new.files) (EntersInTurn names (g.F.Files.files c.args.files.now)))
     (sym (files_are (texts c.args.words.now) request named)) (c.run_files.ensures.entered_last is)
 
 pub returns-in-Ok-clause-entered_none : goal.returns-in-Ok-clause-entered_none
 returns-in-Ok-clause-entered_none g c many =
-    let request : RequestView = record { rounds = c.in-Some.rounds; files = texts c.in-Ok.names.items } in
-    let named = is_asked (request_of (texts c.args.words.now)) c.in-Some.rounds (texts c.in-Ok.names.items) c.in-Some.ensures c.in-Ok.ensures in
-    c.run_files.ensures.entered_none (omega (arith, many, ap length (files_are (texts c.args.words.now) request named), length-map c.in-Ok.names.items string_bytes))
+    let request : RequestView = record { rounds = c.in-Some.rounds; files = texts c.deref.result.now } in
+    let gathered = subst (λ (names : List (String Global)). IfSome (request_of (texts c.args.words.now)) (λ request. texts names ≡ request.files)) (sym c.deref.ensures.value) c.in-Ok.ensures in
+    let named = is_asked (request_of (texts c.args.words.now)) c.in-Some.rounds (texts c.deref.result.now) c.in-Some.ensures gathered in
+    c.run_files.ensures.entered_none (omega (arith, many, ap length (files_are (texts c.args.words.now) request named), length-map c.deref.result.now string_bytes))
 
 -- there is no memory for the names of the files
 pub returns-in-Err-clause-ends : goal.returns-in-Err-clause-ends
