@@ -1,7 +1,7 @@
 -- What is told of configurations: of one by itself, and of several together.
 use Rattle.std.proofs.Common.{◌≡◌, ℕ, zero, suc, ◌≤◌, List, [], ◌∷◌, length, map, Option, Some, None, Result, Ok, Err, All, refl, sym, ap, ◌∙◌, subst}
 use Rattle.std.specs.Prelude.{slice_get}
-use Rattle.std.specs.Option.{option_map_or}
+use Rattle.std.specs.Option.{option_map, option_map_or}
 use Rattle.std.proofs.lemmas.List.Elements.{All-map}
 use Rattle.std.proofs.lemmas.List.{length-map}
 use Rattle.std.proofs.lemmas.Simd.{map-map}
@@ -10,8 +10,11 @@ use Rattle.nc_types.specs.WellFormed.{IsWellFormed}
 use Rattle.nc_types.specs.declared.config.RouterConfig.{RouterConfig}
 use Rattle.nc_types.specs.declared.fault.Fault.{Fault}
 use Rattle.nc_reader.specs.Configuration.{configuration}
-use Rattle.nc_tables.specs.State.{StateView}
-use Rattle.nc_tables.specs.Settling.{settled}
+use Rattle.nc_tables.specs.Base.{base_tables}
+use Rattle.nc_tables.specs.Sessions.{sessions}
+use Rattle.nc_tables.specs.Rounds.{BgpRowView}
+use Rattle.nc_tables.specs.State.{StateView, state_at}
+use Rattle.nc_tables.specs.Settling.{settled, settled_table}
 use Rattle.nc_network.specs.Judged.{Names, Overlaps, Addresses, References, Judgement, Clashing, OverLimit, Fine}
 use Rattle.nc_network.specs.Told.{IsTold, fault_of, router_of}
 use Rattle.nc_network.specs.declared.fault.JoinFault.{JoinFault}
@@ -70,6 +73,16 @@ module _ (rounds : ℕ) (names : List (List ℕ)) (routers : List ConfigView) wh
   told_fault T j (joins.SameAddress first first_line second second_line) told = known j (joins.SameAddress first first_line second second_line) told
   told_fault T j (joins.Undefined router line) told = known j (joins.Undefined router line) told
   told_fault T j (joins.Limit which) told = known j (joins.Limit which) told
+
+-- routers settle in a state of theirs
+pub settled_routers : (rounds : ℕ) (routers : List ConfigView) (s : StateView) → settled rounds routers ≡ Some s → s.routers ≡ routers
+unfolding settled state_at
+settled_routers rounds routers s e = on (settled_table routers (base_tables routers) (sessions routers (base_tables routers)) rounds) e
+  where
+    on : (o : Option (List (List BgpRowView))) → option_map (state_at routers) o ≡ Some s → s.routers ≡ routers
+    on None none = absurd cc
+    on (Some table) some =
+        let same : state_at routers table ≡ s = cc in sym (ap (λ (t : StateView). t.routers) same)
 
 -- configurations with which nothing is wrong, and which settle
 pub load_fine : (rounds : ℕ) (names : List (List ℕ)) (routers : List ConfigView) (j : Judgement) (state : StateView) → j ≡ Fine → begun_from 0 routers ≡ None → settled rounds routers ≡ Some state
