@@ -12,7 +12,7 @@ use Rattle.nc_graph.specs.Flow.{raised}
 use Rattle.nc_tables.specs.State.{StateView}
 use Rattle.nc_fact.specs.declared.fact.Fact.{Fact}
 use Rattle.nc_fact.specs.Facts.{holds}
-use Rattle.nc_fact.specs.Tested.{tested_facts, asked_rows}
+use Rattle.nc_fact.specs.Tested.{tested_facts, asked_rows, asked_of_bgp, asked_session}
 use Rattle.nc_rules.specs.Rules.{flow_of}
 use Rattle.nc_rules.specs.Seen.{state_of, asked_of}
 use Rattle.nc_command.specs.declared.command.Command.TheVariants.{Test}
@@ -88,8 +88,8 @@ none-asked s tests test none = ap (λ (fs : List Fact). if nat_lt (length tests)
 pub none-named : (s : StateView) (test : TestCommand) → router_named s.routers (router_of test) ≡ None → tested_facts s test ≡ []
 unfolding tested_facts
 none-named s (Rib name prefix via) none = ap (λ (r : Option ℕ). filter (holds s) (option_map_or (λ router. asked_rows s router prefix via) r [])) none
-none-named s (Bgp name prefix from) none = refl
-none-named s (Session name addr) none = refl
+none-named s (Bgp name prefix from) none = ap (λ (r : Option ℕ). filter (holds s) (option_map_or (λ router. asked_of_bgp s router prefix from) r [])) none
+none-named s (Session name addr) none = ap (λ (r : Option ℕ). filter (holds s) (option_map_or (λ router. asked_session s router addr) r [])) none
 none-named s (Reach name addr) none = refl
 none-named s (Every name addr) none = refl
 none-named s (Element name line) none = refl

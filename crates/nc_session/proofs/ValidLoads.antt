@@ -11,7 +11,7 @@ use Rattle.nc_outside.specs.Named.{Named, content_of}
 use Rattle.nc_lines.specs.Lines.{lines_of}
 use Rattle.nc_reader.specs.Configuration.{configuration}
 use Rattle.nc_network.specs.Judged.{ClashKind, Names, Overlaps, Addresses, References, Judgement, Clashing, OverLimit, Fine, or_clash, judged}
-use Rattle.nc_tables.specs.State.{StateView, IsState}
+use Rattle.nc_tables.specs.State.{StateView, BeginNothing, IsState}
 use Rattle.nc_tables.specs.Settling.{settled}
 use Rattle.nc_types.specs.declared.TheConstants.{ROUTER_LIMIT, LINE_LIMIT}
 use Rattle.nc_session.specs.declared.TheConstants.{FILE_LIMIT}
@@ -19,6 +19,7 @@ use Rattle.nc_session.specs.declared.refusal.Quantity.TheVariants.{Routers, Byte
 use Rattle.nc_session.specs.Words.{RequestView, request_of}
 use Rattle.nc_session.specs.Load.{Refusal, WrongWords, TooMany, Unsettled, load, load_result, load_lines, load_content, load_each, and_then, load_begun, load_judged, load_joined, load_names, load_settled, load_request}
 use Rattle.nc_session.specs.Begun.{LineIn, begun_from}
+use Rattle.nc_session.proofs.BeginningNothing.{begins_nothing}
 
 -- ---- joining
 
@@ -38,7 +39,7 @@ valid routers formed fine =
 -- ---- file by file
 
 module _ (formed : (lines : List (List ℕ)) (c : ConfigView) → configuration lines ≡ Ok c → IsWellFormed c)
-    (lawful : (routers : List ConfigView) (rounds : ℕ) (s : StateView) → IsValid routers → length routers ≤ ROUTER_LIMIT → settled rounds routers ≡ Some s → IsState s) where
+    (lawful : (routers : List ConfigView) (rounds : ℕ) (s : StateView) → BeginNothing routers → IsValid routers → length routers ≤ ROUTER_LIMIT → settled rounds routers ≡ Some s → IsState s) where
   result_one : (name : List ℕ) (lines : List (List ℕ)) (c : ConfigView) (r : Result ConfigView Fault) → configuration lines ≡ r → load_result name r ≡ Ok c → IsWellFormed c
   result_one name lines c (Err fault) is e = absurd (cc)
   result_one name lines c (Ok d) is e =
@@ -88,9 +89,9 @@ module _ (formed : (lines : List (List ℕ)) (c : ConfigView) → configuration 
   by_settled rounds (Some s) state holds e =
       let same : s ≡ state = cc in subst IsState same (holds s refl)
 
-  routers_settled : (routers : List ConfigView) → IsValid routers → length routers ≤ ROUTER_LIMIT → IsSettled (Ok routers)
+  routers_settled : (routers : List ConfigView) → BeginNothing routers → IsValid routers → length routers ≤ ROUTER_LIMIT → IsSettled (Ok routers)
   unfolding IsSettled
-  routers_settled routers valid few rounds state e = by_settled rounds (settled rounds routers) state (λ s. lawful routers rounds s valid few) e
+  routers_settled routers none valid few rounds state e = by_settled rounds (settled rounds routers) state (λ s. lawful routers rounds s none valid few) e
 
   refusal_settled : (refusal : Refusal) → IsSettled (Err refusal)
   unfolding IsSettled
@@ -102,11 +103,11 @@ module _ (formed : (lines : List (List ℕ)) (c : ConfigView) → configuration 
   judged_settled names cs (Clashing Addresses c) is each few = refusal_settled _
   judged_settled names cs (Clashing References c) is each few = refusal_settled _
   judged_settled names cs (OverLimit which) is each few = refusal_settled _
-  judged_settled names cs Fine is each few = on (begun_from 0 cs)
+  judged_settled names cs Fine is each few = on (begun_from 0 cs) refl
     where
-      on : (o : Option LineIn) → IsSettled (load_begun names cs o)
-      on (Some at) = refusal_settled _
-      on None = routers_settled cs (valid cs each is) few
+      on : (o : Option LineIn) → begun_from 0 cs ≡ o → IsSettled (load_begun names cs o)
+      on (Some at) some = refusal_settled _
+      on None none = routers_settled cs (begins_nothing cs 0 none) (valid cs each is) few
 
   joined_settled : (names : List (List ℕ)) (each : Result (List ConfigView) Refusal) → length names ≤ ROUTER_LIMIT
       → ((cs : List ConfigView) → each ≡ Ok cs → AreLoaded names cs) → IsSettled (load_joined names each)

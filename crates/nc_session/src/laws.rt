@@ -11,7 +11,7 @@ use nc_fact::Fact;
 use nc_graph::laws::{closures_have_one_length, some_is_evaluation, strong_is_evaluation};
 use nc_reader::laws::configurations_are_well_formed;
 use nc_rules::rules_make_a_flow;
-use nc_tables::settling_is_lawful;
+use nc_stable::settled_states_are_states;
 
 /// The law of the output: for the same words, files and session the definitions allow one status and one text.
 pub fn output_is_one()
@@ -19,7 +19,7 @@ pub fn output_is_one()
         → Output words files session m bytes → Output words files session n more → (m ≡ n) × (bytes ≡ more) }
 {
     configurations_are_well_formed();
-    settling_is_lawful();
+    settled_states_are_states();
     rules_make_a_flow();
     closures_have_one_length::<Fact>();
 }

@@ -143,8 +143,9 @@ impl Work {
     {
         let kept = KeptMarks::new(alloc, state.network().element_count())?;
         let shown = Shown::new(alloc, state.network(), kept.marks())?;
+        let rules = Rules::new(alloc, state)?;
         Ok(Work {
-            rules: Rules::new(state),
+            rules,
             graph: Graph::new(alloc, FACT_LIMIT),
             marks: kept,
             shown,
@@ -233,7 +234,7 @@ impl Work {
             push_unknown(out, name)?;
             return Ok(());
         }
-        let facts = facts_of(alloc, self.rules.state(), test)?;
+        let facts = facts_of(alloc, self.rules.state(), self.rules.policies(), test)?;
         if facts.is_empty() {
             push_absent(alloc, out, test)?;
             return Ok(());

@@ -9,7 +9,7 @@ use Rattle.nc_session.proofs.work.Work.begin.Goals as goal
 pub returns-clause-work : goal.returns-clause-work
 returns-clause-work c =
     let s = c.args.state in
-    let is = sym c.new-3.ensures.state in
+    let is = sym c.in_ok-rules.ensures.state in
     record {
       state = subst IsState is c.network.ensures.state;
       marked = subst (λ (s : StateView). IsMarked s (map test_view c.new-5.result.items) c.new-4.result c.in_ok-kept.kept) is
