@@ -54,11 +54,11 @@ module _ (a : Cidr) (valid_a : IsCidr a.base a.len) where
   longer p e = ltb-true a.len p.len (and_parts (nat_lt a.len p.len) (covers a p.base) e).0
 
   -- a longer prefix inside stands behind the outer one
-  longer_behind : (p : Cidr) → is_longer_in p a ≡ true → is_le (prefix_cmp p a) ≡ false
+  pub longer_behind : (p : Cidr) → is_longer_in p a ≡ true → is_le (prefix_cmp p a) ≡ false
   longer_behind p e = behind_by p.base p.len a.base a.len ((covers_range a valid_a p.base).0 (covered p e)).0 (longer p e)
 
   -- and so is each prefix between the two
-  between : (f z : Cidr) → IsCidr f.base f.len → is_le (prefix_cmp f a) ≡ false → is_gt (prefix_cmp f z) ≡ false → is_longer_in z a ≡ true → is_longer_in f a ≡ true
+  pub between : (f z : Cidr) → IsCidr f.base f.len → is_le (prefix_cmp f a) ≡ false → is_gt (prefix_cmp f z) ≡ false → is_longer_in z a ≡ true → is_longer_in f a ≡ true
   between f z valid behind up e =
       let range = (covers_range a valid_a z.base).0 (covered z e) in
       let low : a.base ≤ f.base = behind_base f.base f.len a.base a.len behind in

@@ -14,4 +14,5 @@ pub mod SentRoutes
 pub mod Weights
 pub mod Choosing
 pub mod RowsByPrefix
+pub mod Inside
 pub mod RouteFacts

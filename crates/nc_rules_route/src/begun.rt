@@ -5,6 +5,7 @@ ghost use Rattle.std.specs.List.{flat_map};
 ghost use Rattle.std.specs.Option.{ForSome, option_map};
 ghost use Rattle.nc_types.specs.Config.{process_view};
 ghost use Rattle.nc_types.specs.declared.TheConstants.{MULTIPATH_LIMIT};
+ghost use Rattle.nc_tables.specs.State.{IsState};
 ghost use Rattle.nc_tables.specs.Sessions.{process_of};
 ghost use Rattle.nc_tables.specs.Rounds.{bgp_row_view, is_longer_in, AreBgpRows};
 ghost use Rattle.nc_fact.specs.declared.fact.Fact.TheVariants as fact;
@@ -14,15 +15,31 @@ use crate::configs::config_of;
 use nc_fact::{Fact, aggregate_of};
 use nc_message::is_longer_in;
 use nc_tables::{BgpRow, Stable};
-use nc_types::{Prefix, Process, RouterId};
+use nc_types::{AggregateStatement, NetworkStatement, Prefix, Process, RouterId};
 use std::alloc::AllocError;
 
 // The process of a router.
 fn process_of(state: &Stable, router: RouterId) -> Option<&Process>
-    ensures { option_map (λ p. process_view p.now) result
+    ensures process { option_map (λ p. process_view p.now) result
         ≡ process_of state.now.routers router.0 }
+    ensures state { IsState state.now }
 {
+    let _routers = state.network();
     config_of(state, router)?.process.as_ref()
+}
+
+// The network statement at a place of a process.
+fn network_at(process: &Process, place: u32) -> Option<NetworkStatement>
+    ensures { result ≡ slice_get (process_view process.now).networks place }
+{
+    process.networks.get(place as usize).copied()
+}
+
+// The aggregate statement at a place of a process.
+fn aggregate_at(process: &Process, place: u32) -> Option<AggregateStatement>
+    ensures { result ≡ slice_get (process_view process.now).aggregates place }
+{
+    process.aggregates.get(place as usize).copied()
 }
 
 // Appends the elements of a process and of one of its statements, and a further fact.
@@ -52,7 +69,6 @@ fn push_begun(
 }
 
 /// Appends what a network statement rests on to begin its prefix: its process, itself, and the rows of the prefix.
-#[tactic(auto, unfolding(crate::specs::Parents::parents))]
 pub(crate) fn push_origin(
     state: &Stable,
     router: RouterId,
@@ -66,15 +82,15 @@ pub(crate) fn push_origin(
     let Some(process) = process_of(state, router) else {
         return Ok(());
     };
-    let Some(network) = process.networks.get(place as usize) else {
+    let Some(network) = network_at(process, place) else {
         return Ok(());
     };
     let source = Fact::NetSource(router, network.prefix);
-    push_begun(state, router, process.element, network.element, source, into)
+    push_begun(state, router, process.element, network.element, source, into)?;
+    Ok(())
 }
 
 /// Appends what an aggregate statement rests on: its process, itself, and that it has something to gather.
-#[tactic(auto, unfolding(crate::specs::Parents::parents))]
 pub(crate) fn push_aggregate(
     state: &Stable,
     router: RouterId,
@@ -88,11 +104,12 @@ pub(crate) fn push_aggregate(
     let Some(process) = process_of(state, router) else {
         return Ok(());
     };
-    let Some(aggregate) = process.aggregates.get(place as usize) else {
+    let Some(aggregate) = aggregate_at(process, place) else {
         return Ok(());
     };
     let gathered = Fact::Contrib(router, place);
-    push_begun(state, router, process.element, aggregate.element, gathered, into)
+    push_begun(state, router, process.element, aggregate.element, gathered, into)?;
+    Ok(())
 }
 
 // The rows of a router's BGP table; none where there is no such router.
@@ -114,6 +131,7 @@ fn inside(rows: &[BgpRow], outer: Prefix) -> &[BgpRow]
         ≡ filter (λ row. is_longer_in row.prefix outer) (map bgp_row_view rows.now) }
     ensures few { All (λ row. length row.chosen.items ≤ MULTIPATH_LIMIT) result.now }
 {
+    let _len = outer.len();
     let first = rows.partition_point(|row| row.prefix <= outer);
     let behind = &rows[first..];
     let count = behind.partition_point(|row| is_longer_in(row.prefix, outer));

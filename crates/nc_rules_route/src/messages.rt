@@ -1,6 +1,6 @@
 //! What messages, what is accepted of them and what is chosen follow from.
 
-ghost use Rattle.std.specs.Prelude.{◌≡◌, ◌++◌, Some, length, take, OnOk};
+ghost use Rattle.std.specs.Prelude.{◌≡◌, ◌++◌, [], ◌∷◌, Some, length, take, OnOk};
 ghost use Rattle.nc_policy.specs.Indexes.{ArePolicies};
 ghost use Rattle.nc_policy.specs.Passing.{clause_by, names_by};
 ghost use Rattle.nc_fact.specs.declared.fact.Fact.TheVariants as fact;
@@ -48,6 +48,15 @@ fn push_passed(
     }
 }
 
+// Appends two facts.
+fn push_two(first: Fact, second: Fact, into: &mut Vec<Fact>) -> Result<(), AllocError>
+    ensures ok { OnOk result (into.new.items ≡ into.old.items ++ first ∷ second ∷ []) }
+    ensures kept { take (length into.old.items) into.new.items ≡ into.old.items }
+{
+    into.extend_from_slice(&[first, second])?;
+    Ok(())
+}
+
 /// Appends what a message follows from: the session, the best that the sender has chosen, and by what the
 /// sender's map let that pass.
 #[tactic(auto, unfolding(crate::specs::Parents::parents))]
@@ -67,7 +76,7 @@ pub(crate) fn push_message(
     if let Some(sent) = message_of(state, policies, router, place, prefix) {
         let sender = sent.link.session.peer;
         let session = Fact::Session(router, place);
-        into.extend_from_slice(&[session, Fact::Chosen(sender, prefix, 0)])?;
+        push_two(session, Fact::Chosen(sender, prefix, 0), into)?;
         push_passed(state, sender, &sent.out, into)?;
     }
     Ok(())
@@ -91,7 +100,7 @@ pub(crate) fn push_entry(
 {
     if let Some(taken) = accepted_of(state, policies, router, place, prefix) {
         let message = Fact::Message(router, place, prefix);
-        into.extend_from_slice(&[message, Fact::Resolve(router, next_hop(&taken.sent))])?;
+        push_two(message, Fact::Resolve(router, next_hop(&taken.sent)), into)?;
         push_passed(state, router, &taken.into, into)?;
     }
     Ok(())
