@@ -86,7 +86,14 @@ pub(crate) fn push_origin(
         return Ok(());
     };
     let source = Fact::NetSource(router, network.prefix);
-    push_begun(state, router, process.element, network.element, source, into)?;
+    push_begun(
+        state,
+        router,
+        process.element,
+        network.element,
+        source,
+        into,
+    )?;
     Ok(())
 }
 
@@ -108,7 +115,14 @@ pub(crate) fn push_aggregate(
         return Ok(());
     };
     let gathered = Fact::Contrib(router, place);
-    push_begun(state, router, process.element, aggregate.element, gathered, into)?;
+    push_begun(
+        state,
+        router,
+        process.element,
+        aggregate.element,
+        gathered,
+        into,
+    )?;
     Ok(())
 }
 

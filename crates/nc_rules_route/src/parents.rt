@@ -60,9 +60,7 @@ fn push_parents(
         Fact::Base(router, row) => push_base(state, router, row, into),
         Fact::Resolve(router, addr) => push_resolve(state, router, addr, into),
         Fact::NetSource(router, prefix) => push_source(state, router, prefix, into),
-        Fact::Reach(router, addr, hops) => {
-            push_reach(state, policies, router, addr, hops, into)
-        }
+        Fact::Reach(router, addr, hops) => { push_reach(state, policies, router, addr, hops, into) }
         Fact::Hop(router, addr, row, hops) => push_hop(state, router, addr, row, hops, into),
         Fact::Session(router, place) => push_session(state, router, place, into),
         Fact::Origin(router, place) => push_origin(state, router, place, into),

@@ -15,13 +15,7 @@ use nc_underlay::own_interface;
 use std::alloc::AllocError;
 
 // Whether a row that doesn't discard makes a hop that holds.
-fn leads_on(
-    state: &Stable,
-    policies: &Policies,
-    router: RouterId,
-    row: u32,
-    hop: &Fact,
-) -> bool
+fn leads_on(state: &Stable, policies: &Policies, router: RouterId, row: u32, hop: &Fact) -> bool
     requires { ArePolicies state.now.routers policies.now }
     ensures { result ≡ (is_hit state.now.base router.0 row && holds state.now hop.now) }
 {
