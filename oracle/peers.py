@@ -151,7 +151,7 @@ SOURCES = ["", "Loopback0", "A", "B", "C", "Null0"]
 ROUTES = [[], ["{h} 10.0.12.{o}"], ["{h} 10.0.13.{o}"], ["{h} 10.0.12.{o}", "{h} 10.0.13.{o}"], ["{h} 10.0.13.{o}", "{h} 10.0.12.{o}"], ["0.0.0.0 0.0.0.0 10.0.12.{o}"],
           ["{h} Null0"], ["{h} Null0", "{h} 10.0.13.{o}"], ["{h} Null0", "0.0.0.0 0.0.0.0 10.0.12.{o}"], ["{h} 10.0.12.{o} 5", "{h} B 10.0.13.{o}"], ["{h} 10.0.12.{o} 255"],
           ["10.0.12.{o} 255.255.255.255 10.0.13.{o}", "{h} 10.0.12.{o}"], ["0.0.0.0 0.0.0.0 10.0.12.{s}"], ["192.168.0.0 255.255.0.0 C 10.2{s}.0.9", "{h} 10.0.12.{o}"]]
-WRONG = ["", "neighbor", "A", "B", "Loopback0", "number", "process", "address"]
+WRONG = ["", "neighbor", "A", "B", "Loopback0", "number", "process", "address", "mask"]
 
 
 def side(own, asn, peer, target, source, routes, multihop, wrong):
@@ -160,6 +160,7 @@ def side(own, asn, peer, target, source, routes, multihop, wrong):
     address = TARGETS[target].format(other)
     lines = [f"hostname r{own}"]
     for name, a, m in (("Loopback0", f"192.168.0.{own}", "255.255.255.255"), ("A", f"10.0.12.{own}", "255.255.255.252"), ("B", f"10.0.13.{own}", "255.255.255.252"), ("C", f"10.2{own}.0.1", "255.255.255.0")):
+        m = "255.255.255.248" if wrong == "mask" and name == "A" else m
         lines += [f"interface {name}", f" ip address {a} {m}"] + ([" shutdown"] if wrong == name else [])
     lines += ["interface Null0"] + ["ip route " + text.format(h=f"{address} 255.255.255.255", o=other, s=own) for text in routes]
     if wrong == "process":
@@ -186,6 +187,14 @@ def side_cases():
         for numbers in ((1, 1), (1, 2)):
             for wrong in WRONG[:1] if source in ("B", "C", "Null0") else WRONG:
                 yield sides_case(numbers, (target, source, routes, multihop, ""), (target, source, routes, multihop, wrong))
+
+
+def mixed_cases():
+    """A side that is in order, with every other side against it."""
+    good = [("link", "", [], False), ("loopback", "Loopback0", ["{h} 10.0.12.{o}"], True), ("second", "A", [], True)]
+    for first, numbers in itertools.product(good, ((1, 1), (1, 2))):
+        for second in itertools.product(TARGETS, SOURCES[:4], ROUTES[:8], (False, True), WRONG):
+            yield sides_case(numbers, first + ("",), second)
 
 
 def kind_sides():
@@ -216,7 +225,7 @@ def chain_cases():
 
 def peer_cases():
     """All systematic cases of this file."""
-    for cases in (word_cases, value_cases, block_cases, numberless_cases, field_cases, joining_cases, counted_cases, side_cases, chain_cases):
+    for cases in (word_cases, value_cases, block_cases, numberless_cases, field_cases, joining_cases, counted_cases, side_cases, mixed_cases, chain_cases):
         yield from cases()
 
 
