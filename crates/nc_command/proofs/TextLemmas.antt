@@ -11,6 +11,7 @@ use Rattle.std.proofs.lemmas.List.{append-nil}
 use Rattle.std.proofs.lemmas.List.Splits.{join_with_byte-slice_split}
 use Rattle.std.proofs.lemmas.Option.{option_and_then_some}
 use Rattle.std.proofs.lemmas.Slice.Eq.{bytes_eq-Decides}
+use Rattle.nc_types.proofs.Options.{map_some}
 use Rattle.nc_types.specs.Cidr.{Cidr}
 use Rattle.nc_types.specs.Masks.{network_of}
 use Rattle.nc_types.specs.declared.addr.Addr.{Addr}
@@ -151,10 +152,6 @@ prefix-text word p at = prefix-parts (slice_split (λ b. b == 47) word) p at ∙
 
 -- ---- tests
 
-map-some : {A B : Type 0} (f : A → B) (o : Option A) (y : B) → option_map f o ≡ Some y → (x : A) × (o ≡ Some x) × (f x ≡ y)
-map-some f None y at = absurd (cc)
-map-some f (Some x) y at = (x, refl, cc)
-
 -- a key word and an address behind a prefix
 behind-text : (command name : List ℕ) (p : Cidr) (key : List ℕ) (words : List (List ℕ)) (via : Option Addr) → address_behind key words ≡ Some via
     → prefix_text command name p key via ≡ spaced (command ∷ name ∷ cidr_text p ∷ words)
@@ -167,8 +164,8 @@ behind-text command name p key (word ∷ address ∷ []) via at = by_key (bytes_
         → prefix_text command name p key via ≡ spaced (command ∷ name ∷ cidr_text p ∷ word ∷ address ∷ [])
     by_key false test is = absurd (cc)
     by_key true test is =
-        let some = map-some Some (addr_of address) via is in
-        let addr = map-some (λ (a : ℕ). let r : Addr = record { 0 = a } in r) (address_of address) some.0 some.1 in
+        let some = map_some Some (addr_of address) via is in
+        let addr = map_some (λ (a : ℕ). let r : Addr = record { 0 = a } in r) (address_of address) some.0 some.1 in
         let same : key ≡ word = sym ((bytes_eq-Decides word key).0 test) in
         ap (prefix_text command name p key) (sym some.2)
         ∙ ap (λ (a : Addr). spaced (command ∷ name ∷ cidr_text p ∷ key ∷ dotted a.0 ∷ [])) (sym addr.2)
@@ -181,7 +178,7 @@ prefix-test-text command key make texts [] test at = absurd (cc)
 prefix-test-text command key make texts (a ∷ []) test at = absurd (cc)
 prefix-test-text command key make texts (name ∷ word ∷ words) test at =
     option_and_then_some _ (prefix_of word) test at (λ p is-p in-p.
-    let addr = map-some (make name p) (address_behind key words) test in-p in
+    let addr = map_some (make name p) (address_behind key words) test in-p in
     ap text_of (sym addr.2)
     ∙ texts name p addr.0
     ∙ behind-text command name p key words addr.0 addr.1
@@ -194,8 +191,8 @@ address-test-text command make texts [] test at = absurd (cc)
 address-test-text command make texts (name ∷ []) test at = absurd (cc)
 address-test-text command make texts (name ∷ word ∷ more ∷ words) test at = absurd (cc)
 address-test-text command make texts (name ∷ word ∷ []) test at =
-    let made = map-some (make name) (addr_of word) test at in
-    let addr = map-some (λ (a : ℕ). let r : Addr = record { 0 = a } in r) (address_of word) made.0 made.1 in
+    let made = map_some (make name) (addr_of word) test at in
+    let addr = map_some (λ (a : ℕ). let r : Addr = record { 0 = a } in r) (address_of word) made.0 made.1 in
     ap text_of (sym made.2) ∙ texts name made.0 ∙ ap (address_text command name) (sym addr.2)
     ∙ ap (λ w. spaced (command ∷ name ∷ w ∷ [])) (address-text word addr.0 addr.1)
 

@@ -21,7 +21,8 @@ use Rattle.nc_tables.specs.Reach.{rows_of}
 use Rattle.nc_tables.specs.Sessions.{process_of}
 use Rattle.nc_tables.specs.Rounds.{BgpRowView, Accepted, begun, chosen_anew, chosen_at, chosen_by, candidates_at, origin_at, aggregate_at, entry_at, is_active, learnt_from, made_from, accepted_at, prefixes, row_at, row_of, rows_anew, round}
 use Rattle.nc_tables.proofs.Ordered.{in_by_made}
-use Rattle.nc_rules_route.proofs.Members.{made_of, in_by_find, in_by_router}
+use Rattle.nc_types.proofs.Options.{map_some}
+use Rattle.nc_rules_route.proofs.Members.{in_by_find, in_by_router}
 
 -- a row of a prefix has the candidates of which it is made
 record IsRowOf (prefix : Cidr) (chosen : List Chosen) (row : BgpRowView) : Type 0 where
@@ -74,7 +75,7 @@ module _ (routers : List ConfigView) (tables : List (List BaseRow)) (sessions : 
         let made = in_by_made (λ place (n : Neighbor). entry_at routers tables sessions table router place prefix) 0 p.neighbors x i in
         let here : 0 + made.0 ≡ made.0 = omega arith in
         let is = subst (λ (k : ℕ). entry_at routers tables sessions table router k prefix ≡ Some x) here made.3 in
-        let taken = made_of (learnt_from made.0) (accepted_at routers tables sessions table router made.0 prefix) x is in
+        let taken = map_some (learnt_from made.0) (accepted_at routers tables sessions table router made.0 prefix) x is in
         entry made.0 taken.0 taken.1 taken.2
 
     pub candidate_is : In x (candidates_at routers tables sessions table router p prefix) → IsCandidate router p prefix x

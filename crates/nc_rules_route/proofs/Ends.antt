@@ -12,7 +12,6 @@ use Rattle.nc_tables.specs.declared.bgp.SessionRow.{SessionRow}
 use Rattle.nc_tables.specs.Sessions.{End, end_at}
 use Rattle.nc_tables.specs.Rounds.{Link, session_by, link_at}
 use Rattle.nc_fact.proofs.Few.{formed_at}
-use Rattle.nc_rules_route.proofs.Members.{made_of}
 use Rattle.nc_rules_route.proofs.Numbers.{process_element, neighbor_element}
 
 module _ (routers : List ConfigView) where

@@ -16,7 +16,7 @@ use Rattle.nc_tables.specs.Rounds.{Link, session_by, link_at}
 use Rattle.nc_tables.specs.State.{StateView, IsState}
 use Rattle.nc_tables.specs.CaseRelations.{state_base, state_sessions}
 use Rattle.nc_types.proofs.Members.{In, in_by_filter_map}
-use Rattle.nc_rules_route.proofs.Members.{made_of, in_by_find, in_by_router}
+use Rattle.nc_rules_route.proofs.Members.{in_by_find, in_by_router}
 use Rattle.nc_rules_route.proofs.Ends.{linked}
 
 module _ (routers : List ConfigView) (tables : List (List BaseRow)) where

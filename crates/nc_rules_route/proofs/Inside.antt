@@ -63,7 +63,7 @@ module _ (rows : List BgpRow) (are : AreBgpRows (map bgp_row_view rows)) (outer 
   pub inside_first : IsPartitionedBy inside behind
   inside_first = subst (IsPartitionedBy inside) (sym (all_behind rows first)) first_behind
 
-  before : AllWithin (λ (row : BgpRow). inside row ≡ false) rows 0 first
+  before : AllWithin (λ (row : BgpRow). inside row ≡ false) rows zero first
   before k d lo hi = by_test (inside (get_or rows k d)) refl
     where
       by_test : (b : Bool) → inside (get_or rows k d) ≡ b → inside (get_or rows k d) ≡ false

@@ -61,12 +61,6 @@ in_range from zero k i = absurd i
 in_range from (suc count) k (inl same) = omega arith
 in_range from (suc count) k (inr i) = let lt : k < (from + 1) + count = in_range (from + 1) count k i in omega arith
 
--- at each place within a list there is an item
-pub item_at : {X : Type 0} (xs : List X) (k : ℕ) → k < length xs → (x : X) × (slice_get xs k ≡ Some x)
-item_at [] k lt = absurd (omega arith)
-item_at (x ∷ xs) zero lt = (x, refl)
-item_at (x ∷ xs) (suc k) lt = item_at xs k (omega arith)
-
 -- the item of a list made of the numbers below a bound
 pub get_by_range : {X : Type 0} (f : ℕ → X) (from count k : ℕ) → k < count → slice_get (map f (range_with_len from count)) k ≡ Some (f (from + k))
 get_by_range f from zero k lt = absurd (omega arith)
@@ -84,11 +78,6 @@ in_by_router f count router x i = elim (cases_lt router count) [
   | inl lt ↦ let e : 0 + router ≡ router = omega arith in subst (In x) (get_or_from_slice_get (map f (range_with_len 0 count)) router (f (0 + router)) [] (get_by_range f 0 count router lt) ∙ ap f e) i
   | inr le ↦ absurd (subst (In x) (sym (unwrap_or-slice_get (map f (range_with_len 0 count)) router []) ∙ ap (λ o. unwrap_or o []) (get_past f 0 count router le)) i)
 ]
-
--- where an option is made of another, that one is there
-pub made_of : {A B : Type 0} (f : A → B) (o : Option A) (y : B) → option_map f o ≡ Some y → (x : A) × (o ≡ Some x) × (f x ≡ y)
-made_of f None y e = absurd (cc)
-made_of f (Some x) y e = (x, refl, same_Some (f x) y e)
 
 -- an item of what is made of an item
 pub in_flat_map : {X Y : Type 0} (f : Y → List X) (ys : List Y) (y : Y) (z : X) → In y ys → In z (f y) → In z (flat_map f ys)

@@ -15,7 +15,8 @@ use Rattle.nc_types.specs.WellFormed.{process_places, entry_places, places_of, I
 use Rattle.nc_types.proofs.Members.{In, in_by_get, all_in, in_left, in_right, in_map}
 use Rattle.nc_tables.specs.declared.policy.Place.{Place}
 use Rattle.nc_rules_route.specs.Parents.{clause_place, entry_place, community_place}
-use Rattle.nc_rules_route.proofs.Members.{made_of, in_flat_map}
+use Rattle.nc_types.proofs.Options.{map_some}
+use Rattle.nc_rules_route.proofs.Members.{in_flat_map}
 
 module _ (c : ConfigView) (formed : IsWellFormed c) where
   pub interface_element : (k : ℕ) (i : Interface) → slice_get c.interfaces k ≡ Some i → i.element < length c.elements
@@ -65,7 +66,7 @@ module _ (c : ConfigView) (formed : IsWellFormed c) where
   pub clause_within : (k place : ℕ) → clause_place k c ≡ Some place → place < length c.elements
   clause_within k place e =
       let element = λ (k : ClauseView). k.element in
-      let made = made_of element (slice_get c.clauses k) place e in
+      let made = map_some element (slice_get c.clauses k) place e in
       policy_part place (in_left (map element c.clauses) _ place (subst (λ (n : ℕ). In n (map element c.clauses)) made.2 (in_map element c.clauses made.0 (in_by_get c.clauses k made.0 made.1))))
 
   pub entry_within : (k : Place) (place : ℕ) → entry_place k c ≡ Some place → place < length c.elements
@@ -73,7 +74,7 @@ module _ (c : ConfigView) (formed : IsWellFormed c) where
       let element = λ (e : ListEntry). e.element in
       let elements = λ (l : PrefixListView). map element l.entries in
       option_and_then_some (λ (l : PrefixListView). option_map element (slice_get l.entries k.entry)) (slice_get c.lists k.list) place e (λ l at in_list.
-      let made = made_of element (slice_get l.entries k.entry) place in_list in
+      let made = map_some element (slice_get l.entries k.entry) place in_list in
       let here : In place (elements l) = subst (λ (n : ℕ). In n (elements l)) made.2 (in_map element l.entries made.0 (in_by_get l.entries k.entry made.0 made.1)) in
       policy_part place (in_right (map (λ (k : ClauseView). k.element) c.clauses) _ place (in_left (flat_map elements c.lists) _ place (in_flat_map elements c.lists l place (in_by_get c.lists k.list l at) here))))
 
@@ -82,7 +83,7 @@ module _ (c : ConfigView) (formed : IsWellFormed c) where
       let element = λ (e : CommunityEntry). e.element in
       let elements = λ (l : CommunityListView). map element l.entries in
       option_and_then_some (λ (l : CommunityListView). option_map element (slice_get l.entries k.entry)) (slice_get c.community_lists k.list) place e (λ l at in_list.
-      let made = made_of element (slice_get l.entries k.entry) place in_list in
+      let made = map_some element (slice_get l.entries k.entry) place in_list in
       let here : In place (elements l) = subst (λ (n : ℕ). In n (elements l)) made.2 (in_map element l.entries made.0 (in_by_get l.entries k.entry made.0 made.1)) in
       let lists = flat_map (λ (l : PrefixListView). map (λ (e : ListEntry). e.element) l.entries) c.lists in
       policy_part place (in_right (map (λ (k : ClauseView). k.element) c.clauses) _ place (in_right lists _ place (in_flat_map elements c.community_lists l place (in_by_get c.community_lists k.list l at) here))))

@@ -30,7 +30,8 @@ use Rattle.nc_fact.specs.declared.fact.Fact.TheVariants.{Element, Resolve, NetSo
 use Rattle.nc_fact.specs.Facts.{main_rows, weight, lowest_rank, rank_of_network, rank_of_aggregate, rank_of_message, rank_of_accepted, rank_of_chosen, network_of, aggregate_of, has_active, message_of, accepted_of, chosen_of, holds, rank}
 use Rattle.nc_fact.proofs.Few.{formed_at}
 use Rattle.nc_rules_route.specs.Parents.{clause_place, entry_place, community_place, element_in, of_part, of_clause, of_entry, of_community, of_passed, source_of, main_of, each_chosen, chosen_inside, origin_parents, aggregate_parents, message_parents, entry_parents, parents}
-use Rattle.nc_rules_route.proofs.Members.{all_by_option, all_of_one, all_of_three, in_range, item_at, in_flat_map}
+use Rattle.nc_types.proofs.Owning.{some_at}
+use Rattle.nc_rules_route.proofs.Members.{all_by_option, all_of_one, all_of_three, in_range, in_flat_map}
 use Rattle.nc_rules_route.proofs.Numbers.{process_element, network_element, aggregate_element, clause_within, entry_within, community_within}
 use Rattle.nc_rules_route.proofs.Ends.{IsLink, link_is}
 use Rattle.nc_rules_route.proofs.Holding.{IsBelow, all_higher, element_holds, base_holds}
@@ -232,7 +233,7 @@ module _ (s : StateView) (is : IsState s) where
           → IsBelow s (lowest_rank a.prefix 0) f
       by_place found cidr longer f made =
           let lt : made.0 < 0 + length row.chosen = in_range 0 (length row.chosen) made.0 made.1 in
-          let there = item_at row.chosen made.0 (omega arith) in
+          let there = some_at row.chosen made.0 (omega arith) in
           subst (IsBelow s (lowest_rank a.prefix 0)) made.2 (by_route found cidr longer made.0 there.0 there.1)
 
   -- the chosen routes of every longer prefix inside that of an aggregate
@@ -266,7 +267,7 @@ module _ (s : StateView) (is : IsState s) where
   unfolding holds rank
   main_below router prefix (main.Base place) lt = (base_holds s router place lt, omega arith)
   main_below router prefix (main.Bgp place) lt =
-      let at = item_at (chosen_at s.bgp router.0 prefix) place lt in
+      let at = some_at (chosen_at s.bgp router.0 prefix) place lt in
       let made = chosen_made router prefix at.0 (in_by_get (chosen_at s.bgp router.0 prefix) place at.0 at.1) in
       let few : weight (length at.0.route.path) at.0.internal ≤ 501 = weight_most at.0.internal (length at.0.route.path) made.short in
       let drops : rank_of_chosen prefix at.0 < 140000 = omega arith in

@@ -13,7 +13,7 @@ use Rattle.nc_tables.specs.declared.bgp.Chosen.{Chosen}
 use Rattle.nc_tables.specs.Policy.{is_long}
 use Rattle.nc_tables.specs.Reach.{hits}
 use Rattle.nc_tables.specs.Rounds.{BgpRowView, Link, Passed, Message, Accepted, passed, is_held_back, is_kept_inside, out_of, sent_over, message_with, message_of, is_looped, has_own_hop, is_unresolved, accepted_of, link_at, best_at, message_at, accepted_at}
-use Rattle.nc_rules_route.proofs.Members.{made_of}
+use Rattle.nc_types.proofs.Options.{map_some}
 
 -- what isn't refused is there
 unrefused : {A : Type 0} (b : Bool) (o : Option A) (y : A) → cond b None o ≡ Some y → (b ≡ false) × (o ≡ Some y)
@@ -56,7 +56,7 @@ accepted_is tables router m a e =
     let free = unrefused (is_looped m) (cond (has_own_hop m) None (cond (is_unresolved tables router m) None (option_map with way))) a e in
     let other = unrefused (has_own_hop m) (cond (is_unresolved tables router m) None (option_map with way)) a free.1 in
     let resolved = unrefused (is_unresolved tables router m) (option_map with way) a other.1 in
-    let made = made_of with way a resolved.1 in
+    let made = map_some with way a resolved.1 in
     subst (IsAccepted tables router m) made.2
     (record { message = refl; leads = ltb-true 0 (length (hits tables router m.route.next_hop.0)) (not_false (nat_lt 0 (length (hits tables router m.route.next_hop.0))) resolved.0); into = made.1 })
   where

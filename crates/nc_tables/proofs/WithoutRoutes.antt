@@ -2,6 +2,7 @@
 use Rattle.std.proofs.Common.{◌≡◌, ℕ, zero, suc, ◌+◌, List, [], ◌∷◌, ◌++◌, length, map, replicate, All, Option, None, Some, refl, sym, ap, ◌∙◌, arith}
 use Rattle.std.specs.List.{filter_map, flat_map, range_with_len}
 use Rattle.std.specs.Option.{option_map_or}
+use Rattle.nc_types.specs.declared.config.NetworkStatement.{NetworkStatement}
 use Rattle.nc_types.specs.declared.config.AggregateStatement.{AggregateStatement}
 use Rattle.nc_types.specs.Config.{ConfigView, ProcessView}
 use Rattle.nc_tables.specs.declared.base.BaseRow.{BaseRow}
@@ -31,19 +32,15 @@ none_flat f (x ∷ xs) none = ap (λ l. l ++ flat_map f xs) (none 0 x (omega ari
 pub no_prefixes : (routers : List ConfigView) → BeginNothing routers → prefixes routers ≡ []
 no_prefixes routers none = ap (λ ps. in_order prefix_cmp (distinct ps)) (none_flat prefixes_in routers none)
 
-second_none : {A : Type 0} (xs ys : List A) → xs ++ ys ≡ [] → ys ≡ []
-second_none [] ys e = e
-second_none (x ∷ xs) ys e = absurd (cc)
-
-map_none : {A B : Type 0} (f : A → B) (xs : List A) → map f xs ≡ [] → xs ≡ []
-map_none f [] e = refl
-map_none f (x ∷ xs) e = absurd (cc)
+no_second : (networks : List NetworkStatement) (aggregates : List AggregateStatement) → map (λ n. n.prefix) networks ++ map (λ a. a.prefix) aggregates ≡ [] → aggregates ≡ []
+no_second [] [] e = refl
+no_second [] (a ∷ aggregates) e = absurd (cc)
+no_second (n ∷ networks) aggregates e = absurd (cc)
 
 -- a router that begins nothing has no aggregate
 own_none : (o : Option ProcessView) → option_map_or (λ p. map (λ n. n.prefix) p.networks ++ map (λ a. a.prefix) p.aggregates) o [] ≡ [] → option_map_or (λ p. p.aggregates) o [] ≡ []
 own_none None e = refl
-own_none (Some p) e =
-    map_none (λ (a : AggregateStatement). a.prefix) p.aggregates (second_none (map (λ n. n.prefix) p.networks) (map (λ (a : AggregateStatement). a.prefix) p.aggregates) e)
+own_none (Some p) e = no_second p.networks p.aggregates e
 
 pub no_aggregates : (routers : List ConfigView) → BeginNothing routers → (k : ℕ) → option_map_or (λ p. p.aggregates) (process_of routers k) [] ≡ []
 no_aggregates [] none k = refl

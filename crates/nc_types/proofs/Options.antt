@@ -1,6 +1,7 @@
 -- Values that may be missing.
 use Rattle.std.proofs.Common.{◌≡◌, false, Option, Some, None, refl}
-use Rattle.std.specs.Option.{option_or, is_some}
+use Rattle.std.specs.Option.{option_map, option_or, is_some}
+use Rattle.std.proofs.lemmas.Option.{same_Some}
 
 pub or_assoc : {T : Type 0} (o p q : Option T) → option_or (option_or o p) q ≡ option_or o (option_or p q)
 or_assoc None p q = refl
@@ -13,3 +14,8 @@ or_none (Some x) = refl
 pub is_none : {T : Type 0} (o : Option T) → is_some o ≡ false → o ≡ None
 is_none None e = refl
 is_none (Some x) e = absurd (cc)
+
+-- where an option is made of another, that one is there
+pub map_some : {A B : Type 0} (f : A → B) (o : Option A) (y : B) → option_map f o ≡ Some y → (x : A) × (o ≡ Some x) × (f x ≡ y)
+map_some f None y e = absurd (cc)
+map_some f (Some x) y e = (x, refl, same_Some (f x) y e)
