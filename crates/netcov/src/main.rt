@@ -41,9 +41,8 @@ fn untaken(error: &Error) -> u8
 
 // Runs over the system.
 fn run_here(rt: &HostRuntime, words: &[String]) -> Status
-    ensures usage { MatchOption (request_of (texts words.now))
+    ensures { MatchOption (request_of (texts words.now))
         (IsWithoutFile result) (λ _. result ≢ Status.Usage) }
-    ensures stable { result ≢ Status.Unstable }
 {
     let Ok(system) = rt.clone() else {
         return Status::Memory;
