@@ -64,11 +64,7 @@ fn config_of(alloc: Global, lines: &Lines, place: usize) -> Result<RouterConfig,
 }
 
 // Reads the files in order, up to the first fault.
-fn read_files<F: Files>(
-    alloc: Global,
-    names: &[String],
-    files: &mut F,
-) -> Result<FilesRead, Fault>
+fn read_files<F: Files>(alloc: Global, names: &[String], files: &mut F) -> Result<FilesRead, Fault>
     ensures count { IfOk result (λ all. length all.configs.items ≤ length names.now) }
     ensures formed { IfOk result (λ all.
         All (λ c. IsWellFormed (config_view c)) all.configs.items) }

@@ -1,5 +1,7 @@
 //! The words of the program.
 
+ghost use Rattle.std.specs.Prelude.{◌<◌, length, IfSome};
+
 /// How many rounds are allowed where the words don't say.
 pub const ROUNDS: u32 = 256;
 
@@ -14,7 +16,9 @@ pub struct Request<'a> {
 
 /// Reads the words: `--rounds` and a number, which may be left out, then one name at least. `None`
 /// where they are anything else.
-pub fn read_words(words: &[String]) -> Option<Request<'_>> {
+pub fn read_words(words: &[String]) -> Option<Request<'_>>
+    ensures named { IfSome result (λ request. 0 < length request.names.now) }
+{
     if words.is_empty() {
         return None;
     }
