@@ -1,12 +1,10 @@
 -- The state in which a network settles names that network.
-use Rattle.std.proofs.Common.{◌≡◌, ℕ, List, Option, Some, None, sym, ap, subst}
+use Rattle.std.proofs.Common.{◌≡◌, ℕ, List, Option, Some, None, ap, subst}
 use Rattle.std.specs.Prelude.{option_map}
 use Rattle.nc_types.specs.Config.{ConfigView}
 use Rattle.nc_tables.specs.Rounds.{BgpRowView}
-use Rattle.nc_tables.specs.Base.{base_tables}
-use Rattle.nc_tables.specs.Sessions.{sessions}
 use Rattle.nc_tables.specs.State.{StateView, state_at}
-use Rattle.nc_tables.specs.Settling.{settled, settled_table}
+use Rattle.nc_tables.specs.Settling.{settled}
 
 of_table : (routers : List ConfigView) (found : Option (List (List BgpRowView))) (state : StateView)
     → option_map (state_at routers) found ≡ Some state → routers ≡ state.routers

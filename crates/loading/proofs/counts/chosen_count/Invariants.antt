@@ -1,4 +1,4 @@
-use Rattle.std.proofs.Common.{◌≡◌, ◌≤◌, length, take}
+use Rattle.std.proofs.Common.{◌≡◌, take}
 use Rattle.std.specs.List.{sum_by}
 use Rattle.loading.specs.Counting.{capped, chosen_in}
 use Rattle.loading.proofs.counts.chosen_count.Given as goal

@@ -1,6 +1,6 @@
-use Rattle.std.proofs.Common.{◌≡◌, ◌≤◌, length, take}
+use Rattle.std.proofs.Common.{◌≡◌, length, take}
 use Rattle.std.specs.List.{sum_by}
-use Rattle.loading.specs.Counting.{capped, chosen_in}
+use Rattle.loading.specs.Counting.{capped}
 use Rattle.loading.proofs.counts.row_count.Given as goal
 
 abbrev pub invariant-routers : goal.invariant-routers
