@@ -14,7 +14,7 @@ pub const FILE_LIMIT: usize = 4_194_304;
 const PIECE: usize = 8192;
 
 // One read from the entered file.
-fn read_piece<F: Files>(files: &mut F, bytes: &mut Vec<u8>) -> Result<usize, Fault>
+fn read_more<F: Files>(files: &mut F, bytes: &mut Vec<u8>) -> Result<usize, Fault>
     requires { length bytes.old.items ≤ FILE_LIMIT }
     ensures short { length bytes.new.items ≤ FILE_LIMIT + 1 }
     ensures more { IfOk result (λ count.
@@ -33,7 +33,7 @@ pub fn read_file<F: Files>(alloc: Global, files: &mut F) -> Result<Vec<u8>, Faul
 {
     let mut bytes = Vec::new(alloc);
     'reading: while bytes.len() <= FILE_LIMIT {
-        if read_piece(files, &mut bytes)? == 0 {
+        if read_more(files, &mut bytes)? == 0 {
             bytes.shrink_to_fit();
             return Ok(bytes);
         }
