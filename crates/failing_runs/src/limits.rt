@@ -122,11 +122,7 @@ fn with_neighbors(alloc: Global, name: &str, count: usize) -> Result<Vec<u8>, Al
 }
 
 // One run over files that share neighbors evenly, and the first of which has so many more.
-fn over_shared(
-    alloc: Global,
-    more: usize,
-    wanted: Expectation<'_>,
-) -> Result<Verdict, AllocError> {
+fn over_shared(alloc: Global, more: usize, wanted: Expectation<'_>) -> Result<Verdict, AllocError> {
     let mut network = Network::new(alloc);
     for place in 0..SHARING {
         let name = format!(in alloc; "r{place}")?;
