@@ -126,7 +126,8 @@ fn over_shared(alloc: Global, more: usize, wanted: Expectation<'_>) -> Result<Ve
     let mut network = Network::new(alloc);
     for place in 0..SHARING {
         let name = format!(in alloc; "r{place}")?;
-        let count = NEIGHBORS / SHARING + if place == 0 { more } else { 0 };
+        let extra = if place == 0 { more } else { 0 };
+        let count = (NEIGHBORS / SHARING).saturating_add(extra);
         let text = with_neighbors(alloc, name.as_str(), count)?;
         network.add_file(alloc, name.as_str(), &text)?;
     }
