@@ -2,6 +2,7 @@ pub mod LineLemmas
 pub mod FirstLemmas
 pub mod PlaceLemmas
 pub mod NumberLemmas
+pub mod PrefixLemmas
 pub mod PartLemmas
 pub mod WholeLines
 pub mod Pairs

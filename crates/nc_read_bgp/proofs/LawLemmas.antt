@@ -1,5 +1,5 @@
 -- The things of a process: their keys, and the lines of each.
-use Rattle.std.proofs.Common.{◌≡◌, ℕ, ◌+◌, ◌<◌, Bool, false, cond, List, [], ◌∷◌, ◌++◌, length, map, Option, Some, None, Ok, Err, All, Contains, refl, sym, ap, ◌∙◌, subst, arith, inl, inr}
+use Rattle.std.proofs.Common.{◌≡◌, ℕ, ◌+◌, ◌<◌, Bool, false, cond, List, [], ◌∷◌, ◌++◌, length, get_or, map, Option, Some, None, Ok, Err, All, Contains, refl, sym, ap, ◌∙◌, subst, arith, inl, inr}
 use Rattle.std.specs.Prelude.{◌≢◌, unwrap_or}
 use Rattle.std.specs.List.{filter_map, last_or, cons_option}
 use Rattle.std.specs.List.Sorted.{IsStrictlyIncreasing}
@@ -8,14 +8,14 @@ use Rattle.std.proofs.lemmas.Bool.{cases_Bool}
 use Rattle.std.proofs.lemmas.List.{map-append, length-map}
 use Rattle.std.proofs.lemmas.List.Kept.{AllPairs-from_increasing}
 use Rattle.std.proofs.lemmas.Simd.{map-map}
-use Rattle.nc_types.specs.Cidr.{Cidr, same_prefix}
+use Rattle.nc_types.specs.Cidr.{Cidr, IsCidr, same_prefix}
 use Rattle.nc_types.specs.WellFormed.{IsProcess}
 use Rattle.nc_types.specs.declared.addr.Addr.{Addr}
 use Rattle.nc_types.specs.declared.fault.Fault.{Fault}
 use Rattle.nc_types.specs.declared.config.Neighbor.{Neighbor}
 use Rattle.nc_types.specs.declared.config.NetworkStatement.{NetworkStatement}
 use Rattle.nc_types.specs.declared.config.AggregateStatement.{AggregateStatement}
-use Rattle.nc_types.proofs.Members.{In, some_in, in_by_contains, contains_by_in, all_in, all_by_in, in_either, in_map, in_by_map, in_by_filter_map}
+use Rattle.nc_types.proofs.Members.{In, in_at, some_in, in_by_contains, contains_by_in, all_in, all_by_in, in_left, in_right, in_either, in_map, in_by_map, in_by_filter_map}
 use Rattle.nc_lines.specs.Groups.{Keyed, Group, groups}
 use Rattle.nc_lines.specs.Lines.{words_of, is_indented}
 use Rattle.nc_lines.specs.Outcomes.{lower_of}
@@ -26,10 +26,10 @@ use Rattle.nc_lines.proofs.PartLemmas.{kept, stated_by, stated_is}
 use Rattle.nc_lines.proofs.Grouping.{IsSame, grouped, groups_keys, group_pairs, has_grouped}
 use Rattle.nc_read_bgp.specs.Statements.{NeighborSays, ProcessSays, Opens, Originates, Aggregates, Of, header_says, statement_says, line_says}
 use Rattle.nc_read_bgp.specs.Neighbors.{neighbor_in}
-use Rattle.nc_read_bgp.specs.Processes.{prefix_in, ProcessMade, fields_in, process_of, process_in, lack_in, same_addr, asn_by, own_by, neighbor_by, network_by, aggregate_by, neighbor_of, network_of, aggregate_of}
+use Rattle.nc_read_bgp.specs.Processes.{PrefixFields, prefix_in, ProcessMade, fields_in, process_of, process_in, lack_in, same_addr, asn_by, own_by, neighbor_by, network_by, aggregate_by, neighbor_of, network_of, aggregate_of}
 use Rattle.nc_read_bgp.specs.Laws.{lines_of_things, lines_of_each, IsBlockOf, HaveLinesBeside, HaveLines, AreWithin, Ascend, AreApart}
 use Rattle.nc_read_bgp.proofs.ProcessLemmas.{addrs_same, prefixes_same}
-use Rattle.nc_read_bgp.proofs.StatementLemmas.{opens_nothing, few_paths}
+use Rattle.nc_read_bgp.proofs.StatementLemmas.{IsSound, opens_nothing, stated_sound, few_paths}
 
 -- ---- statements and their lines
 
@@ -273,6 +273,13 @@ each_has ss =
     each_thing ss (λ (t : Told). 0 < length t.1) (kind_has same_addr addrs_same near Near near_speaks ss) (kind_has same_prefix prefixes_same origin Origin origin_speaks ss)
     (kind_has same_prefix prefixes_same summary Summary summary_speaks ss)
 
+-- each thing is one of which a statement speaks
+thing_spoken : (ss : List (Stated ProcessSays)) (t : Told) → In t (things_told ss) → (s : Stated ProcessSays) × In s ss × (topic_of s.setting ≡ t.0)
+thing_spoken ss t i =
+    let some = each_has ss t i in
+    let s = each_spoken ss t (inr i) (get_or t.1 0 0) (in_at t.1 0 0 some) in
+    (s.0, s.1, s.3)
+
 topics_apart : (ss : List (Stated ProcessSays)) → Pairs (λ t u. t.0 ≢ u.0) (all_told ss)
 topics_apart ss =
     let kind_near : (t : Told) → In t (nears ss) → kind_of t.0 ≡ 1 = kind_is Near 1 (λ a. refl) (groups same_addr (filter_map near ss)) in
@@ -446,6 +453,32 @@ are_apart block made e up =
 keys_apart : {K V X : Type 0} (same : K → K → Bool) → IsSame same → (f : Group K V → X) (R : X → X → Type 0) (ps : List (Keyed K V)) → ((g h : Group K V) → g.key ≢ h.key → R (f g) (f h)) → Pairs R (map f (groups same ps))
 keys_apart {K} {V} same is f R ps to = pairs_map f (λ (g h : Group K V). g.key ≢ h.key) R (groups same ps) (λ g h hg hh differ. to g h differ) (groups_keys same is ps)
 
+-- no host bits stand in the prefix of a topic
+abbrev IsWhole : Topic → Type 0
+IsWhole (Origin p) = IsCidr p.base p.len
+IsWhole (Summary p) = IsCidr p.base p.len
+IsWhole t = Unit {0}
+
+topic_whole : (s : ProcessSays) → IsSound s → IsWhole (topic_of s)
+topic_whole (Originates p) sound = sound
+topic_whole (Aggregates p summary_only) sound = sound
+topic_whole (Of a s) sound = tt
+topic_whole s sound = tt
+
+things_whole : (block : List Numbered) (t : Told) → In t (things_told (statements_in line_says block)) → IsWhole t.0
+things_whole block t i = let s = thing_spoken (statements_in line_says block) t i in subst IsWhole s.2 (topic_whole s.0.setting (stated_sound block s.0 s.1))
+
+-- what is made of prefixes keeps them
+prefixes_whole : {X : Type 0} (f : Cidr × PrefixFields → X) (prefix : X → Cidr) → ((e : Cidr × PrefixFields) → prefix (f e) ≡ e.0) → (gs : List (Group Cidr (Stated Bool)))
+    → ((g : Group Cidr (Stated Bool)) → In g gs → IsCidr g.key.base g.key.len) → All (λ x. IsCidr (prefix x).base (prefix x).len) (map f (map (λ g. (g.key, prefix_in g.values)) gs))
+prefixes_whole {X} f prefix keeps gs each =
+    let fields : Group Cidr (Stated Bool) → Cidr × PrefixFields = λ g. (g.key, prefix_in g.values) in
+    all_by_in (λ (x : X). IsCidr (prefix x).base (prefix x).len) (map f (map fields gs))
+    (λ x i.
+    let e = in_by_map f (map fields gs) x i in
+    let g = in_by_map fields gs e.0 e.1 in
+    subst (λ (p : Cidr). IsCidr p.base p.len) (ap (λ (e : Cidr × PrefixFields). e.0) g.2 ∙ sym (keeps e.0) ∙ ap prefix e.2) (each g.0 g.1))
+
 pub well_formed : (block : List Numbered) (made : ProcessMade) → process_in block ≡ Ok made → IsProcess made.process
 well_formed block made e =
     let ss = statements_in line_says block in
@@ -464,5 +497,13 @@ well_formed block made e =
           all_pairs (λ (m n : AggregateStatement). m.prefix ≢ n.prefix) (made_of ss).process.aggregates
           (pairs_map aggregate_of (λ a b. a.0 ≢ b.0) (λ m n. m.prefix ≢ n.prefix) fields.aggregates (λ a b ha hb differ. differ)
           (keys_apart same_prefix prefixes_same (λ g. (g.key, prefix_in g.values)) (λ a b. a.0 ≢ b.0) (filter_map summary ss) (λ g h differ. differ)));
+      network_prefixes =
+          let gs = groups same_prefix (filter_map origin ss) in
+          prefixes_whole network_of (λ (n : NetworkStatement). n.prefix) (λ e. refl) gs
+          (λ g i. things_whole block (told Origin g) (in_right (nears ss) (origins ss ++ summaries ss) (told Origin g) (in_left (origins ss) (summaries ss) (told Origin g) (in_map (told Origin) gs g i))));
+      aggregate_prefixes =
+          let gs = groups same_prefix (filter_map summary ss) in
+          prefixes_whole aggregate_of (λ (a : AggregateStatement). a.prefix) (λ e. refl) gs
+          (λ g i. things_whole block (told Summary g) (in_right (nears ss) (origins ss ++ summaries ss) (told Summary g) (in_right (origins ss) (summaries ss) (told Summary g) (in_map (told Summary) gs g i))));
       paths = few_paths block;
     })

@@ -3,6 +3,7 @@ mod GroupLemmas
 mod FieldLemmas
 mod ProcessLemmas
 mod Finished
+mod PrefixLemmas
 mod StatementLemmas
 pub mod LawLemmas
 pub mod LowestLemmas

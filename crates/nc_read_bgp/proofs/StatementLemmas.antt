@@ -1,4 +1,5 @@
--- What the lines of a process may say: an indented one is no header, and the routes that are used at once are no more than they may be.
+-- What the lines of a process may say: an indented one is no header, the routes that are used at once are no more than they may be, and no
+-- host bits stand in the prefix of a network or an aggregate.
 use Rattle.std.proofs.Common.{◌≡◌, ℕ, zero, suc, ◌≤◌, Bool, true, false, ◌&&◌, ◌==◌, cond, nat_le, List, [], ◌∷◌, Option, Some, None, refl, subst, arith, inl, inr}
 use Rattle.std.specs.Prelude.{unwrap_or, option_and_then, codes}
 use Rattle.std.specs.Str.{bytes_eq}
@@ -6,26 +7,34 @@ use Rattle.std.specs.List.{filter_map, last_or}
 use Rattle.std.specs.Option.{option_map, option_map_or}
 use Rattle.std.proofs.lemmas.Bool.{cond_both, and_parts, leb-true}
 use Rattle.nc_types.specs.declared.TheConstants.{MULTIPATH_LIMIT}
-use Rattle.nc_types.specs.Cidr.{Cidr}
+use Rattle.nc_types.specs.Cidr.{Cidr, IsCidr}
 use Rattle.nc_types.proofs.Members.{In, in_by_filter_map}
 use Rattle.nc_types.specs.declared.fault.Cause.TheVariants.{Syntax, Unsupported}
 use Rattle.nc_lines.specs.Lines.{words_of, is_indented}
 use Rattle.nc_lines.specs.Numbers.{is_plain, value_after, number_of, address_of, masked_prefix}
 use Rattle.nc_lines.specs.Statements.{Reading, Outside, Faulty, Says, after, alone_says, or_syntax, said_as}
 use Rattle.nc_lines.specs.Parts.{Numbered, Stated, statements_in}
+use Rattle.nc_lines.proofs.PrefixLemmas.{MadeWhole, masked_made}
 use Rattle.nc_lines.proofs.PartLemmas.{stated_by, stated_is}
 use Rattle.nc_read_bgp.specs.Prefixes.{class_prefix}
-use Rattle.nc_read_bgp.specs.Statements.{NeighborSays, ProcessSays, Opens, RouterId, MaxPaths, Relax, Agrees, Aggregates, Of, or_unsupported, header_says, router_id_says, bestpath_says, max_paths_says, family_says, originates, masked_says, network_says, aggregates, summary_says, aggregate_says, neighbor_says, any_neighbor_says, is_unsupported, statement_says, text_says, line_says}
+use Rattle.nc_read_bgp.specs.Statements.{NeighborSays, ProcessSays, Opens, RouterId, MaxPaths, Relax, Agrees, Originates, Aggregates, Of, or_unsupported, header_says, router_id_says, bestpath_says, max_paths_says, family_says, originates, masked_says, network_says, aggregates, summary_says, aggregate_says, neighbor_says, any_neighbor_says, is_unsupported, statement_says, text_says, line_says}
 use Rattle.nc_read_bgp.specs.Processes.{max_paths_by, fields_in}
+use Rattle.nc_read_bgp.proofs.PrefixLemmas.{class_made}
 
 abbrev IsFew : ℕ → Type 0
 IsFew n = (1 ≤ n) × (n ≤ MULTIPATH_LIMIT)
 
+-- what a line may say: of the routes at once, of a network and of an aggregate
+abbrev pub IsSound : ProcessSays → Type 0
+IsSound (MaxPaths n) = IsFew n
+IsSound (Originates p) = IsCidr p.base p.len
+IsSound (Aggregates p summary_only) = IsCidr p.base p.len
+IsSound s = Unit {0}
+
 -- what an indented line may say
 abbrev IsInside : ProcessSays → Type 0
 IsInside (Opens n) = ⊥
-IsInside (MaxPaths n) = IsFew n
-IsInside s = Unit {0}
+IsInside s = IsSound s
 
 abbrev ReadsInside : Reading ProcessSays → Type 0
 ReadsInside (Says s) = IsInside s
@@ -102,32 +111,32 @@ family_inside (a ∷ b ∷ []) =
     (by_test (bytes_eq b (codes "unicast")) (Says Agrees) (Faulty Unsupported) tt tt) tt
 family_inside (a ∷ b ∷ c ∷ words) = tt
 
-originates_inside : (o : Option Cidr) (words : List (List ℕ)) → ReadsInside (originates o words)
-originates_inside None words = tt
-originates_inside (Some p) [] = tt
-originates_inside (Some p) (word ∷ words) = by_test _ (Faulty Unsupported) (Faulty Syntax) tt tt
+originates_inside : (o : Option Cidr) (words : List (List ℕ)) → MadeWhole o → ReadsInside (originates o words)
+originates_inside None words whole = tt
+originates_inside (Some p) [] whole = whole
+originates_inside (Some p) (word ∷ words) whole = by_test _ (Faulty Unsupported) (Faulty Syntax) tt tt
 
 masked_inside : (address : List ℕ) (words : List (List ℕ)) → ReadsInside (masked_says address words)
 masked_inside address [] = tt
-masked_inside address (mask ∷ words) = originates_inside (masked_prefix address mask) words
+masked_inside address (mask ∷ words) = originates_inside (masked_prefix address mask) words (masked_made address mask)
 
 network_inside : (words : List (List ℕ)) → ReadsInside (network_says words)
 network_inside [] = tt
-network_inside (address ∷ words) = by_option (masked_says address) _ (originates (class_prefix address) words) (masked_inside address) (originates_inside (class_prefix address) words)
+network_inside (address ∷ words) = by_option (masked_says address) _ (originates (class_prefix address) words) (masked_inside address) (originates_inside (class_prefix address) words (class_made address))
 
-summary_inside : (p : Cidr) (words : List (List ℕ)) → ReadsInside (summary_says p words)
-summary_inside p [] = tt
-summary_inside p (word ∷ []) = by_test _ (Says (Aggregates p true)) (Faulty Syntax) tt tt
-summary_inside p (a ∷ b ∷ words) = tt
+summary_inside : (p : Cidr) (words : List (List ℕ)) → IsCidr p.base p.len → ReadsInside (summary_says p words)
+summary_inside p [] whole = whole
+summary_inside p (word ∷ []) whole = by_test _ (Says (Aggregates p true)) (Faulty Syntax) whole tt
+summary_inside p (a ∷ b ∷ words) whole = tt
 
-aggregates_inside : (o : Option Cidr) (words : List (List ℕ)) → ReadsInside (aggregates o words)
-aggregates_inside None words = tt
-aggregates_inside (Some p) words = by_test _ (Faulty Unsupported) (summary_says p words) tt (summary_inside p words)
+aggregates_inside : (o : Option Cidr) (words : List (List ℕ)) → MadeWhole o → ReadsInside (aggregates o words)
+aggregates_inside None words whole = tt
+aggregates_inside (Some p) words whole = by_test _ (Faulty Unsupported) (summary_says p words) tt (summary_inside p words whole)
 
 aggregate_inside : (words : List (List ℕ)) → ReadsInside (aggregate_says words)
 aggregate_inside [] = tt
 aggregate_inside (a ∷ []) = tt
-aggregate_inside (a ∷ mask ∷ words) = aggregates_inside (masked_prefix a mask) words
+aggregate_inside (a ∷ mask ∷ words) = aggregates_inside (masked_prefix a mask) words (masked_made a mask)
 
 neighbor_inside : (words : List (List ℕ)) → ReadsInside (any_neighbor_says words)
 neighbor_inside [] = tt
@@ -155,33 +164,36 @@ statement_inside words =
 pub opens_nothing : (words : List (List ℕ)) (n : ℕ) → statement_says words ≡ Says (Opens n) → ⊥
 opens_nothing words n e = subst ReadsInside e (statement_inside words)
 
+-- ---- what any line says
+
+abbrev ReadsSound : Reading ProcessSays → Type 0
+ReadsSound (Says s) = IsSound s
+ReadsSound r = Unit {0}
+
+sound_inside : (r : Reading ProcessSays) → ReadsInside r → ReadsSound r
+sound_inside Outside inside = tt
+sound_inside (Faulty cause) inside = tt
+sound_inside (Says (Opens n)) inside = tt
+sound_inside (Says s) inside = inside
+
+header_sound : (r : Reading ℕ) → ReadsSound (said_as (λ (n : ℕ). Opens n) r)
+header_sound Outside = tt
+header_sound (Faulty cause) = tt
+header_sound (Says n) = tt
+
+text_sound : (text : List ℕ) → ReadsSound (text_says text)
+text_sound text =
+    cond_both (is_indented text) (statement_says (words_of text)) (said_as (λ (n : ℕ). Opens n) (header_says (words_of text))) ReadsSound (λ inner. sound_inside (statement_says (words_of text)) (statement_inside (words_of text)))
+    (λ outer. header_sound (header_says (words_of text)))
+
+pub stated_sound : (block : List Numbered) (s : Stated ProcessSays) → In s (statements_in line_says block) → IsSound s.setting
+stated_sound block s i =
+    let l = in_by_filter_map (λ (l : Numbered). stated_by l (line_says l)) block s i in
+    subst ReadsSound (stated_is l.0 (line_says l.0) s l.2).1 (text_sound l.0.text)
+
 -- ---- routes at once
 
-abbrev SaysFew : ProcessSays → Type 0
-SaysFew (MaxPaths n) = IsFew n
-SaysFew s = Unit {0}
-
-abbrev ReadsFew : Reading ProcessSays → Type 0
-ReadsFew (Says s) = SaysFew s
-ReadsFew r = Unit {0}
-
-few_inside : (r : Reading ProcessSays) → ReadsInside r → ReadsFew r
-few_inside Outside inside = tt
-few_inside (Faulty cause) inside = tt
-few_inside (Says (MaxPaths n)) inside = inside
-few_inside (Says s) inside = tt
-
-header_few : (r : Reading ℕ) → ReadsFew (said_as (λ (n : ℕ). Opens n) r)
-header_few Outside = tt
-header_few (Faulty cause) = tt
-header_few (Says n) = tt
-
-text_few : (text : List ℕ) → ReadsFew (text_says text)
-text_few text =
-    cond_both (is_indented text) (statement_says (words_of text)) (said_as (λ (n : ℕ). Opens n) (header_says (words_of text))) ReadsFew (λ inner. few_inside (statement_says (words_of text)) (statement_inside (words_of text)))
-    (λ outer. header_few (header_says (words_of text)))
-
-number_few : (s : ProcessSays) (k : ℕ) → max_paths_by s ≡ Some k → SaysFew s → IsFew k
+number_few : (s : ProcessSays) (k : ℕ) → max_paths_by s ≡ Some k → IsSound s → IsFew k
 number_few (MaxPaths n) k e few = let same : n ≡ k = cc in subst IsFew same few
 number_few s k e few = absurd (cc)
 
@@ -193,7 +205,4 @@ pub few_paths : (block : List Numbered) → IsFew (fields_in (statements_in line
 few_paths block =
     let ss = statements_in line_says block in
     last_few None (filter_map (λ (s : Stated ProcessSays). max_paths_by s.setting) ss) (omega arith, omega arith)
-    (λ k i.
-    let r = in_by_filter_map (λ (s : Stated ProcessSays). max_paths_by s.setting) ss k i in
-    let l = in_by_filter_map (λ (l : Numbered). stated_by l (line_says l)) block r.0 r.1 in
-    number_few r.0.setting k r.2 (subst ReadsFew (stated_is l.0 (line_says l.0) r.0 l.2).1 (text_few l.0.text)))
+    (λ k i. let r = in_by_filter_map (λ (s : Stated ProcessSays). max_paths_by s.setting) ss k i in number_few r.0.setting k r.2 (stated_sound block r.0 r.1))

@@ -8,11 +8,12 @@ ghost use Rattle.nc_read_bgp.specs.Processes.{ProcessMade, process_in};
 ghost use Rattle.nc_read_bgp.specs.Laws.{lines_of_things, lines_of_each, IsBlockOf};
 ghost use Rattle.nc_read_bgp.specs.Laws.{HaveLinesBeside, HaveLines, AreWithin, Ascend, AreApart, lowest_or_process};
 
-/// A process is well formed: each of its things has an address or a prefix of its own, and no more
-/// routes are used at once than may be. Beside each thing stand its lines, of which there is one at
-/// least. In the block of a file the process itself has a line too, and the number of its headers.
-/// All these lines are those of the block. They ascend where those of the block do, and then no
-/// line is of two.
+/// A process is well formed: each of its things has an address or a prefix of its own, no host bits
+/// stand in the prefix of a network or an aggregate and its length is at most 32, and no more routes
+/// are used at once than may be. Beside each thing stand its lines, of which there is one at least.
+/// In the block of a file the process itself has a line too, and the number of its headers. All
+/// these lines are those of the block. They ascend where those of the block do, and then no line is
+/// of two.
 pub fn things_of_processes_have_their_lines()
     ensures well_formed { (block : List Numbered) (made : ProcessMade) → process_in block ≡ Ok made
         → IsProcess made.process }

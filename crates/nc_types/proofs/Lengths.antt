@@ -1,6 +1,7 @@
 -- The length of a mask is that of the one mask which equals it.
-use Rattle.std.proofs.Common.{◌≡◌, ◌≢◌, ℕ, zero, suc, ◌<◌, ◌≤◌, ◌-◌, Some, None, refl, sym, ◌∙◌, ap, subst, arith, inl, inr}
-use Rattle.std.proofs.lemmas.Bool.{cases_eq}
+use Rattle.std.proofs.Common.{◌≡◌, ◌≢◌, ℕ, zero, suc, ◌<◌, ◌≤◌, ◌-◌, ◌==◌, Option, Some, None, refl, sym, ◌∙◌, ap, subst, arith, inl, inr}
+use Rattle.std.specs.Prelude.{IfSome}
+use Rattle.std.proofs.lemmas.Bool.{cases_eq, cond_both}
 use Rattle.std.proofs.lemmas.Bool.Decides.{nat_tests}
 use Rattle.nc_types.specs.Masks.{mask_of, mask_len_below}
 
@@ -31,6 +32,17 @@ pub nothing_below : (n mask : ℕ) → n ≤ 0 → mask_len_below n mask ≡ Non
 unfolding mask_len_below
 nothing_below zero mask small = refl
 nothing_below (suc n) mask small = absurd (omega arith)
+
+-- what has a length has one below the bound
+pub some_below : (n mask : ℕ) → IfSome (mask_len_below n mask) (λ len. len < n)
+unfolding mask_len_below
+some_below zero mask = tt
+some_below (suc n) mask =
+    cond_both (mask == mask_of n) (Some n) (mask_len_below n mask) (λ o. IfSome o (λ len. len < suc n)) (λ _. omega arith) (λ _. wider (mask_len_below n mask) (some_below n mask))
+  where
+    wider : (o : Option ℕ) → IfSome o (λ len. len < n) → IfSome o (λ len. len < suc n)
+    wider None small = tt
+    wider (Some len) small = omega (arith, small)
 
 -- what has no length equals no mask
 pub none_below : (n mask : ℕ) → mask_len_below n mask ≡ None → (len : ℕ) → len < n → mask ≢ mask_of len

@@ -4,7 +4,7 @@ use Rattle.std.specs.List.{flat_map, list_all, AllPairs}
 use Rattle.std.specs.List.Sorted.{IsStrictlyIncreasing}
 use Rattle.std.specs.Option.{option_map_or}
 use Rattle.nc_types.specs.declared.TheConstants.{NAME_LIMIT, MULTIPATH_LIMIT}
-use Rattle.nc_types.specs.Cidr.{Covers}
+use Rattle.nc_types.specs.Cidr.{IsCidr, Covers}
 use Rattle.nc_types.specs.Config.{ElementView, ProcessView, ConfigView}
 
 -- bytes that are printed and no space, at least one and no more than a name may have: they can name a router
@@ -37,11 +37,14 @@ pub record IsElement (line_count : ℕ) (e : ElementView) : Type 0 where
 abbrev pub first_line : ElementView → ℕ
 first_line e = slice_index_or e.lines 0 0
 
--- the parts of a process have addresses and prefixes of their own, and it uses at least one route at once, and no more than it may
+-- the parts of a process have addresses and prefixes of their own, no host bits stand in a prefix, and it uses at least one route at once,
+-- and no more than it may
 pub record IsProcess (p : ProcessView) : Type 0 where
   pub neighbors : AllPairs (λ m n. m.addr.0 ≢ n.addr.0) p.neighbors
   pub networks : AllPairs (λ m n. m.prefix ≢ n.prefix) p.networks
   pub aggregates : AllPairs (λ a b. a.prefix ≢ b.prefix) p.aggregates
+  pub network_prefixes : All (λ n. IsCidr n.prefix.base n.prefix.len) p.networks
+  pub aggregate_prefixes : All (λ a. IsCidr a.prefix.base a.prefix.len) p.aggregates
   pub paths : (1 ≤ p.max_paths) × (p.max_paths ≤ MULTIPATH_LIMIT)
 
 pub record IsWellFormed (c : ConfigView) : Type 0 where
