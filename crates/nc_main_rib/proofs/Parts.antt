@@ -19,7 +19,7 @@ use Rattle.nc_tables.specs.Longest.{places_from}
 use Rattle.nc_tables.specs.Main.{base_side, bgp_side, distance_of, learnt_rows, main_rows_at, nearer}
 use Rattle.nc_tables.specs.Rounds.{BgpRowView, chosen_at, chosen_in, is_active, made_from}
 use Rattle.nc_tables.specs.Sessions.{first_of, process_of}
-use Rattle.nc_main_rib.specs.Sides.{active_from, base_row, base_rows, bgp_rows, first_distance, learnt_row, stands}
+use Rattle.nc_main_rib.specs.Sides.{active_from, base_in, base_row, base_rows, bgp_rows, first_distance, learnt_row, stands}
 
 -- ---- which side stands
 
@@ -99,10 +99,9 @@ module _ {A B : Type 0} (test : A → Bool) (make : ℕ → A → B) where
           rest f (suc m) (ap (λ (k : ℕ). places_from test k xs) next ∙ is ∙ ap (λ (k : ℕ). range_with_len k (suc m)) there)
           ∙ ap (λ (k : ℕ). made_from all_made k (take (suc m) (drop f xs))) (sym there)
 
-pub base_is : (tables : List (List BaseRow)) (router : ℕ) (prefix : Cidr) (from n : ℕ) → places_from (λ row. same_prefix row.prefix prefix) 0 (slice_index_or tables router []) ≡ range_with_len from n
-    → base_side tables router prefix ≡ base_rows prefix from (take n (drop from (slice_index_or tables router [])))
-base_is tables router prefix from n places =
-    let rows : List BaseRow = slice_index_or tables router [] in
+pub base_is : (rows : List BaseRow) (prefix : Cidr) (from n : ℕ) → places_from (λ row. same_prefix row.prefix prefix) 0 rows ≡ range_with_len from n
+    → base_in prefix rows ≡ base_rows prefix from (take n (drop from rows))
+base_is rows prefix from n places =
     let here : 0 + from ≡ from = omega arith in
     made_within (λ row. same_prefix row.prefix prefix) (base_row prefix) 0 rows from n (places ∙ ap (λ (k : ℕ). range_with_len k n) (sym here))
     ∙ ap (λ (k : ℕ). base_rows prefix k (take n (drop from rows))) here

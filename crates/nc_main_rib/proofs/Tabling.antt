@@ -1,7 +1,9 @@
 -- The main table of a router, from what was read of its tables.
-use Rattle.std.proofs.Common.{◌≡◌, ℕ, ◌+◌, ◌^◌, ◌<◌, ◌≤◌, ◌++◌, List, [], ◌∷◌, length, map, get_or, slice_index_or, All, Option, Some, None, refl, sym, ap, subst, ◌∙◌, arith}
+use Rattle.std.proofs.Common.{◌≡◌, ℕ, ◌+◌, ◌^◌, ◌<◌, ◌≤◌, ◌++◌, List, [], ◌∷◌, length, map, drop, get_or, slice_index_or, All, Option, Some, None, refl, sym, ap, subst, ◌∙◌, arith, inl}
 use Rattle.std.specs.List.{flat_map, slice_get}
 use Rattle.std.specs.Option.{option_map_or, option_and_then}
+use Rattle.std.specs.Ordering.{is_le}
+use Rattle.std.specs.declared.cmp.Ordering.TheVariants.{Less}
 use Rattle.std.proofs.lemmas.List.{length-map, get_or-map}
 use Rattle.nc_types.specs.Cidr.{Cidr}
 use Rattle.nc_types.specs.Config.{ConfigView, ProcessView}
@@ -10,16 +12,18 @@ use Rattle.nc_types.specs.Joining.{IsValid}
 use Rattle.nc_types.specs.Network.{element_count}
 use Rattle.nc_types.specs.WellFormed.{IsWellFormed}
 use Rattle.nc_types.proofs.Few.{few_of_process, few_in_network}
-use Rattle.nc_types.proofs.Members.{all_in, in_by_get}
+use Rattle.nc_types.proofs.Members.{In, all_in, in_by_get}
+use Rattle.nc_types.proofs.Walks.{drop_read}
 use Rattle.nc_tables.specs.declared.base.BaseRow.{BaseRow}
 use Rattle.nc_tables.specs.declared.bgp.BgpRow.{BgpRow}
 use Rattle.nc_tables.specs.declared.bgp.MainRow.{MainRow}
 use Rattle.nc_tables.specs.Base.{prefix_cmp}
 use Rattle.nc_tables.specs.Order.{in_order}
 use Rattle.nc_tables.specs.Main.{base_side, main_rows_at, main_table, nearer, prefixes_at}
-use Rattle.nc_tables.specs.Rounds.{BgpRowView, bgp_row_view, chosen_at, distinct}
+use Rattle.nc_tables.specs.Rounds.{BgpRowView, bgp_row_view, chosen_at, chosen_in, distinct}
+use Rattle.nc_tables.proofs.SideBySide.{upto_upto}
 use Rattle.nc_tables.specs.Sessions.{process_of}
-use Rattle.nc_main_rib.specs.Sides.{active_from, bgp_rows}
+use Rattle.nc_main_rib.specs.Sides.{active_from, base_in, bgp_rows, ArePassed}
 use Rattle.nc_main_rib.proofs.Parts.{bgp_is}
 
 -- ---- lists
@@ -60,6 +64,16 @@ prefixes_in : (o : Option ProcessView) → map (λ (a : AggregateStatement). a.p
 prefixes_in None = refl
 prefixes_in (Some p) = refl
 
+-- ---- the way along the prefixes
+
+-- the one at a place is among those that are left there
+pub next_in : (items : List Cidr) (k : ℕ) (p : Cidr) → p ≡ get_or items k p → k < length items → In p (drop k items)
+next_in items k p is lt = subst (λ (l : List Cidr). In p l) (sym (drop_read items k p is lt)) (inl refl)
+
+-- rows that are passed at a prefix are so at a later one
+pub passed_later : {A : Type 0} (pre : A → Cidr) (rows : List A) (count : ℕ) (p q : Cidr) → prefix_cmp p q ≡ Less → ArePassed pre rows count p → ArePassed pre rows count q
+passed_later pre rows count p q less passed = (passed.0, λ k d lo hi. upto_upto (pre (get_or rows k d)) p q (passed.1 k d lo hi) (ap is_le less))
+
 -- ---- the table
 
 module _ (routers : List ConfigView) (tables : List (List BaseRow)) (table : List (List BgpRowView)) (router : ℕ) (base : List BaseRow) (bgp : List BgpRow) (aggregates : List AggregateStatement)
@@ -77,11 +91,13 @@ module _ (routers : List ConfigView) (tables : List (List BaseRow)) (table : Lis
       (ap (map (λ (a : AggregateStatement). a.prefix)) aggregates_are ∙ prefixes_in (process_of routers router))
 
   -- a prefix's rows of both sides are its main rows, given the place of its first active aggregate
-  pub rows_are : (p : Cidr) (place : Option ℕ) → place ≡ active_from (map bgp_row_view bgp) p 0 aggregates
-      → nearer (base_side tables router p) (bgp_rows p place (chosen_at table router p)) ≡ main_rows_at routers tables table router p
+  pub rows_are : (p : Cidr) (place : Option ℕ) → place ≡ active_from (slice_index_or table router []) p 0 aggregates
+      → nearer (base_in p base) (bgp_rows p place (chosen_in (map bgp_row_view bgp) p)) ≡ main_rows_at routers tables table router p
   rows_are p place is =
-      let first = is ∙ ap (λ (l : List BgpRowView). active_from l p 0 aggregates) bgp_rows_are ∙ ap (λ (l : List AggregateStatement). active_from (slice_index_or table router []) p 0 l) aggregates_are in
-      ap (λ (o : Option ℕ). nearer (base_side tables router p) (bgp_rows p o (chosen_at table router p))) first
+      let first = is ∙ ap (λ (l : List AggregateStatement). active_from (slice_index_or table router []) p 0 l) aggregates_are in
+      ap (λ (l : List BaseRow). nearer (base_in p l) (bgp_rows p place (chosen_in (map bgp_row_view bgp) p))) base_is
+      ∙ ap (λ (l : List BgpRowView). nearer (base_side tables router p) (bgp_rows p place (chosen_in l p))) bgp_rows_are
+      ∙ ap (λ (o : Option ℕ). nearer (base_side tables router p) (bgp_rows p o (chosen_at table router p))) first
       ∙ ap (λ (l : List MainRow). nearer (base_side tables router p) l) (sym (bgp_is table router p routers))
 
   pub table_is : (ps : List Cidr) → ps ≡ in_order prefix_cmp (distinct all_prefixes) → flat_map (main_rows_at routers tables table router) ps ≡ main_table routers tables table router

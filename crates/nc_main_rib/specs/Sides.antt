@@ -1,8 +1,9 @@
 -- What stands of one prefix of a router: base rows on one side, what BGP has on the other.
-use Rattle.std.specs.Prelude.{ℕ, ◌+◌, Bool, true, false, ◌&&◌, nat_lt, nat_le, List, [], ◌∷◌, length, Option, Some, None, if◌then◌else◌}
+use Rattle.std.specs.Prelude.{◌≡◌, ℕ, zero, ◌+◌, ◌≤◌, Bool, true, false, ◌&&◌, nat_le, List, [], ◌∷◌, length, Option, Some, None, if◌then◌else◌}
 use Rattle.std.specs.BTreeMap.{BTreeMap, get_by}
-use Rattle.std.specs.List.{list_any}
+use Rattle.std.specs.List.{AllWithin}
 use Rattle.std.specs.Option.{option_map}
+use Rattle.std.specs.Ordering.{is_le}
 use Rattle.nc_types.specs.Cidr.{Cidr}
 use Rattle.nc_types.specs.declared.config.AggregateStatement.{AggregateStatement}
 use Rattle.nc_tables.specs.declared.TheConstants.{LOCAL_DISTANCE}
@@ -12,20 +13,16 @@ use Rattle.nc_tables.specs.declared.bgp.MainRow.{MainRow}
 use Rattle.nc_tables.specs.declared.bgp.MainFrom.TheVariants.{Base, Bgp, Discard}
 use Rattle.nc_tables.specs.Base.{same_prefix, prefix_cmp}
 use Rattle.nc_tables.specs.Main.{learnt_rows}
-use Rattle.nc_tables.specs.Rounds.{BgpRowView, is_longer_in, made_from}
+use Rattle.nc_tables.specs.Rounds.{BgpRowView, has_longer, made_from}
 use Rattle.nc_tables.specs.Sessions.{first_of}
 
 -- ---- aggregates
 
 module _ (rows : List BgpRowView) where
-  -- an aggregate is active where a longer prefix inside it has a chosen candidate
-  abbrev pub is_active_in : AggregateStatement → Bool
-  is_active_in a = list_any (λ row. is_longer_in row.prefix a.prefix && nat_lt 0 (length row.chosen)) rows
-
   -- the place of the first active aggregate of a prefix, the first aggregate having this place
   abbrev pub active_from : Cidr → ℕ → List AggregateStatement → Option ℕ
   active_from prefix place [] = None
-  active_from prefix place (a ∷ later) = if same_prefix a.prefix prefix && is_active_in a then Some place else active_from prefix (place + 1) later
+  active_from prefix place (a ∷ later) = if same_prefix a.prefix prefix && has_longer rows a.prefix then Some place else active_from prefix (place + 1) later
 
 -- the place that a table of places has for a prefix
 abbrev pub place_by : BTreeMap Cidr ℕ → Cidr → Option ℕ
@@ -40,6 +37,14 @@ base_row prefix place row = record { prefix = prefix; distance = row.distance; f
 -- those of base rows, the first of which has this place
 abbrev pub base_rows : Cidr → ℕ → List BaseRow → List MainRow
 base_rows prefix place rows = made_from (λ at row. Some (base_row prefix at row)) place rows
+
+-- those of the base rows that have the prefix
+abbrev pub base_in : Cidr → List BaseRow → List MainRow
+base_in prefix rows = made_from (λ at row. if same_prefix row.prefix prefix then Some (base_row prefix at row) else None) 0 rows
+
+-- so many rows, the first of a table, have no later prefix
+abbrev pub ArePassed : {A : Type 0} → (A → Cidr) → List A → ℕ → Cidr → Type 0
+ArePassed prefix_of rows count prefix = (count ≤ length rows) × AllWithin (λ row. is_le (prefix_cmp (prefix_of row) prefix) ≡ true) rows zero count
 
 -- the main row of the chosen candidate at a place
 abbrev pub learnt_row : Cidr → ℕ → ℕ → MainRow

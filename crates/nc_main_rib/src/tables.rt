@@ -1,20 +1,23 @@
-ghost use Rattle.std.specs.Prelude.{◌≡◌, ◌++◌, ◌^◌, ◌<◌, [], All, length, slice_index_or, IfOk, OnOk};
+ghost use Rattle.std.specs.Prelude.{◌≡◌, ◌++◌, ◌-◌, ◌^◌, ◌<◌, ◌≤◌, [], All, length, map, IfOk, OnOk};
+ghost use Rattle.std.specs.List.{range_with_len};
+ghost use Rattle.std.specs.List.Sorted.{IsSortedByKey};
 ghost use Rattle.std.specs.Option.{option_map_or};
-ghost use Rattle.nc_types.specs.Cidr.{IsCidr};
-ghost use Rattle.nc_tables.specs.Base.{base_tables};
-ghost use Rattle.nc_tables.specs.Longest.{AreByPrefix};
-ghost use Rattle.nc_tables.specs.Main.{base_side, main_table, main_tables, nearer};
-ghost use Rattle.nc_tables.specs.Rounds.{chosen_at};
+ghost use Rattle.nc_types.specs.Cidr.{Cidr, IsCidr};
+ghost use Rattle.nc_tables.specs.Base.{base_tables, prefix_cmp, same_prefix};
+ghost use Rattle.nc_tables.specs.Longest.{places_from, AreByPrefix};
+ghost use Rattle.nc_tables.specs.Main.{main_table, main_tables, nearer};
+ghost use Rattle.nc_tables.specs.Rounds.{bgp_row_view, chosen_in, AreBgpRows};
 ghost use Rattle.nc_tables.specs.Sessions.{process_of};
-ghost use Rattle.nc_main_rib.specs.Sides.{bgp_rows, place_by};
+ghost use Rattle.nc_main_rib.specs.Sides.{base_in, bgp_rows, ArePassed};
 
 use crate::discards::active_places;
 use crate::prefixes::prefixes_of;
 use crate::rows::add_rows;
-use nc_tables::{BaseTables, BgpTable, MainRow, MainTables};
+use nc_tables::{
+    BaseRow, BaseTables, BgpRow, BgpTable, Chosen, MainRow, MainTables, Rows, rows_on,
+};
 use nc_types::{AggregateStatement, Network, Prefix, RouterId};
 use std::alloc::{AllocError, Global};
-use std::collections::BTreeMap;
 
 // The aggregates of a router; none where it has no BGP process.
 fn aggregates_of(network: &Network, router: RouterId) -> &[AggregateStatement]
@@ -27,34 +30,61 @@ fn aggregates_of(network: &Network, router: RouterId) -> &[AggregateStatement]
     }
 }
 
-// Adds the main rows of a prefix of a router, given the places of the router's active aggregates.
+// How many rows of a router's tables stand before those of the next prefix, or are among them.
+#[derive(Clone, Copy, Debug)]
+struct Passed {
+    base: usize,
+    bgp: usize,
+}
+
+// What is chosen of the prefix whose row stands here, of which there is one at most.
+fn chosen_at(rows: &[BgpRow], found: Rows) -> &[Chosen]
+    requires { found.to ≤ length rows.now }
+    ensures { (prefix : Cidr) → places_from (λ row. same_prefix row.prefix prefix) 0 rows.now
+        ≡ range_with_len found.from (found.to - found.from)
+        → result.now ≡ chosen_in (map bgp_row_view rows.now) prefix }
+{
+    if found.from >= found.to {
+        return &[];
+    }
+    &rows[found.from].chosen
+}
+
+// Adds the main rows of a prefix of a router, given its base rows and its BGP rows, how many of each were passed
+// on the way to the prefix, and the place of the first active aggregate of the prefix. Passes the prefix's rows.
 fn add_prefix(
     main: &mut Vec<MainRow>,
-    base: &BaseTables,
-    bgp: &BgpTable,
-    discards: &BTreeMap<Prefix, u32>,
-    router: RouterId,
     prefix: Prefix,
-) -> Result<(), AllocError>
-    requires base { router.0 < length base.now }
-    requires bgp { router.0 < length bgp.now }
-    requires few { length (slice_index_or base.now router.0 []) < 2 ^ 32 }
-    ensures rows { OnOk result (main.new.items ≡ main.old.items
-        ++ nearer (base_side base.now router.0 prefix)
-        (bgp_rows prefix (place_by discards.now prefix) (chosen_at bgp.now router.0 prefix))) }
+    base: &[BaseRow],
+    bgp: &[BgpRow],
+    discard: Option<u32>,
+    passed: Passed,
+) -> Result<Passed, AllocError>
+    requires ordered { IsSortedByKey (λ row. row.prefix) prefix_cmp base.now }
+    requires few { length base.now < 2 ^ 32 }
+    requires base { ArePassed (λ row. row.prefix) base.now passed.base prefix }
+    requires rows { AreBgpRows (map bgp_row_view bgp.now) }
+    requires bgp { ArePassed (λ row. row.prefix) bgp.now passed.bgp prefix }
+    ensures rows { OnOk result (main.new.items ≡ main.old.items ++ nearer (base_in prefix base.now)
+        (bgp_rows prefix discard (chosen_in (map bgp_row_view bgp.now) prefix))) }
+    ensures base { IfOk result (λ next. ArePassed (λ row. row.prefix) base.now next.base prefix) }
+    ensures bgp { IfOk result (λ next. ArePassed (λ row. row.prefix) bgp.now next.bgp prefix) }
     ensures valid { IsCidr prefix.base prefix.len }
 {
     let _len = prefix.len();
-    let _rows = bgp.rows(router);
-    let found = base.rows_of(router, prefix);
-    let rows = &base.rows(router)[found.from..found.to];
-    let discard = discards.get(&prefix).copied();
-    let chosen = bgp.chosen(router, prefix);
-    add_rows(main, prefix, rows, found.from, discard, chosen)?;
-    Ok(())
+    let base_found = rows_on(base, passed.base, prefix);
+    let bgp_found = rows_on(bgp, passed.bgp, prefix);
+    let rows = &base[base_found.from..base_found.to];
+    let chosen = chosen_at(bgp, bgp_found);
+    add_rows(main, prefix, rows, base_found.from, discard, chosen)?;
+    Ok(Passed {
+        base: base_found.to,
+        bgp: bgp_found.to,
+    })
 }
 
-// The main rows of a router.
+// The main rows of a router. The rows of both tables stand in order of prefix, and so do the prefixes, so that one
+// way along both finds those of each.
 fn main_table(
     alloc: Global,
     network: &Network,
@@ -72,12 +102,15 @@ fn main_table(
     let _routers = network.routers();
     let _count = network.element_count();
     let aggregates = aggregates_of(network, router);
+    let base_rows = base.rows(router);
     let rows = bgp.rows(router);
-    let prefixes = prefixes_of(alloc, base.rows(router), rows, aggregates)?;
-    let discards = active_places(alloc, rows, aggregates)?;
+    let prefixes = prefixes_of(alloc, base_rows, rows, aggregates)?;
+    let discards = active_places(alloc, bgp, router, aggregates)?;
     let mut main = Vec::new(alloc);
+    let mut passed = Passed { base: 0, bgp: 0 };
     'prefixes: for prefix in &prefixes {
-        add_prefix(&mut main, base, bgp, &discards, router, *prefix)?;
+        let discard = discards.get(prefix).copied();
+        passed = add_prefix(&mut main, *prefix, base_rows, rows, discard, passed)?;
     }
     Ok(main)
 }

@@ -1,10 +1,11 @@
 -- The rows of a router's BGP table: what is chosen of a prefix.
-use Rattle.std.proofs.Common.{◌≡◌, ℕ, zero, suc, ◌∷◌, ◌+◌, ◌<◌, Bool, true, false, List, [], length, map, get_or, Option, Some, None, refl, ap, subst, ◌∙◌, arith}
+use Rattle.std.proofs.Common.{◌≡◌, ℕ, zero, suc, ◌∷◌, ◌+◌, ◌<◌, Bool, true, false, List, [], length, map, get_or, Option, Some, None, refl, sym, ap, subst, ◌∙◌, arith, inl, inr}
 use Rattle.std.specs.List.{find, list_any, range_with_len}
-use Rattle.std.specs.List.Sorted.{IsSortedByKey}
+use Rattle.std.specs.List.Sorted.{IsPartitionPoint, IsSortedByKey}
 use Rattle.std.specs.Option.{option_map, option_map_or, is_some}
-use Rattle.std.specs.Ordering.{is_lt, ordering_reverse}
-use Rattle.std.specs.declared.cmp.Ordering.TheVariants.{Less}
+use Rattle.std.specs.Ordering.{is_lt, is_eq, ordering_reverse}
+use Rattle.std.specs.declared.cmp.Ordering.TheVariants.{Less, Greater}
+use Rattle.std.proofs.lemmas.Bool.{cases_lt}
 use Rattle.std.proofs.lemmas.List.{length-map}
 use Rattle.std.proofs.lemmas.Option.{slice_get-get_or, slice_get-map}
 use Rattle.nc_types.specs.Cidr.{Cidr}
@@ -12,9 +13,10 @@ use Rattle.nc_tables.specs.declared.bgp.BgpRow.{BgpRow}
 use Rattle.nc_tables.specs.Base.{prefix_cmp, same_prefix}
 use Rattle.nc_tables.specs.Longest.{places_from}
 use Rattle.nc_tables.specs.Rounds.{BgpRowView, bgp_row_view, chosen_in, AreBgpRows}
-use Rattle.nc_tables.proofs.SideBySide.{prefix_total}
+use Rattle.nc_tables.proofs.SideBySide.{prefix_total, same_by_cmp}
+use Rattle.nc_tables.proofs.ByPrefix.{same_itself, less_differs}
+use Rattle.nc_tables.proofs.Finding.{find_map, found_at, found_none, found_first, found_nowhere, any_is_found}
 use Rattle.nc_tables.proofs.LongestPrefix.{places_map}
-use Rattle.nc_tables.proofs.Finding.{found_first, found_nowhere, any_is_found}
 
 not_less : (p q : Cidr) → prefix_cmp p q ≡ Less → is_lt (prefix_cmp q p) ≡ false
 not_less p q e = ap is_lt (prefix_total.antisymm q p ∙ ap ordering_reverse e)
@@ -42,20 +44,48 @@ module _ (prefix : Cidr) where
   abbrev pub has : BgpRowView → Bool
   has row = same_prefix row.prefix prefix
 
+  -- the row at a place, if it has the prefix
+  pub found_row : (rows : List BgpRow) (place : ℕ) (d : BgpRow) → AreBgpRows (map bgp_row_view rows) → place < length rows → (get_or rows place d).prefix ≡ prefix
+      → find has (map bgp_row_view rows) ≡ Some (bgp_row_view (get_or rows place d))
+  found_row rows place d are lt is = find_map bgp_row_view has rows ∙ ap (option_map bgp_row_view) (found_at (λ (row : BgpRow). has (bgp_row_view row)) rows place d lt before here)
+    where
+      here : same_prefix (get_or rows place d).prefix prefix ≡ true
+      here = ap (λ (q : Cidr). same_prefix q prefix) is ∙ same_itself prefix
+
+      at : (i : ℕ) → (get_or (map bgp_row_view rows) i (bgp_row_view d)).prefix ≡ (get_or rows i d).prefix
+      at i = ap (λ (row : BgpRowView). row.prefix) (view_at rows i d)
+
+      before : (k : ℕ) → k < place → same_prefix (get_or rows k d).prefix prefix ≡ false
+      before k less =
+          let count : length (map bgp_row_view rows) ≡ length rows = length-map rows bgp_row_view in
+          let up : prefix_cmp (get_or (map bgp_row_view rows) k (bgp_row_view d)).prefix (get_or (map bgp_row_view rows) place (bgp_row_view d)).prefix ≡ Less = are.ordered k place (bgp_row_view d) less (omega (arith, count, lt)) in
+          less_differs (get_or rows k d).prefix prefix
+          (ap (λ (q : Cidr). prefix_cmp q prefix) (sym (at k)) ∙ ap (prefix_cmp (get_or (map bgp_row_view rows) k (bgp_row_view d)).prefix) (sym (at place ∙ is)) ∙ up)
+
+  -- no row, if those before a place are below it and those behind above
+  pub no_row : (rows : List BgpRow) (place : ℕ) → IsPartitionPoint (λ (row : BgpRow). prefix_cmp row.prefix prefix ≡ Less) (λ (row : BgpRow). prefix_cmp row.prefix prefix ≡ Greater) rows place
+      → find has (map bgp_row_view rows) ≡ None
+  no_row rows place parted =
+      find_map bgp_row_view has rows
+      ∙ ap (option_map bgp_row_view) (found_none (λ (row : BgpRow). has (bgp_row_view row)) rows (λ k d lt. same_by_cmp (get_or rows k d).prefix prefix ∙ elim (cases_lt k place) [
+        | inl before ↦ ap is_eq (parted.0 k d (omega arith) before)
+        | inr after ↦ ap is_eq (parted.1 k d after lt)
+      ]))
+
+  -- what is chosen, by the places of the rows that have the prefix
   module _ (rows : List BgpRow) (from n : ℕ) (places : places_from (λ (row : BgpRow). same_prefix row.prefix prefix) 0 rows ≡ range_with_len from n) where
     view_places : places_from has 0 (map bgp_row_view rows) ≡ range_with_len from n
     view_places = places_map bgp_row_view has 0 rows ∙ places
 
-    -- no row: nothing is chosen
-    pub no_row : n ≡ 0 → find has (map bgp_row_view rows) ≡ None
-    no_row none = found_nowhere has (map bgp_row_view rows) from n view_places none
+    pub chosen_nowhere : n ≡ 0 → chosen_in (map bgp_row_view rows) prefix ≡ []
+    chosen_nowhere none = ap (λ (o : Option BgpRowView). option_map_or (λ (row : BgpRowView). row.chosen) o []) (found_nowhere has (map bgp_row_view rows) from n view_places none)
 
-    -- the row at the first place
-    pub row_is : (d : BgpRow) → 0 < n → from < length rows → find has (map bgp_row_view rows) ≡ Some (bgp_row_view (get_or rows from d))
-    row_is d some lt =
-        found_first has (map bgp_row_view rows) from n view_places some
+    pub chosen_there : (d : BgpRow) → 0 < n → from < length rows → chosen_in (map bgp_row_view rows) prefix ≡ (get_or rows from d).chosen.items
+    chosen_there d some lt =
+        ap (λ (o : Option BgpRowView). option_map_or (λ (row : BgpRowView). row.chosen) o [])
+        (found_first has (map bgp_row_view rows) from n view_places some
         ∙ slice_get-map bgp_row_view rows from
-        ∙ ap (option_map bgp_row_view) (slice_get-get_or rows from d lt)
+        ∙ ap (option_map bgp_row_view) (slice_get-get_or rows from d lt))
 
   pub nothing_chosen : (rows : List BgpRowView) → find has rows ≡ None → chosen_in rows prefix ≡ []
   nothing_chosen rows e = ap (λ (o : Option BgpRowView). option_map_or (λ (row : BgpRowView). row.chosen) o []) e

@@ -1,11 +1,13 @@
 pub mod SideBySide
 pub mod RowOrder
+pub mod Nested
 pub mod LongestPrefix
 pub mod RowsAt
 pub mod State
 pub mod Finding
 pub mod SessionOrder
 pub mod BgpRows
+pub mod LongerIn
 pub mod ByPrefix
 pub mod InOrder
 mod RowEdits
@@ -15,5 +17,5 @@ pub mod Ordered
 pub mod Owner
 mod ByLevels
 pub mod SameTables
-pub mod WithoutRoutes
+mod NoRoutes
 pub mod Settled

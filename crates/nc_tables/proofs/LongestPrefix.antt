@@ -1,17 +1,19 @@
 -- The longest prefix that covers an address is the one around it of the greatest length that occurs.
-use Rattle.std.proofs.Common.{◌≡◌, ℕ, zero, suc, ◌+◌, ◌*◌, ◌/◌, ◌<◌, ◌≤◌, Bool, true, false, cond, not, ◌&&◌, ◌||◌, nat_lt, nat_eq, List, [], ◌∷◌, map, get_or, All, refl, sym, ap, ◌∙◌, arith}
+use Rattle.std.proofs.Common.{◌≡◌, ℕ, zero, suc, ◌+◌, ◌-◌, ◌*◌, ◌/◌, ◌<◌, ◌≤◌, Bool, true, false, cond, not, ◌&&◌, ◌||◌, nat_lt, nat_eq, List, [], ◌∷◌, length, map, get_or, All, refl, sym, ap, subst, ◌∙◌, arith, inl, inr}
 use Rattle.std.specs.List.{list_any, range_with_len}
-use Rattle.std.proofs.lemmas.Bool.{eqb-true, eq-eqb, lt-ltb, and_parts, and_from}
+use Rattle.std.specs.List.Sorted.{IsPartitionPoint}
+use Rattle.std.specs.Ordering.{is_le, is_gt}
+use Rattle.std.proofs.lemmas.Bool.{cases_lt, eqb-true, eq-eqb, lt-ltb, and_parts, and_from}
 use Rattle.std.proofs.lemmas.Bool.Decides.{nat_tests}
-use Rattle.nc_types.specs.Cidr.{Cidr, IsCidr}
+use Rattle.nc_types.specs.Cidr.{Cidr, IsCidr, Covers}
 use Rattle.nc_types.specs.Masks.{size_of, network_of}
 use Rattle.nc_types.proofs.Ranges.{lies}
-use Rattle.nc_tables.specs.Base.{covers, same_prefix}
-use Rattle.nc_tables.specs.Longest.{is_longest, places_from, longest}
-
--- the prefix of a length around an address
-abbrev pub around : ℕ → ℕ → Cidr
-around addr len = record { base = network_of addr len; len = len }
+use Rattle.nc_types.proofs.Sameness.{same_prefix_is}
+use Rattle.nc_tables.specs.Base.{covers, prefix_cmp, same_prefix}
+use Rattle.nc_tables.specs.Longest.{is_longest, places_from, longest, AreByPrefix}
+use Rattle.nc_tables.proofs.Nested.{around, before_around, no_longer, alike_in}
+use Rattle.nc_tables.proofs.ByPrefix.{same_itself}
+use Rattle.nc_tables.proofs.SideBySide.{Rises, rises, same_at, by_no_gt, upto_upto}
 
 -- ---- one prefix
 
@@ -167,15 +169,6 @@ module _ {A : Type 0} (pre : A → Cidr) (addr : ℕ) where
       → longest (map pre rows) addr ≡ range_with_len from n
   found rows len from n within valid short places some = at_length rows len within valid short (some_by_places (is_around len) rows from n places some) ∙ places
 
-  -- no row of the prefix around the address: those that cover it are shorter
-  pub passed : (rows : List A) (len from n : ℕ) → AreCidrs rows → AreShorter (len + 1) rows → places_from (λ row. same_prefix (pre row) (around addr len)) 0 rows ≡ range_with_len from n → n ≡ 0 → AreShorter len rows
-  passed rows len from n valid short places none k d lt cover =
-      let empty : places_from (is_around len) 0 rows ≡ [] = places ∙ ap (λ (m : ℕ). range_with_len from m) none in
-      let not_around : is_around len (get_or rows k d) ≡ false = none_by_places (is_around len) 0 rows empty k d lt in
-      let other : (pre (get_or rows k d)).len ≡ len → ⊥ = (λ (long : (pre (get_or rows k d)).len ≡ len). let yes_around : is_around len (get_or rows k d) ≡ true = covering_is_around (pre (get_or rows k d)) addr len (valid k d lt) cover long in absurd cc) in
-      let most : (pre (get_or rows k d)).len < len + 1 = short k d lt cover in
-      omega arith
-
   -- nothing covers the address
   pub not_found : (rows : List A) → AreShorter 0 rows → longest (map pre rows) addr ≡ []
   unfolding longest
@@ -190,3 +183,115 @@ module _ {A : Type 0} (pre : A → Cidr) (addr : ℕ) where
   -- a length of at most 32
   pub all_short : (rows : List A) → AreCidrs rows → AreShorter 33 rows
   all_short rows valid k d lt cover = let most : (pre (get_or rows k d)).len ≤ 32 = (valid k d lt).within in omega arith
+
+  -- ---- the last row at or before the prefix of a length around the address
+
+  -- where the search stands: no longer prefix covers the address, and the place is behind the rows up to the prefix around it
+  pub record IsStep (rows : List A) (len to : ℕ) : Type 0 where
+    pub rising : Rises pre rows
+    pub valid : AreCidrs rows
+    pub within : len ≤ 32
+    pub short : AreShorter (len + 1) rows
+    pub point : IsPartitionPoint (λ row. is_le (prefix_cmp (pre row) (around addr len)) ≡ true) (λ row. is_le (prefix_cmp (pre row) (around addr len)) ≡ false) rows to
+
+  pub step : (rows : List A) → AreByPrefix pre rows → (len to : ℕ) (q : Cidr) → 0 < len → len ≤ 33 → AreShorter len rows → q ≡ around addr (len - 1)
+      → IsPartitionPoint (λ row. is_le (prefix_cmp (pre row) q) ≡ true) (λ row. is_le (prefix_cmp (pre row) q) ≡ false) rows to → IsStep rows (len - 1) to
+  step rows are len to q some within short e point =
+      let next : len ≡ len - 1 + 1 = omega arith in
+      record {
+        rising = rises pre rows are.ordered;
+        valid = are.valid;
+        within = omega arith;
+        short = subst (λ (n : ℕ). AreShorter n rows) next short;
+        point = subst (λ (p : Cidr). IsPartitionPoint (λ row. is_le (prefix_cmp (pre row) p) ≡ true) (λ row. is_le (prefix_cmp (pre row) p) ≡ false) rows to) e point;
+      }
+
+  -- the row before a place has a prefix
+  pub record IsLast (rows : List A) (to : ℕ) (p : Cidr) : Type 0 where
+    pub some : 0 < to
+    pub there : to - 1 < length rows
+    pub is : (d : A) → pre (get_or rows (to - 1) d) ≡ p
+
+  pub read_last : (rows : List A) (to : ℕ) (row : A) (p : Cidr) → (to ≡ 0 → ⊥) → to ≤ length rows → row ≡ get_or rows (to - 1) row → p ≡ pre row → IsLast rows to p
+  read_last rows to row p some bound is has =
+      let lt : 0 < to = omega arith in
+      let there : to - 1 < length rows = omega arith in
+      record { some = lt; there = there; is = λ d. ap pre (same_at rows (to - 1) d row there ∙ sym is) ∙ sym has }
+
+  module _ (rows : List A) (len to : ℕ) (s : IsStep rows len to) where
+    is_covered : (q : Cidr) → covers q addr ≡ true → Covers q addr
+    is_covered q e = eqb-true (addr / size_of q.len) (q.base / size_of q.len) e
+
+    -- a row that covers the address stands up to there
+    covers_before : (k : ℕ) (d : A) → k < length rows → covers (pre (get_or rows k d)) addr ≡ true → k < to
+    covers_before k d lt cover = elim (cases_lt k to) [
+      | inl before ↦ before
+      | inr after ↦
+          let q = pre (get_or rows k d) in
+          let most : q.len < len + 1 = s.short k d lt cover in
+          let upto : is_le (prefix_cmp q (around addr len)) ≡ true = before_around addr q len (s.valid k d lt) (omega arith) s.within (is_covered q cover) in
+          let behind : is_le (prefix_cmp q (around addr len)) ≡ false = s.point.1 k d after lt in
+          absurd cc
+    ]
+
+    pub none_covers : to ≡ 0 → AreShorter 0 rows
+    none_covers none k d lt cover = let before : k < to = covers_before k d lt cover in omega arith
+
+    module _ (p : Cidr) (last : IsLast rows to p) where
+      no_later : (k : ℕ) (d : A) → k < length rows → covers (pre (get_or rows k d)) addr ≡ true → is_gt (prefix_cmp (pre (get_or rows k d)) p) ≡ false
+      no_later k d lt cover =
+          let before : k < to = covers_before k d lt cover in
+          let up : is_gt (prefix_cmp (pre (get_or rows k d)) (pre (get_or rows (to - 1) d))) ≡ false = s.rising k (to - 1) d (omega arith) last.there in
+          ap (λ (q : Cidr). is_gt (prefix_cmp (pre (get_or rows k d)) q)) (sym (last.is d)) ∙ up
+
+      pub last_upto : A → is_le (prefix_cmp p (around addr len)) ≡ true
+      last_upto d =
+          let some : 0 < to = last.some in
+          ap (λ (q : Cidr). is_le (prefix_cmp q (around addr len))) (sym (last.is d)) ∙ s.point.0 (to - 1) d (omega arith) (omega arith)
+
+      last_valid : A → IsCidr p.base p.len
+      last_valid d = subst (λ (q : Cidr). IsCidr q.base q.len) (last.is d) (s.valid (to - 1) d last.there)
+
+      -- where it covers the address, none longer does
+      last_longest : Covers p addr → AreShorter (p.len + 1) rows
+      last_longest cover k d lt covers_it =
+          let q = pre (get_or rows k d) in
+          let most : q.len ≤ p.len = no_longer addr q p (s.valid k d lt) (last_valid d) (is_covered q covers_it) cover (no_later k d lt covers_it) in
+          omega arith
+
+      -- and else none that is longer than the bits which the two addresses share
+      pub last_shares : (shared : ℕ) → ((l : ℕ) → l ≤ 32 → p.base / size_of l ≡ addr / size_of l → l ≤ shared) → AreShorter (shared + 1) rows
+      last_shares shared most k d lt covers_it =
+          let q = pre (get_or rows k d) in
+          let ok : IsCidr q.base q.len = s.valid k d lt in
+          let few : q.len ≤ shared = most q.len ok.within (alike_in addr p len s.within (last_upto d) q ok (is_covered q covers_it) (no_later k d lt covers_it)) in
+          omega arith
+
+      -- the place is behind its prefix too
+      pub last_point : IsPartitionPoint (λ row. is_le (prefix_cmp (pre row) p) ≡ true) (λ row. is_le (prefix_cmp (pre row) p) ≡ false) rows to
+      last_point = (before, behind)
+        where
+          before : (k : ℕ) (d : A) → 0 ≤ k → k < to → is_le (prefix_cmp (pre (get_or rows k d)) p) ≡ true
+          before k d low high =
+              by_no_gt (prefix_cmp (pre (get_or rows k d)) p) (ap (λ (q : Cidr). is_gt (prefix_cmp (pre (get_or rows k d)) q)) (sym (last.is d)) ∙ s.rising k (to - 1) d (omega arith) last.there)
+
+          on : (b : Bool) (q : Cidr) → is_le (prefix_cmp q p) ≡ b → is_le (prefix_cmp p (around addr len)) ≡ true → is_le (prefix_cmp q (around addr len)) ≡ false → b ≡ false
+          on false q e up past = refl
+          on true q e up past = let far : is_le (prefix_cmp q (around addr len)) ≡ true = upto_upto q p (around addr len) e up in absurd cc
+
+          behind : (k : ℕ) (d : A) → to ≤ k → k < length rows → is_le (prefix_cmp (pre (get_or rows k d)) p) ≡ false
+          behind k d le lt = on (is_le (prefix_cmp (pre (get_or rows k d)) p)) (pre (get_or rows k d)) refl (last_upto d) (s.point.1 k d le lt)
+
+      -- its rows are those of the longest prefix
+      pub last_rows : A → Covers p addr → (from n : ℕ) → places_from (λ row. same_prefix (pre row) p) 0 rows ≡ range_with_len from n → longest (map pre rows) addr ≡ range_with_len from n
+      last_rows d cover from n places =
+          let ok = last_valid d in
+          let whole : p ≡ around addr p.len = same_prefix_is p (around addr p.len) (covering_is_around p addr p.len ok (eq-eqb (addr / size_of p.len) (p.base / size_of p.len) cover) refl) in
+          found rows p.len from n ok.within s.valid (last_longest cover) (subst (λ (q : Cidr). places_from (λ row. same_prefix (pre row) q) 0 rows ≡ range_with_len from n) whole places) (some n places)
+        where
+          some : (n : ℕ) → places_from (λ row. same_prefix (pre row) p) 0 rows ≡ range_with_len from n → 0 < n
+          some (suc n) e = omega arith
+          some zero e =
+              let other : same_prefix (pre (get_or rows (to - 1) d)) p ≡ false = none_by_places (λ row. same_prefix (pre row) p) 0 rows e (to - 1) d last.there in
+              let same : same_prefix (pre (get_or rows (to - 1) d)) p ≡ true = ap (λ (q : Cidr). same_prefix q p) (last.is d) ∙ same_itself p in
+              absurd cc

@@ -1,17 +1,13 @@
 -- The stable table that is computed is the one that is defined.
-use Rattle.std.proofs.Common.{◌≡◌, ℕ, zero, suc, ◌+◌, ◌<◌, ◌≤◌, Bool, true, false, cond, List, Option, Some, None, refl, sym, ap, subst, ◌∙◌, arith, inl, inr}
-use Rattle.std.specs.Option.{option_map, MatchOption}
+use Rattle.std.proofs.Common.{◌≡◌, ℕ, zero, suc, ◌+◌, ◌≤◌, Bool, true, false, cond, List, Option, Some, None, refl, sym, ap, subst, ◌∙◌, arith, inl, inr}
+use Rattle.std.specs.Option.{MatchOption}
 use Rattle.std.proofs.lemmas.Bool.{cases_lt}
 use Rattle.nc_types.specs.Config.{ConfigView}
 use Rattle.nc_tables.specs.declared.base.BaseRow.{BaseRow}
 use Rattle.nc_tables.specs.declared.bgp.SessionRow.{SessionRow}
-use Rattle.nc_tables.specs.Base.{base_tables}
-use Rattle.nc_tables.specs.Sessions.{sessions}
-use Rattle.nc_tables.specs.Rounds.{BgpRowView, no_routes, round, after, IsSettled, IsStable, IsUnstable}
-use Rattle.nc_tables.specs.State.{BeginNothing, state_at, static_state}
-use Rattle.nc_tables.specs.Settling.{same_table, settled_from, settled_table, settled}
+use Rattle.nc_tables.specs.Rounds.{BgpRowView, round, after, IsSettled, IsStable, IsUnstable}
+use Rattle.nc_tables.specs.Settling.{same_table, settled_from, settled_table}
 use Rattle.nc_tables.proofs.SameTables.{table_is, table_itself}
-use Rattle.nc_tables.proofs.WithoutRoutes.{round_is, no_routes_is}
 
 module _ (routers : List ConfigView) (tables : List (List BaseRow)) (sessions : List (List SessionRow)) where
   abbrev At : ℕ → Option (List (List BgpRowView)) → Type 0
@@ -68,20 +64,3 @@ module _ (routers : List ConfigView) (tables : List (List BaseRow)) (sessions : 
           let high = one_count rounds table other is found in
           let same : found.count ≡ is.count = omega arith in
           ap Some (found.state ∙ ap (after routers tables sessions) same ∙ sym is.state)
-
-module _ (routers : List ConfigView) (none : BeginNothing routers) where
-  pub without_routes : (rounds : ℕ) → 0 < rounds → settled rounds routers ≡ Some (static_state routers)
-  unfolding settled settled_from static_state
-  without_routes zero some = absurd (omega arith)
-  without_routes (suc rounds) some =
-      ap (option_map (state_at routers))
-      (ap (λ b. cond b (Some (no_routes routers)) (settled_from routers base established rounds (round routers base established (no_routes routers)))) same)
-    where
-      base : List (List BaseRow)
-      base = base_tables routers
-
-      established : List (List SessionRow)
-      established = sessions routers base
-
-      same : same_table (round routers base established (no_routes routers)) (no_routes routers) ≡ true
-      same = ap (λ t. same_table t (no_routes routers)) (round_is routers none base established (no_routes routers) ∙ sym (no_routes_is routers)) ∙ table_itself (no_routes routers)

@@ -1,5 +1,5 @@
 -- Items in order of their prefixes: those of one prefix stand side by side.
-use Rattle.std.proofs.Common.{◌≡◌, ℕ, zero, suc, ◌+◌, ◌-◌, ◌<◌, ◌≤◌, Bool, true, false, cond, not, List, [], ◌∷◌, length, get_or, refl, ap, ◌∙◌, arith, inl, inr}
+use Rattle.std.proofs.Common.{◌≡◌, ℕ, zero, suc, ◌+◌, ◌-◌, ◌<◌, ◌≤◌, Bool, true, false, cond, not, List, [], ◌∷◌, length, get_or, refl, sym, ap, ◌∙◌, arith, inl, inr}
 use Rattle.std.specs.List.{AllWithin, range_with_len}
 use Rattle.std.specs.List.Sorted.{IsPartitionPoint, IsPartitionedBy, IsSortedByKey}
 use Rattle.std.specs.Cmp.{IsTotalOrder}
@@ -31,8 +31,22 @@ le_is Less = refl
 le_is Equal = refl
 le_is Greater = refl
 
+no_gt : (o : Ordering) → is_le o ≡ true → is_gt o ≡ false
+no_gt Less e = refl
+no_gt Equal e = refl
+no_gt Greater e = absurd cc
+
+pub by_no_gt : (o : Ordering) → is_gt o ≡ false → is_le o ≡ true
+by_no_gt Less e = refl
+by_no_gt Equal e = refl
+by_no_gt Greater e = absurd cc
+
 pub same_by_cmp : (q p : Cidr) → same_prefix q p ≡ is_eq (prefix_cmp q p)
 same_by_cmp q p = grind (arith, nat_tests)
+
+pub upto_upto : (q p r : Cidr) → is_le (prefix_cmp q p) ≡ true → is_le (prefix_cmp p r) ≡ true → is_le (prefix_cmp q r) ≡ true
+upto_upto q p r first second =
+    le_is (prefix_cmp q r) ∙ ap not (upto prefix_total q p r (no_gt (prefix_cmp q p) first) (no_gt (prefix_cmp p r) second))
 
 -- what a comparison with the prefix says of an item
 below_not : (o : Ordering) → is_lt o ≡ true → is_eq o ≡ false
@@ -73,6 +87,12 @@ places_between test (row ∷ rows) place (suc from) (suc to) le within before he
     ∙ places_between test rows (place + 1) from to (omega arith) (omega arith) (λ k d lo hi. before (suc k) d (omega arith) (omega arith)) (λ k d lo hi. here (suc k) d (omega arith) (omega arith)) (λ k d lo hi. after (suc k) d (omega arith) (omega arith))
     ∙ (let e1 : (place + 1) + from ≡ place + suc from = omega arith in let e2 : suc to - suc from ≡ to - from = omega arith in rw (e1, e2) refl)
 
+-- an item at a place is the same by any default
+pub same_at : {A : Type 0} (xs : List A) (k : ℕ) (d e : A) → k < length xs → get_or xs k d ≡ get_or xs k e
+same_at [] k d e lt = absurd (omega arith)
+same_at (x ∷ xs) zero d e lt = refl
+same_at (x ∷ xs) (suc k) d e lt = same_at xs k d e (omega arith)
+
 module _ {A : Type 0} (pre : A → Cidr) where
   -- the prefixes of items don't fall
   abbrev pub Rises : List A → Type 0
@@ -97,11 +117,61 @@ module _ {A : Type 0} (pre : A → Cidr) where
     upto_first p i j d le lt within =
         let last : is_gt (prefix_cmp (pre (get_or rows j d)) p) ≡ false = no_gt (prefix_cmp (pre (get_or rows j d)) p) within in
         le_is (prefix_cmp (pre (get_or rows i d)) p) ∙ ap not (upto prefix_total (pre (get_or rows i d)) (pre (get_or rows j d)) p (rising i j d le lt) last)
+
+  module _ (rows : List A) where
+    -- behind an item of a later prefix all are of later ones
+    pub behind_from : Rises rows → (p : Cidr) (at : ℕ) (row : A) → at < length rows → row ≡ get_or rows at row → is_le (prefix_cmp (pre row) p) ≡ false → AllWithin (λ x. is_le (prefix_cmp (pre x) p) ≡ false) rows at (length rows)
+    behind_from rising p at row lt is past k d lo hi = on (is_le (prefix_cmp (pre (get_or rows k d)) p)) refl
       where
-        no_gt : (o : Ordering) → is_le o ≡ true → is_gt o ≡ false
-        no_gt Less e = refl
-        no_gt Equal e = refl
-        no_gt Greater e = absurd cc
+        on : (b : Bool) → is_le (prefix_cmp (pre (get_or rows k d)) p) ≡ b → is_le (prefix_cmp (pre (get_or rows k d)) p) ≡ false
+        on false e = e
+        on true e =
+            let near : is_le (prefix_cmp (pre (get_or rows at d)) p) ≡ true = upto_first rows rising p at k d lo hi e in
+            let here : is_le (prefix_cmp (pre (get_or rows at d)) p) ≡ false = ap (λ (x : A). is_le (prefix_cmp (pre x) p)) (same_at rows at d row lt ∙ sym is) ∙ past in
+            absurd cc
+
+    -- one more item of no later prefix
+    pub one_more : (p : Cidr) (at : ℕ) (row : A) → at < length rows → row ≡ get_or rows at row → is_le (prefix_cmp (pre row) p) ≡ true → AllWithin (λ x. is_le (prefix_cmp (pre x) p) ≡ true) rows zero at → AllWithin (λ x. is_le (prefix_cmp (pre x) p) ≡ true) rows zero (at + 1)
+    one_more p at row lt is here before k d lo hi = elim (cases_lt k at) [
+      | inl less ↦ before k d lo less
+      | inr le ↦
+          let same : k ≡ at = omega arith in
+          ap (λ (n : ℕ). is_le (prefix_cmp (pre (get_or rows n d)) p)) same ∙ ap (λ (x : A). is_le (prefix_cmp (pre x) p)) (same_at rows at d row lt ∙ sym is) ∙ here
+    ]
+
+  -- the first place of the items of a prefix, by the place behind them
+  module _ (rows : List A) (rising : Rises rows) (p : Cidr) (to : ℕ) (in_to : to ≤ length rows)
+      (last : IsPartitionPoint (λ row. is_le (prefix_cmp (pre row) p) ≡ true) (λ row. is_le (prefix_cmp (pre row) p) ≡ false) rows to) where
+    pub first_is : (place : ℕ) → place ≤ to → AllWithin (λ row. same_prefix (pre row) p ≡ false) rows (place - 1) place → AllWithin (λ row. same_prefix (pre row) p ≡ true) rows place to
+        → IsPartitionPoint (λ row. is_lt (prefix_cmp (pre row) p) ≡ true) (λ row. is_lt (prefix_cmp (pre row) p) ≡ false) rows place
+    first_is place within other same = (before, behind)
+      where
+        less : (o : Ordering) → is_le o ≡ true → is_eq o ≡ false → is_lt o ≡ true
+        less Less e f = refl
+        less Equal e f = absurd cc
+        less Greater e f = absurd cc
+
+        no_less_than : (o : Ordering) → is_eq o ≡ true → is_lt o ≡ false
+        no_less_than Less e = absurd cc
+        no_less_than Equal e = refl
+        no_less_than Greater e = absurd cc
+
+        greater : (o : Ordering) → is_le o ≡ false → is_lt o ≡ false
+        greater Less e = absurd cc
+        greater Equal e = refl
+        greater Greater e = refl
+
+        before : (k : ℕ) (d : A) → 0 ≤ k → k < place → is_lt (prefix_cmp (pre (get_or rows k d)) p) ≡ true
+        before k d low high =
+            let o = prefix_cmp (pre (get_or rows (place - 1) d)) p in
+            let here : is_lt o ≡ true = less o (last.0 (place - 1) d (omega arith) (omega arith)) (sym (same_by_cmp (pre (get_or rows (place - 1) d)) p) ∙ other (place - 1) d (omega arith) (omega arith)) in
+            below_first rows rising p k (place - 1) d (omega arith) (omega arith) here
+
+        behind : (k : ℕ) (d : A) → place ≤ k → k < length rows → is_lt (prefix_cmp (pre (get_or rows k d)) p) ≡ false
+        behind k d le lt = elim (cases_lt k to) [
+          | inl inside ↦ no_less_than (prefix_cmp (pre (get_or rows k d)) p) (sym (same_by_cmp (pre (get_or rows k d)) p) ∙ same k d le inside)
+          | inr past ↦ greater (prefix_cmp (pre (get_or rows k d)) p) (last.1 k d past lt)
+        ]
 
   module _ (p : Cidr) (rows : List A) (from to : ℕ) (in_from : from ≤ length rows) (in_to : to ≤ length rows)
       (first : IsPartitionPoint (λ row. is_lt (prefix_cmp (pre row) p) ≡ true) (λ row. is_lt (prefix_cmp (pre row) p) ≡ false) rows from)

@@ -16,9 +16,9 @@ use Rattle.nc_tables.specs.Longest.{longest}
 use Rattle.nc_tables.specs.Reach.{reaches}
 use Rattle.nc_tables.specs.Policy.{verdict}
 use Rattle.nc_tables.specs.Choice.{choose, preference_cmp}
-use Rattle.nc_tables.specs.Rounds.{BgpRowView, after, message_at, accepted_at, is_active, prefixes}
+use Rattle.nc_tables.specs.Rounds.{BgpRowView, after, message_at, accepted_at, is_active, prefixes, no_routes}
 use Rattle.nc_tables.specs.Main.{main_table}
-use Rattle.nc_tables.specs.State.{state_at, static_state}
+use Rattle.nc_tables.specs.State.{state_at}
 use Rattle.nc_tables.specs.Settling.{settled, settled_from, settled_table, same_candidate, same_row, same_table}
 use Rattle.nc_tables.specs.Cases.{address, prefix, interface, neighbor, process, router, candidate, sessions_in, state}
 use Rattle.nc_tables.specs.CaseRoutes.{pair, dispute}
@@ -128,8 +128,8 @@ unstable = refl
 abbrev pub without : List ConfigView
 without = router (interface [] (address 172 16 0 1) (prefix 172 16 0 0 24) ∷ []) [] None [] [] ∷ []
 
-pub one_round : settled 1 without ≡ Some (static_state without)
-unfolding settled settled_from static_state
+pub one_round : settled 1 without ≡ Some (state_at without (no_routes without))
+unfolding settled settled_from
 one_round = refl
 
 pub no_round : settled 0 without ≡ None

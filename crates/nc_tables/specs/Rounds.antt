@@ -38,6 +38,10 @@ bgp_row_view r = record { prefix = r.prefix; chosen = r.chosen.items }
 abbrev pub is_longer_in : Cidr → Cidr → Bool
 is_longer_in p outer = nat_lt outer.len p.len && covers outer p.base
 
+-- a row of a longer prefix inside another has a chosen candidate
+abbrev pub has_longer : List BgpRowView → Cidr → Bool
+has_longer rows outer = list_any (λ row. is_longer_in row.prefix outer && nat_lt 0 (length row.chosen)) rows
+
 -- what each item makes at its place, the first of which has this place
 abbrev pub made_from : {A B : Type 0} → (ℕ → A → Option B) → ℕ → List A → List B
 made_from make place [] = []
@@ -73,7 +77,7 @@ module _ (table : List (List BgpRowView)) where
 
   -- an aggregate is active where a longer prefix inside it has a chosen candidate
   abbrev pub is_active : ℕ → AggregateStatement → Bool
-  is_active router a = list_any (λ row. is_longer_in row.prefix a.prefix && nat_lt 0 (length row.chosen)) (slice_index_or table router [])
+  is_active router a = has_longer (slice_index_or table router []) a.prefix
 
 -- ---- what a map makes of a route
 

@@ -1,5 +1,5 @@
 -- The state in which a network settles: its routers with all their tables.
-use Rattle.std.specs.Prelude.{◌≡◌, ℕ, ◌≤◌, List, [], length, All}
+use Rattle.std.specs.Prelude.{◌≡◌, ℕ, ◌≤◌, List, length, All}
 use Rattle.nc_types.specs.declared.TheConstants.{ROUTER_LIMIT}
 use Rattle.nc_types.specs.Config.{ConfigView}
 use Rattle.nc_types.specs.Joining.{IsValid}
@@ -8,7 +8,7 @@ use Rattle.nc_tables.specs.declared.bgp.SessionRow.{SessionRow}
 use Rattle.nc_tables.specs.declared.bgp.MainRow.{MainRow}
 use Rattle.nc_tables.specs.Base.{base_tables}
 use Rattle.nc_tables.specs.Sessions.{sessions}
-use Rattle.nc_tables.specs.Rounds.{BgpRowView, AreBgpRows, prefixes_in, no_routes, IsStable}
+use Rattle.nc_tables.specs.Rounds.{BgpRowView, AreBgpRows, IsStable}
 use Rattle.nc_tables.specs.Main.{main_tables}
 
 -- the routers of a network, and by router the rows of each table
@@ -38,11 +38,3 @@ pub record IsState (s : StateView) : Type 0 where
   pub rows : All AreBgpRows s.bgp
   pub rounds : ℕ
   pub stable : IsStable s.routers s.base s.sessions rounds s.bgp
-
--- no router begins a prefix of BGP: none has a network or an aggregate
-abbrev pub BeginNothing : List ConfigView → Type 0
-BeginNothing routers = All (λ c. prefixes_in c ≡ []) routers
-
--- the state of a network that begins no prefix of BGP: it has no route of it
-unfoldable pub static_state : List ConfigView → StateView
-static_state routers = state_at routers (no_routes routers)

@@ -9,8 +9,7 @@ ghost use Rattle.nc_tables.specs.Reach.{reaches};
 ghost use Rattle.nc_tables.specs.Rounds.{BgpRowView, IsStable, IsUnstable};
 ghost use Rattle.nc_tables.specs.Forwarding.{traces, all_trace};
 ghost use Rattle.nc_tables.specs.Levels.{is_in, reach_level, trace_level, all_trace_level};
-ghost use Rattle.nc_tables.specs.State.{BeginNothing, static_state};
-ghost use Rattle.nc_tables.specs.Settling.{settled_table, settled};
+ghost use Rattle.nc_tables.specs.Settling.{settled_table};
 
 /// Of a router with a number below that of the routers, reach and forwarding are told by levels. It does
 /// nothing: a caller that needs a law calls it.
@@ -49,9 +48,4 @@ pub fn settling_is_lawful()
         (sessions : List (List SessionRow)) (rounds : ℕ) (table : List (List BgpRowView))
         → IsStable routers tables sessions rounds table
         → settled_table routers tables sessions rounds ≡ Some table }
-
-    // Where no router begins a prefix of BGP, one round is enough.
-    ensures without_routes { (routers : List ConfigView) (rounds : ℕ) → BeginNothing routers
-        → 0 < rounds
-        → settled rounds routers ≡ Some (static_state routers) }
 {}

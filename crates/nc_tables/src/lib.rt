@@ -2,8 +2,8 @@
 //!
 //! A table has the rows of each router, in order: base rows, sessions, BGP rows or main rows. The crate makes a
 //! table of its rows and answers which rows are those of a prefix or of the longest prefix that covers an
-//! address, which session a neighbor statement has, and what is chosen of a prefix. `Stable` holds a network with
-//! all its tables. It stands on `nc_types`. Its contract promises that a table has exactly the rows that it was
+//! address, which session a neighbor statement has, what is chosen of a prefix, and whether a longer prefix inside
+//! another is chosen. `Stable` holds a network with all its tables. It stands on `nc_types`. Its contract promises that a table has exactly the rows that it was
 //! made of, that each look-up answers as its definition does, and that the tables of a `Stable` are those of its
 //! network. What the rows of a network are is said by the definitions in `specs/`, which the crates above are
 //! proved against: `Base` and `Reach` for base tables and where they lead, `Sessions`, `Policy`, `Choice` and
@@ -15,6 +15,7 @@
 
 mod base;
 mod bgp;
+mod inside;
 mod laws;
 mod longest;
 mod mains;
@@ -27,8 +28,9 @@ pub use base::{BaseFrom, BaseRow, BaseTables};
 pub use bgp::{
     BgpFrom, BgpRow, Chosen, MainFrom, MainRow, Path, Route, SessionRow, same_candidate, same_route,
 };
+pub use inside::is_longer_in;
 pub use laws::{levels_are_lawful, settling_is_lawful};
-pub use longest::Rows;
+pub use longest::{HasPrefix, Rows, rows_on};
 pub use mains::MainTables;
 pub use policy::{Names, Place};
 pub use routes::BgpTable;

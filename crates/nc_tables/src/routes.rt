@@ -3,11 +3,12 @@ ghost use Rattle.std.specs.List.{list_any};
 ghost use Rattle.nc_types.specs.Cidr.{Cidr};
 ghost use Rattle.nc_types.specs.declared.TheConstants.{MULTIPATH_LIMIT};
 ghost use Rattle.nc_tables.specs.Base.{same_prefix};
-ghost use Rattle.nc_tables.specs.Rounds.{bgp_row_view, chosen_at, chosen_in, no_routes, AreBgpRows};
+ghost use Rattle.nc_tables.specs.Rounds.{bgp_row_view, chosen_at, chosen_in, has_longer, no_routes, AreBgpRows};
 ghost use Rattle.nc_tables.specs.Edit.{put};
 
 use crate::bgp::{BgpRow, Chosen};
-use crate::longest::{HasPrefix, rows_at, rows_with};
+use crate::inside;
+use crate::longest::{HasPrefix, rows_at};
 use nc_types::{Network, Prefix, RouterId};
 use std::alloc::{AllocError, Global};
 use std::marker::Model;
@@ -142,10 +143,18 @@ impl BgpTable {
             ≡ list_any (λ row. same_prefix row.prefix prefix) (slice_index_or self.now router.0 []) }
     {
         let rows = self.rows(router);
-        let found = rows_with(rows, prefix);
-        if found.from == found.to {
-            return &[];
+        match rows.binary_search_by_key(&prefix, |row| row.prefix) {
+            Ok(place) => &rows[place].chosen,
+            Err(_) => &[],
         }
-        &rows[found.from].chosen
+    }
+
+    /// Whether a router, which has a number below that of the routers, has chosen candidates of a longer
+    /// prefix inside another. Takes one binary search and no memory.
+    pub fn has_longer(&self, router: RouterId, outer: Prefix) -> bool
+        requires { router.0 < length self.now }
+        ensures { result ≡ has_longer (slice_index_or self.now router.0 []) outer }
+    {
+        inside::has_longer(self.rows(router), outer)
     }
 }

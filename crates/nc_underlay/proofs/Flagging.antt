@@ -1,6 +1,6 @@
 -- Tests over numbers that follow one another.
-use Rattle.std.proofs.Common.{◌≡◌, ℕ, zero, suc, ◌+◌, ◌-◌, ◌<◌, ◌≤◌, Bool, true, false, cond, ◌&&◌, ◌||◌, List, [], ◌∷◌, ◌++◌, get_or, length, refl, sym, ap, ◌∙◌, arith}
-use Rattle.std.proofs.lemmas.Bool.{and_parts, and_from}
+use Rattle.std.proofs.Common.{◌≡◌, ℕ, zero, suc, ◌+◌, ◌-◌, ◌<◌, ◌≤◌, Bool, true, false, cond, ◌&&◌, ◌||◌, nat_lt, List, [], ◌∷◌, ◌++◌, get_or, length, refl, sym, ap, ◌∙◌, arith}
+use Rattle.std.proofs.lemmas.Bool.{and_parts, and_from, lt-ltb}
 use Rattle.std.specs.List.{list_any, range_with_len, filter}
 use Rattle.std.proofs.lemmas.List.Folds.{list_any-append, list_any_at}
 use Rattle.std.proofs.lemmas.List.FromFn.{length-range_with_len, get_or-range_with_len}
@@ -75,3 +75,12 @@ flagged_more flags test count more is = any_more (λ r. flag flags r && test r) 
 pub none_flagged : (flags : List Bool) (test : ℕ → Bool) → any_flagged flags test 0 ≡ false
 unfolding any_flagged
 none_flagged flags test = refl
+
+-- a filter keeps some exactly where one passes
+pub some_kept : {A : Type 0} (test : A → Bool) (xs : List A) → nat_lt 0 (length (filter test xs)) ≡ list_any test xs
+some_kept test [] = refl
+some_kept test (x ∷ xs) = by_test (test x) (some_kept test xs)
+  where
+    by_test : (b : Bool) → nat_lt 0 (length (filter test xs)) ≡ list_any test xs → nat_lt 0 (length (cond b (x ∷ filter test xs) (filter test xs))) ≡ (b || list_any test xs)
+    by_test true e = lt-ltb 0 (suc (length (filter test xs))) (omega arith)
+    by_test false e = e

@@ -1,8 +1,8 @@
 //! Where a row of a base table leads.
 
-ghost use Rattle.std.specs.Prelude.{◌≡◌, ◌<◌, IfSome, length};
+ghost use Rattle.std.specs.Prelude.{◌≡◌, ◌<◌, IfSome, length, nat_lt};
 ghost use Rattle.std.specs.Option.{option_map};
-ghost use Rattle.nc_tables.specs.Reach.{rows_of, is_hit, next_hop, exit_of, is_linked, exit_leads, leads_to, own_place};
+ghost use Rattle.nc_tables.specs.Reach.{rows_of, is_hit, hits, next_hop, exit_of, is_linked, exit_leads, leads_to, own_place};
 
 use nc_tables::{BaseFrom, BaseRow, BaseTables};
 use nc_types::{Addr, IfaceId, Network, RouterId};
@@ -38,6 +38,24 @@ pub fn is_hit(network: &Network, base: &BaseTables, router: RouterId, place: usi
         Some(row) => !matches!(row.from, BaseFrom::Null(_)),
         None => false,
     }
+}
+
+/// Whether some row of the longest prefix that covers an address, in a router's base table, doesn't discard; not
+/// where there is no such router.
+pub fn has_hit(network: &Network, base: &BaseTables, router: RouterId, addr: Addr) -> bool
+    requires { length base.now ≡ length network.now }
+    ensures { result ≡ nat_lt 0 (length (hits base.now router.0 addr.0)) }
+{
+    if (router.0 as usize) >= network.routers().len() {
+        return false;
+    }
+    let rows = base.longest(router, addr);
+    'rows: for place in rows.from..rows.to {
+        if is_hit(network, base, router, place) {
+            return true;
+        }
+    }
+    false
 }
 
 /// The next hop of the static route at a place of a router; `None` where it discards, and where there is no

@@ -1,30 +1,27 @@
-use Rattle.std.proofs.Common.{◌-◌, ◌≤◌, ◌++◌, ℕ, List, [], All, length, take, drop, slice_index_or, Option, sym, ap, subst, ◌∙◌}
+use Rattle.std.proofs.Common.{◌-◌, ◌≤◌, ◌++◌, List, length, map, sym, ap, subst, ◌∙◌}
 use Rattle.nc_types.specs.declared.TheConstants.{MULTIPATH_LIMIT}
-use Rattle.nc_tables.specs.declared.base.BaseRow.{BaseRow}
 use Rattle.nc_tables.specs.declared.bgp.Chosen.{Chosen}
 use Rattle.nc_tables.specs.declared.bgp.MainRow.{MainRow}
-use Rattle.nc_tables.specs.Main.{base_side, nearer}
-use Rattle.nc_tables.specs.Rounds.{BgpRowView}
-use Rattle.nc_main_rib.specs.Sides.{base_rows, bgp_rows, place_by}
+use Rattle.nc_tables.specs.Main.{nearer}
+use Rattle.nc_tables.specs.Rounds.{bgp_row_view}
+use Rattle.nc_tables.proofs.BgpRows.{by_prefix}
+use Rattle.nc_main_rib.specs.Sides.{base_in, bgp_rows}
 use Rattle.nc_main_rib.proofs.Parts.{base_is, few_chosen}
 use Rattle.nc_main_rib.proofs.tables.add_prefix.Goals as goal
 
+pub rows_on-bgp_found-requires-clause-ordered : goal.rows_on-bgp_found-requires-clause-ordered
+rows_on-bgp_found-requires-clause-ordered c = by_prefix c.args.bgp.now c.requires.rows
+
 pub add_rows-requires-clause-chosen : goal.add_rows-requires-clause-chosen
 add_rows-requires-clause-chosen c =
-    let few = subst (λ (l : List BgpRowView). All (λ (row : BgpRowView). length row.chosen ≤ MULTIPATH_LIMIT) l) c.rows-rows.ensures.rows c.rows-rows.ensures.valid.few in
-    subst (λ (l : List Chosen). length l ≤ MULTIPATH_LIMIT) (sym c.chosen-chosen.ensures.chosen) (few_chosen (slice_index_or c.args.bgp.now c.args.router.0 []) c.args.prefix few)
+    subst (λ (l : List Chosen). length l ≤ MULTIPATH_LIMIT) (sym (c.chosen_at-chosen.ensures c.args.prefix c.rows_on-bgp_found.ensures.rows)) (few_chosen (map bgp_row_view c.args.bgp.now) c.args.prefix c.requires.rows.few)
 
 pub returns-clause-rows : goal.returns-clause-rows
 returns-clause-rows c =
     let before = c.args.main.now.items in
     let prefix = c.args.prefix in
-    let from = c.rows_of-found.result.from in
-    let n = c.rows_of-found.result.to - from in
-    let side = base_side c.args.base.now c.args.router.0 prefix in
-    let discard = c.copied-discard.result in
-    let chosen = c.chosen-chosen.result.now in
+    let from = c.rows_on-base_found.result.from in
+    let n = c.rows_on-base_found.result.to - from in
     c.in_ok-add_rows.ensures
-    ∙ ap (λ (l : List BaseRow). before ++ nearer (base_rows prefix from (take n (drop from l))) (bgp_rows prefix discard chosen)) c.rows.ensures.rows
-    ∙ ap (λ (l : List MainRow). before ++ nearer l (bgp_rows prefix discard chosen)) (sym (base_is c.args.base.now c.args.router.0 prefix from n c.rows_of-found.ensures.rows))
-    ∙ ap (λ (o : Option ℕ). before ++ nearer side (bgp_rows prefix o chosen)) (c.copied-discard.ensures ∙ c.get.ensures.value)
-    ∙ ap (λ (l : List Chosen). before ++ nearer side (bgp_rows prefix (place_by c.args.discards.now prefix) l)) c.chosen-chosen.ensures.chosen
+    ∙ ap (λ (l : List MainRow). before ++ nearer l (bgp_rows prefix c.args.discard c.chosen_at-chosen.result.now)) (sym (base_is c.args.base.now prefix from n c.rows_on-base_found.ensures.rows))
+    ∙ ap (λ (l : List Chosen). before ++ nearer (base_in prefix c.args.base.now) (bgp_rows prefix c.args.discard l)) (c.chosen_at-chosen.ensures prefix c.rows_on-bgp_found.ensures.rows)

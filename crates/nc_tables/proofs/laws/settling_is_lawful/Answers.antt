@@ -1,4 +1,4 @@
-use Rattle.nc_tables.proofs.Settled.{found, stable_found, without_routes}
+use Rattle.nc_tables.proofs.Settled.{found, stable_found}
 use Rattle.nc_tables.proofs.laws.settling_is_lawful.Goals as goal
 
 pub returns-clause-found : goal.returns-clause-found
@@ -6,6 +6,3 @@ returns-clause-found c routers tables sessions rounds = found routers tables ses
 
 pub returns-clause-stable : goal.returns-clause-stable
 returns-clause-stable c routers tables sessions rounds table is = stable_found routers tables sessions rounds table is
-
-pub returns-clause-without_routes : goal.returns-clause-without_routes
-returns-clause-without_routes c routers rounds none some = without_routes routers none rounds some

@@ -3,7 +3,7 @@ use Rattle.std.proofs.lemmas.List.{length-map}
 use Rattle.nc_types.specs.Config.{config_view}
 use Rattle.nc_tables.specs.declared.bgp.BgpRow.{BgpRow}
 use Rattle.nc_tables.specs.Rounds.{bgp_row_view}
-use Rattle.nc_tables.proofs.WithoutRoutes.{all_empty, no_routes_is}
+use Rattle.nc_tables.proofs.NoRoutes.{all_empty, no_routes_is}
 use Rattle.nc_tables.proofs.routes.BgpTable.without_routes.Goals as goal
 
 pub returns : goal.returns

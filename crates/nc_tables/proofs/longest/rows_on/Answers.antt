@@ -1,0 +1,13 @@
+use Rattle.nc_tables.proofs.SideBySide.{ends_in_order, side_by_side}
+use Rattle.nc_tables.proofs.longest.rows_on.Goals as goal
+
+pub returns-clause-rows : goal.returns-clause-rows
+returns-clause-rows g c =
+    side_by_side g.R.HasPrefix.prefix_of c.args.prefix c.args.rows.now c.first_place-first.result c.next_behind-to.result c.first_place-first.ensures.bound c.next_behind-to.ensures.bound c.first_place-first.ensures.parts c.next_behind-to.ensures.parts
+
+pub returns-clause-ordered : goal.returns-clause-ordered
+returns-clause-ordered g c =
+    ends_in_order g.R.HasPrefix.prefix_of c.args.prefix c.args.rows.now c.first_place-first.result c.next_behind-to.result c.first_place-first.ensures.bound c.next_behind-to.ensures.bound c.first_place-first.ensures.parts c.next_behind-to.ensures.parts
+
+pub returns-clause-passed : goal.returns-clause-passed
+returns-clause-passed g c = c.next_behind-to.ensures.parts.0
