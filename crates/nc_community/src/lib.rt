@@ -9,17 +9,17 @@
 //! list of their numbers is a law in [`laws`].
 #![tactic(auto)]
 
+mod held;
 mod joining;
 pub mod laws;
 mod lists;
 mod set;
-mod setting;
 #[cfg(test)]
 mod tests;
 mod word;
 
+pub use held::Held;
 pub use joining::{gather, union};
 pub use lists::{decide, holds_all};
 pub use set::{CommunitySet, gathered, united};
-pub use setting::set_over;
 pub use word::read_community;

@@ -4,18 +4,19 @@ ghost use Rattle.std.specs.Prelude.{◌≡◌};
 ghost use Rattle.nc_types.specs.Communities as sets;
 ghost use Rattle.nc_types.specs.Setting.{deciding_community};
 
+use crate::held::Held;
 use nc_types::{Communities, CommunityList};
 
-/// Whether every member of a set is among these numbers.
-pub fn holds_all(held: &[u32], members: &Communities) -> bool
+/// Whether a route has every member of a set.
+pub fn holds_all(held: &Held, members: &Communities) -> bool
     ensures { result ≡ sets.holds_all held.now members.now }
 {
-    members.numbers().iter().all(|member| held.contains(member))
+    members.numbers().iter().all(|member| held.has(*member))
 }
 
 /// The entry of a community list that decides on a route with these communities, by its place: the
 /// first whose members it has all; `None` where there is none.
-pub fn decide(list: &CommunityList, held: &[u32]) -> Option<usize>
+pub fn decide(list: &CommunityList, held: &Held) -> Option<usize>
     ensures { result ≡ deciding_community held.now list.now.entries.items }
 {
     list.entries

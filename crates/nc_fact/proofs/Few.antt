@@ -1,23 +1,18 @@
--- The rows of a base table and the neighbor statements of a router can be numbered, and few routes of a prefix are chosen.
-use Rattle.std.proofs.Common.{◌≡◌, ℕ, ◌^◌, ◌<◌, ◌≤◌, Bool, true, false, cond, List, [], ◌∷◌, length, get_or, All, Option, Some, None, slice_get, slice_index_or, sym, ap, arith, inl, inr}
-use Rattle.std.specs.Borrow.{Bor}
+-- The rows of a base table can be numbered, and few routes of a prefix are chosen.
+use Rattle.std.proofs.Common.{◌≡◌, ℕ, ◌^◌, ◌<◌, ◌≤◌, Bool, true, false, cond, List, [], ◌∷◌, length, get_or, All, Some, slice_get, slice_index_or, ap, arith, inl, inr}
 use Rattle.std.specs.List.{find}
-use Rattle.std.specs.Option.{IfSome, option_map, option_map_or}
+use Rattle.std.specs.Option.{option_map_or}
 use Rattle.std.proofs.lemmas.Bool.{cases_lt}
 use Rattle.std.proofs.lemmas.List.{get_or_past}
 use Rattle.std.proofs.lemmas.List.Elements.{All-get_or, All-head, All-tail}
-use Rattle.std.proofs.lemmas.Option.{option_and_then_some}
 use Rattle.nc_types.specs.declared.TheConstants.{MULTIPATH_LIMIT}
-use Rattle.nc_types.specs.declared.config.Process.{Process}
 use Rattle.nc_types.specs.Cidr.{Cidr}
-use Rattle.nc_types.specs.Config.{ConfigView, process_view}
+use Rattle.nc_types.specs.Config.{ConfigView}
 use Rattle.nc_types.specs.WellFormed.{IsWellFormed}
 use Rattle.nc_types.specs.Network.{element_count}
 use Rattle.nc_types.proofs.Members.{all_in, in_by_get}
-use Rattle.nc_types.proofs.Few.{few_of_process, few_in_network}
 use Rattle.nc_tables.specs.Base.{same_prefix}
 use Rattle.nc_tables.specs.Rounds.{BgpRowView, AreBgpRows, chosen_in, chosen_at}
-use Rattle.nc_tables.specs.Sessions.{process_of}
 use Rattle.nc_tables.specs.State.{StateView, state_at, IsState}
 use Rattle.nc_tables.proofs.RowCount.{few_base_rows}
 use Rattle.nc_fact.specs.Facts.{base_rows}
@@ -51,9 +46,3 @@ module _ (s : StateView) (is : IsState s) (count : element_count s.routers < 2 ^
   few_rows router =
       let same = ap (λ (t : StateView). length (get_or t.base router [])) is.tables in
       omega (arith, same, few_base_rows s.routers is.valid count router)
-
-  pub few_neighbors : (router : ℕ) (o : Option (Bor Process)) → option_map (λ p. process_view p.now) o ≡ process_of s.routers router → IfSome o (λ p. length p.now.neighbors.items < 2 ^ 32)
-  few_neighbors router None e = tt
-  few_neighbors router (Some p) e =
-      option_and_then_some (λ (c : ConfigView). c.process) (slice_get s.routers router) (process_view p.now) (sym e) (λ c at own.
-      omega (arith, count, few_of_process c (process_view p.now) (formed_at s.routers is.valid.each router c at) own, few_in_network s.routers router c at))

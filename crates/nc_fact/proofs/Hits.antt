@@ -1,12 +1,12 @@
 -- The hits of an address, when the rows of the longest prefix that covers it stand side by side.
-use Rattle.std.proofs.Common.{◌≡◌, ℕ, ◌-◌, ◌<◌, ◌≤◌, ◌⊎◌, Bool, true, false, ◌&&◌, nat_eq, nat_lt, List, length, map, ap, ◌∙◌}
+use Rattle.std.proofs.Common.{◌≡◌, ℕ, ◌-◌, ◌<◌, ◌≤◌, ◌⊎◌, Bool, true, false, ◌&&◌, nat_eq, List, map, ap, ◌∙◌}
 use Rattle.std.specs.List.{list_any, range_with_len}
 use Rattle.nc_tables.specs.declared.base.BaseRow.{BaseRow}
 use Rattle.nc_tables.specs.Longest.{longest}
 use Rattle.nc_tables.specs.Reach.{is_hit, hits}
 use Rattle.nc_tables.specs.State.{StateView}
 use Rattle.nc_fact.specs.Facts.{base_rows}
-use Rattle.nc_fact.proofs.Places.{some_kept, among, in_range, not_in_range, and_true, and_false}
+use Rattle.nc_fact.proofs.Places.{among, in_range, not_in_range, and_true, and_false}
 
 module _ (s : StateView) (router addr from to : ℕ) (rows : longest (map (λ row. row.prefix) (base_rows s router)) addr ≡ range_with_len from (to - from)) where
   abbrev passes : ℕ → Bool
@@ -14,9 +14,6 @@ module _ (s : StateView) (router addr from to : ℕ) (rows : longest (map (λ ro
 
   abbrev places : List ℕ
   places = longest (map (λ (row : BaseRow). row.prefix) (base_rows s router)) addr
-
-  pub some_hit : nat_lt 0 (length (hits s.base router addr)) ≡ list_any (is_hit s.base router) (range_with_len from (to - from))
-  some_hit = some_kept passes places ∙ ap (list_any passes) rows
 
   the_hit : (row : ℕ) (b : Bool) → list_any (nat_eq row) (range_with_len from (to - from)) ≡ b → list_any (nat_eq row) (hits s.base router addr) ≡ (passes row && b)
   the_hit row b there = among passes row places ∙ ap (λ (ks : List ℕ). passes row && list_any (nat_eq row) ks) rows ∙ ap (λ (x : Bool). passes row && x) there

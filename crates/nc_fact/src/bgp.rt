@@ -12,7 +12,7 @@ ghost use Rattle.nc_fact.specs.Facts.{message_of, accepted_of, chosen_of};
 
 use crate::rows::{has_router, rows_of_prefix};
 use crate::statements::process_at;
-use nc_message::{Given, Sent, Taken, accepted_at, has_longer, message_at};
+use nc_message::{Given, Sent, Taken, accepted_at, message_at};
 use nc_policy::Policies;
 use nc_tables::{Chosen, Stable};
 use nc_types::{AggregateStatement, NetworkStatement, Prefix, RouterId};
@@ -30,6 +30,7 @@ fn given<'a>(state: &'a Stable, policies: &'a Policies) -> Given<'a>
         base: state.base(),
         sessions: state.sessions(),
         policies,
+        links: None,
     }
 }
 
@@ -76,7 +77,7 @@ fn is_active(state: &Stable, router: RouterId, aggregate: &AggregateStatement) -
     if !has_router(state, router) {
         return false;
     }
-    has_longer(state.bgp(), router, aggregate.prefix)
+    state.bgp().has_longer(router, aggregate.prefix)
 }
 
 /// Whether the aggregate statement at a place of a router is active.

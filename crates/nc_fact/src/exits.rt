@@ -21,13 +21,7 @@ pub fn is_hit(state: &Stable, router: RouterId, row: u32) -> bool
 pub(crate) fn has_hit(state: &Stable, router: RouterId, addr: Addr) -> bool
     ensures { result ≡ nat_lt 0 (length (hits state.now.base router.0 addr.0)) }
 {
-    let rows = longest_rows(state, router, addr);
-    'rows: for place in rows.from..rows.to {
-        if is_hit(state, router, place as u32) {
-            return true;
-        }
-    }
-    false
+    nc_underlay::has_hit(state.network(), state.base(), router, addr)
 }
 
 /// Whether the row at a place is of the longest prefix that covers an address, and doesn't discard.

@@ -12,9 +12,9 @@ use crate::bgp::{chosen_at, chosen_of};
 use crate::exits::next_hop;
 use crate::fact::Fact;
 use crate::rows::{base_rows, main_rows, main_rows_of};
-use crate::statements::place_for;
 use crate::truth::holds;
 use nc_policy::Policies;
+use nc_sessions::place_for;
 use nc_tables::{BaseFrom, MainFrom, MainRow, Stable};
 use nc_types::{Addr, Prefix, RouterId, TestCommand, Text};
 use std::alloc::{AllocError, Global};
@@ -143,7 +143,7 @@ fn asked_entry(
         ≡ filter (holds state.now) (asked_entry state.now router.0 prefix addr)) }
 {
     let mut facts = Vec::new(alloc);
-    if let Some(place) = place_for(state, router, addr) {
+    if let Some(place) = place_for(state.network(), router, addr) {
         let entry = Fact::Entry(router, place, prefix);
         if holds(state, policies, &entry) {
             facts.push(entry)?;
@@ -184,7 +184,7 @@ fn asked_session(
         ≡ filter (holds state.now) (asked_session state.now router.0 addr)) }
 {
     let mut facts = Vec::new(alloc);
-    if let Some(place) = place_for(state, router, addr) {
+    if let Some(place) = place_for(state.network(), router, addr) {
         let session = Fact::Session(router, place);
         if holds(state, policies, &session) {
             facts.push(session)?;

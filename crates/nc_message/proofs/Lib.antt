@@ -4,3 +4,4 @@ pub mod Making
 pub mod Picking
 pub mod Distinct
 pub mod Processes
+pub mod Ends

@@ -52,18 +52,6 @@ module _ {A : Type 0} (test : A → Bool) where
       on true more = grind (arith, nat_tests)
       on false more = more
 
-  -- as many are kept as have a place
-  kept_count : (k : ℕ) (xs : List A) → length (filter test xs) ≡ length (places_from test k xs)
-  kept_count k [] = refl
-  kept_count k (x ∷ xs) = on (test x) (kept_count (k + 1) xs)
-    where
-      on : (b : Bool) → length (filter test xs) ≡ length (places_from test (k + 1) xs) → length (cond b (x ∷ filter test xs) (filter test xs)) ≡ length (cond b (k ∷ places_from test (k + 1) xs) (places_from test (k + 1) xs))
-      on true same = omega arith
-      on false same = same
-
-  pub some_kept : (xs : List A) → nat_lt 0 (length (filter test xs)) ≡ list_any test xs
-  some_kept xs = ap (nat_lt 0) (kept_count 0 xs) ∙ sym (some_place 0 xs)
-
 -- something passes, where the places of what passes are these numbers
 pub placed_between : {A : Type 0} (test : A → Bool) (xs : List A) (from to : ℕ) → places_from test 0 xs ≡ range_with_len from (to - from) → nat_lt from to ≡ list_any test xs
 placed_between test xs from to places =

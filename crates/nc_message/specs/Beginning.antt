@@ -1,5 +1,5 @@
 -- The candidates of a prefix that a router itself begins, from whether its networks and its aggregates of the prefix hold.
-use Rattle.std.specs.Prelude.{ℕ, Bool, ◌&&◌, nat_lt, List, Some, None, length, if◌then◌else◌}
+use Rattle.std.specs.Prelude.{ℕ, Bool, ◌&&◌, List, Some, None, if◌then◌else◌}
 use Rattle.std.specs.List.{list_any}
 use Rattle.nc_types.specs.Cidr.{Cidr}
 use Rattle.nc_types.specs.declared.config.NetworkStatement.{NetworkStatement}
@@ -9,15 +9,11 @@ use Rattle.nc_tables.specs.declared.bgp.Chosen.{Chosen}
 use Rattle.nc_tables.specs.declared.bgp.BgpFrom.TheVariants.{Origin, Aggregate}
 use Rattle.nc_tables.specs.Base.{same_prefix}
 use Rattle.nc_tables.specs.Reach.{rows_of}
-use Rattle.nc_tables.specs.Rounds.{BgpRowView, begun, is_longer_in, made_from}
+use Rattle.nc_tables.specs.Rounds.{begun, made_from}
 
 -- the base table of a router has a row of the prefix
 abbrev pub has_base_row : List (List BaseRow) → ℕ → Cidr → Bool
 has_base_row tables router prefix = list_any (λ row. same_prefix row.prefix prefix) (rows_of tables router)
-
--- a row of a longer prefix inside another has a chosen candidate
-abbrev pub has_longer : List BgpRowView → Cidr → Bool
-has_longer rows outer = list_any (λ row. is_longer_in row.prefix outer && nat_lt 0 (length row.chosen)) rows
 
 -- the networks of a prefix, where these hold
 abbrev pub networks_of : Bool → Cidr → List NetworkStatement → List Chosen

@@ -1,17 +1,19 @@
 -- A network with its tables, from which is told what its routers learn.
-use Rattle.std.specs.Prelude.{◌≡◌, ℕ, List, length, Some, slice_get}
+use Rattle.std.specs.Prelude.{◌≡◌, ℕ, List, length, IfSome, Some, slice_get}
 use Rattle.nc_types.specs.Cidr.{Cidr}
 use Rattle.nc_types.specs.Config.{ConfigView}
 use Rattle.nc_tables.specs.Rounds.{Link}
 use Rattle.nc_tables.specs.declared.bgp.Chosen.{Chosen}
 use Rattle.nc_policy.specs.Indexes.{ArePolicies}
 use Rattle.nc_message.specs.declared.given.Given.{Given}
+use Rattle.nc_message.specs.Links.{AreLinks}
 
--- each router has a list of base rows and one of sessions, and the tables of its maps
+-- each router has a list of base rows and one of sessions, and the tables of its maps; where links are given they are those of the sessions
 pub record AreGiven (g : Given) : Type 0 where
   pub base : length g.base.now ≡ length g.network.now
   pub sessions : length g.sessions.now ≡ length g.network.now
   pub policies : ArePolicies g.network.now g.policies.now
+  pub links : IfSome g.links (λ l. AreLinks g.network.now g.base.now g.sessions.now l.now)
 
 -- both ends of a session are those of routers: the receiver of this one, the sender of the session's peer
 pub record IsBetween (routers : List ConfigView) (router : ℕ) (k : Link) : Type 0 where

@@ -1,3 +1,4 @@
 pub mod Given
+pub mod Links
 pub mod Views
 pub mod Beginning

@@ -1,11 +1,14 @@
 -- A message and what is accepted of it, as the definitions of BGP have them.
-use Rattle.std.specs.Prelude.{◌≡◌, ◌≤◌, length}
-use Rattle.nc_types.specs.declared.TheConstants.{PATH_LIMIT}
+use Rattle.std.specs.Prelude.{◌≡◌, ℕ, ◌≤◌, List, length, IfSome}
+use Rattle.nc_types.specs.declared.TheConstants.{COMMUNITY_LIMIT, PATH_LIMIT}
 use Rattle.nc_tables.specs.Rounds.{Link, Passed, Message, Accepted, outgoing, sent_over}
+use Rattle.nc_tables.specs.Sessions.{router_id}
+use Rattle.nc_tables.specs.declared.base.BaseRow.{BaseRow}
 use Rattle.nc_tables.specs.declared.bgp.Chosen.{Chosen}
 use Rattle.nc_policy.specs.Passing.{passing_view}
 use Rattle.nc_policy.specs.declared.passing.Passing.{Passing}
 use Rattle.nc_sessions.specs.Views.{link_view}
+use Rattle.nc_message.specs.Links.{IsSender}
 use Rattle.nc_message.specs.declared.messages.Sent.{Sent}
 use Rattle.nc_message.specs.declared.accepting.Taken.{Taken}
 
@@ -24,12 +27,20 @@ message_view s = message_by (link_view s.link) s.best.now s.out
 abbrev pub taken_view : Taken → Accepted
 taken_view t = record { message = message_view t.sent; into = passing_view (message_view t.sent).route t.into }
 
--- the set that is told is the communities of the route that is sent, and its path is within the limit
+-- the path of the route that is sent is within the limit, and so are its communities
 pub record IsTold (s : Sent) : Type 0 where
-  pub communities : s.communities ≡ (message_view s).route.communities
   pub short : length (message_view s).route.path ≤ PATH_LIMIT
+  pub few : length (message_view s).route.communities ≤ COMMUNITY_LIMIT
 
--- the set that is told is the communities of the route as the receiver's map let it pass, and its path is within the limit
+-- the same of the route as the receiver's map let it pass
 pub record IsTaken (t : Taken) : Type 0 where
-  pub communities : t.communities ≡ (taken_view t).into.route.communities
+  pub told : IsTold t.sent
   pub short : length (taken_view t).into.route.path ≤ PATH_LIMIT
+  pub few : length (taken_view t).into.route.communities ≤ COMMUNITY_LIMIT
+
+-- where something is known of the sender of a message to a router, it is so; and its router id alone
+abbrev pub IsKnown : List (List BaseRow) → ℕ → Sent → Type 0
+IsKnown tables router s = IfSome s.sender (IsSender tables router (link_view s.link))
+
+abbrev pub HasId : Sent → Type 0
+HasId s = IfSome s.sender (λ d. d.id.0 ≡ router_id (link_view s.link).sender.config)

@@ -1,30 +1,30 @@
 //! What is accepted of a message.
 
-ghost use Rattle.std.specs.Prelude.{◌≡◌, ◌==◌, ◌&&◌, ◌<◌, not, IfSome, Some, length, slice_get};
+ghost use Rattle.std.specs.Prelude.{◌≡◌, ◌==◌, ◌&&◌, ◌<◌, not, nat_lt, IfSome, length};
 ghost use Rattle.std.specs.List.{list_any};
 ghost use Rattle.std.specs.Option.{option_map};
+ghost use Rattle.nc_tables.specs.Base.{is_own};
 ghost use Rattle.nc_tables.specs.Choice.{is_learnt};
-ghost use Rattle.nc_tables.specs.Rounds.{accepted_at, accepted_of, has_own_hop, is_looped};
-ghost use Rattle.nc_message.specs.Given.{AreGiven};
-ghost use Rattle.nc_message.specs.Views.{message_view, taken_view, IsTold, IsTaken};
+ghost use Rattle.nc_tables.specs.Reach.{hits};
+ghost use Rattle.nc_tables.specs.Rounds.{accepted_at, accepted_of, is_looped};
+ghost use Rattle.nc_sessions.specs.Views.{link_view};
+ghost use Rattle.nc_message.specs.Given.{AreGiven, IsBetween};
+ghost use Rattle.nc_message.specs.Views.{message_view, taken_view, IsKnown, IsTold, IsTaken};
 
 use crate::given::Given;
-use crate::messages::{Sent, message_at, sent_length};
-use crate::rows::has_hit;
-use nc_community::CommunitySet;
+use crate::messages::{Sent, carried, message_at, sent_length};
+use crate::rows::is_own;
 use nc_policy::Passing;
 use nc_sessions::Link;
 use nc_tables::{BgpFrom, BgpTable};
 use nc_types::{Addr, Prefix, RouterId};
-use nc_underlay::own_interface;
+use nc_underlay::has_hit;
 
 /// A message that is accepted, and how its route passed the receiver's neighbor statement.
-#[derive(Drop)]
+#[derive(Clone, Copy)]
 pub struct Taken<'a> {
     pub sent: Sent<'a>,
     pub into: Passing<'a>,
-    /// The communities that the route has then.
-    pub communities: CommunitySet,
 }
 
 // Whether a number is among others.
@@ -79,41 +79,60 @@ pub fn next_hop(sent: &Sent) -> Addr
     }
 }
 
-// Whether an address is that of one of the router's own interfaces that are up.
-fn is_own(given: &Given, router: RouterId, sent: &Sent) -> bool
-    requires { slice_get given.now.network.now router.0
-        ≡ Some (message_view sent.now).link.receiver.config }
-    ensures { result ≡ has_own_hop (message_view sent.now) }
+// Whether an address is that of one of the receiver's own interfaces that are up. Of the address
+// from which the sender starts it may be known.
+fn is_own_hop(given: &Given, router: RouterId, sent: &Sent, hop: Addr) -> bool
+    requires between { IsBetween given.now.network.now router.0 (link_view sent.now.link) }
+    requires known { IsKnown given.now.base.now router.0 sent.now }
+    ensures { result ≡ is_own (link_view sent.now.link).receiver.config.interfaces hop.0 }
 {
-    own_interface(given.network, router, next_hop(sent)).is_some()
+    match sent.sender {
+        Some(sender) if hop == sent.link.source => sender.is_own,
+        _ => is_own(given.network, router, &sent.link, hop),
+    }
+}
+
+// Whether the receiver's base table leads to an address. Of that from which the sender starts it
+// may be known.
+fn is_resolved(given: &Given, router: RouterId, sent: &Sent, hop: Addr) -> bool
+    requires given { AreGiven given.now }
+    requires between { IsBetween given.now.network.now router.0 (link_view sent.now.link) }
+    requires known { IsKnown given.now.base.now router.0 sent.now }
+    ensures { result ≡ nat_lt 0 (length (hits given.now.base.now router.0 hop.0)) }
+{
+    match sent.sender {
+        Some(sender) if hop == sent.link.source => sender.is_reached,
+        _ => has_hit(given.network, given.base, router, hop),
+    }
 }
 
 // What is accepted of a message to a router.
 fn accepted_of<'a>(given: &Given<'a>, router: RouterId, sent: Sent<'a>) -> Option<Taken<'a>>
     requires given { AreGiven given.now }
-    requires receiver { slice_get given.now.network.now router.0
-        ≡ Some (message_view sent).link.receiver.config }
+    requires between { IsBetween given.now.network.now router.0 (link_view sent.link) }
+    requires known { IsKnown given.now.base.now router.0 sent }
     requires told { IsTold sent }
     ensures accepted { option_map taken_view result
         ≡ accepted_of given.now.base.now router.0 (message_view sent.entry) }
     ensures best { IfSome result (λ t. t.sent.best.now ≡ sent.entry.best.now) }
+    ensures known { IfSome result (λ t. IsKnown given.now.base.now router.0 t.sent) }
     ensures taken { IfSome result IsTaken }
 {
-    if is_looped(&sent) || is_own(given, router, &sent) {
+    let hop = next_hop(&sent);
+    if is_looped(&sent) || is_own_hop(given, router, &sent, hop) {
         return None;
     }
-    if !has_hit(given.network, given.base, router, next_hop(&sent)) {
+    if !is_resolved(given, router, &sent, hop) {
         return None;
     }
     let prefix = sent.best.route.prefix;
     let count = sent_length(sent.link.session.internal, sent.best, &sent.out);
     let map = &sent.link.receiver.statement.map_in;
-    let into = given.policies.pass(given.network, router, map, prefix, count, &sent.communities)?;
-    Some(Taken {
-        sent,
-        into: into.passing,
-        communities: into.communities,
-    })
+    let held = carried(&sent);
+    let into = given
+        .policies
+        .pass(given.network, router, map, prefix, count, &held)?;
+    Some(Taken { sent, into })
 }
 
 /// What a router accepts of the message to the neighbor statement at a place for a prefix, as
@@ -134,6 +153,7 @@ pub fn accepted_at<'a>(
         ≡ accepted_at given.now.network.now given.now.base.now given.now.sessions.now table.now
         router.0 place prefix }
     ensures own { IfSome result (λ t. t.sent.best.now.route.prefix ≡ prefix) }
+    ensures known { IfSome result (λ t. IsKnown given.now.base.now router.0 t.sent) }
     ensures taken { IfSome result IsTaken }
 {
     let sent = message_at(given, table, router, place, prefix)?;

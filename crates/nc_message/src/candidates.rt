@@ -6,14 +6,14 @@ ghost use Rattle.std.specs.List.{AllPairs};
 ghost use Rattle.nc_types.specs.Config.{process_view};
 ghost use Rattle.nc_types.specs.WellFormed.{IsProcess};
 ghost use Rattle.nc_tables.specs.Base.{same_prefix};
-ghost use Rattle.nc_tables.specs.Rounds.{begun, candidates_at, entry_at, made_from};
+ghost use Rattle.nc_tables.specs.Rounds.{begun, candidates_at, entry_at, has_longer, made_from};
 ghost use Rattle.nc_tables.specs.Sessions.{process_of};
-ghost use Rattle.nc_message.specs.Beginning.{has_base_row, has_longer, networks_of, aggregates_of};
+ghost use Rattle.nc_message.specs.Beginning.{has_base_row, networks_of, aggregates_of};
 ghost use Rattle.nc_message.specs.Given.{AreGiven, IsOf};
 
 use crate::entries::entry;
 use crate::given::Given;
-use crate::rows::{has_longer, has_row};
+use crate::rows::has_row;
 use nc_tables::{BgpFrom, BgpTable, Chosen, Path, Route};
 use nc_types::{
     Addr, Communities, DEFAULT_PREFERENCE, Neighbor, OriginCode, Prefix, Process, RouterId,
@@ -143,7 +143,7 @@ fn add_aggregate(
     let Some(place) = aggregate_of(given, router, process, prefix) else {
         return Ok(());
     };
-    if !has_longer(table, router, prefix) {
+    if !table.has_longer(router, prefix) {
         return Ok(());
     }
     add_begun(alloc, candidates, prefix, BgpFrom::Aggregate(place as u32))?;

@@ -5,18 +5,15 @@ ghost use Rattle.std.specs.List.{filter_map, IsDistinct};
 ghost use Rattle.nc_types.specs.Config.{process_view};
 ghost use Rattle.nc_types.specs.declared.TheConstants.{MULTIPATH_LIMIT};
 ghost use Rattle.nc_types.specs.WellFormed.{IsProcess};
-ghost use Rattle.nc_tables.specs.Base.{base_tables};
 ghost use Rattle.nc_tables.specs.Rounds.{candidates_at, chosen_anew, chosen_by};
 ghost use Rattle.nc_tables.specs.Sessions.{process_of};
-ghost use Rattle.nc_policy.specs.Indexes.{ArePolicies};
 ghost use Rattle.nc_message.specs.Given.{AreGiven};
 
 use crate::candidates::{begun, candidates};
 use crate::given::Given;
-use nc_policy::Policies;
 use nc_select::choose;
-use nc_tables::{BaseTables, BgpFrom, BgpTable, Chosen, Sessions};
-use nc_types::{Network, Prefix, Process, RouterId};
+use nc_tables::{BgpFrom, BgpTable, Chosen};
+use nc_types::{Prefix, Process, RouterId};
 use std::alloc::{AllocError, Global};
 use std::mem;
 
@@ -81,34 +78,24 @@ fn chosen_by(
 /// Memory that runs out.
 pub fn chosen_anew(
     alloc: Global,
-    network: &Network,
-    base: &BaseTables,
-    sessions: &Sessions,
-    policies: &Policies,
+    given: &Given<'_>,
     table: &BgpTable,
     router: RouterId,
     prefix: Prefix,
 ) -> Result<Vec<Chosen>, AllocError>
-    requires base { base.now ≡ base_tables network.now }
-    requires sessions { length sessions.now ≡ length network.now }
-    requires policies { ArePolicies network.now policies.now }
-    requires table { length table.now ≡ length network.now }
-    requires router { router.0 < length network.now }
+    requires given { AreGiven given.now }
+    requires table { length table.now ≡ length given.now.network.now }
+    requires router { router.0 < length given.now.network.now }
     ensures chosen { IfOk result (λ chosen. chosen.items
-        ≡ chosen_anew network.now base.now sessions.now table.now router.0 prefix) }
+        ≡ chosen_anew given.now.network.now given.now.base.now given.now.sessions.now table.now
+        router.0 prefix) }
     ensures own { IfOk result (λ chosen. All (λ x. x.route.prefix ≡ prefix) chosen.items) }
     ensures few { IfOk result (λ chosen. length chosen.items ≤ MULTIPATH_LIMIT) }
 {
-    let given = Given {
-        network,
-        base,
-        sessions,
-        policies,
-    };
-    let _count = network.element_count();
-    let Some(process) = &network.routers()[router.0 as usize].process else {
+    let _count = given.network.element_count();
+    let Some(process) = &given.network.routers()[router.0 as usize].process else {
         return Ok(Vec::new(alloc));
     };
-    let chosen = chosen_by(alloc, &given, table, router, process, prefix)?;
+    let chosen = chosen_by(alloc, given, table, router, process, prefix)?;
     Ok(chosen)
 }

@@ -2,14 +2,17 @@
 
 ghost use Rattle.std.specs.Prelude.{◌≡◌, length, IfOk, IfSome};
 ghost use Rattle.nc_tables.specs.Rounds.{entry_at, learnt_from};
+ghost use Rattle.nc_tables.specs.Sessions.{router_id};
+ghost use Rattle.nc_sessions.specs.Views.{link_view};
 ghost use Rattle.nc_message.specs.Given.{AreGiven};
-ghost use Rattle.nc_message.specs.Views.{message_view, taken_view, IsTaken};
+ghost use Rattle.nc_message.specs.Views.{message_view, taken_view, HasId, IsTaken};
 
 use crate::accepting::{Taken, accepted_at, next_hop};
 use crate::given::Given;
+use crate::messages::{Sent, carried};
 use nc_sessions::router_id;
 use nc_tables::{BgpFrom, BgpTable, Chosen, Path, Route};
-use nc_types::{DEFAULT_PREFERENCE, OriginCode, Prefix, RouterId};
+use nc_types::{Addr, DEFAULT_PREFERENCE, OriginCode, Prefix, RouterId};
 use std::alloc::{AllocError, Global};
 
 // The path of a route as it is taken: what the receiver's map prepends, the sender's own number
@@ -67,9 +70,21 @@ fn origin_of(taken: &Taken) -> OriginCode
     taken.into.origin(sent.out.origin(sent.best.route.origin))
 }
 
+// The router id of the sender of a message, which may be known.
+fn sender_id(sent: &Sent) -> Addr
+    requires { HasId sent.now }
+    ensures { result.0 ≡ router_id (link_view sent.now.link).sender.config }
+{
+    match sent.sender {
+        Some(sender) => sender.id,
+        None => router_id(sent.link.sender.config),
+    }
+}
+
 // The candidate that is learnt by what was accepted over the neighbor statement at a place.
 fn learnt_from(alloc: Global, place: u32, taken: &Taken) -> Result<Chosen, AllocError>
-    requires { IsTaken taken.now }
+    requires taken { IsTaken taken.now }
+    requires sender { HasId taken.now.sent }
     ensures { IfOk result (λ learnt. learnt ≡ learnt_from place (taken_view taken.now)) }
 {
     let link = &taken.sent.link;
@@ -80,13 +95,13 @@ fn learnt_from(alloc: Global, place: u32, taken: &Taken) -> Result<Chosen, Alloc
         preference: preference_of(taken),
         metric: metric_of(taken),
         origin: origin_of(taken),
-        communities: taken.communities.communities(alloc)?,
+        communities: taken.into.communities_left(alloc, &carried(&taken.sent))?,
     };
     Ok(Chosen {
         route,
         from: BgpFrom::Entry(place),
         internal: link.session.internal,
-        sender_id: router_id(link.sender.config),
+        sender_id: sender_id(&taken.sent),
         sender: link.receiver.statement.addr,
     })
 }

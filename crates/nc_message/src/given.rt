@@ -3,9 +3,11 @@ ghost use Rattle.std.specs.Option.{option_map};
 ghost use Rattle.nc_tables.specs.Rounds.{link_at};
 ghost use Rattle.nc_sessions.specs.Views.{link_view};
 ghost use Rattle.nc_message.specs.Given.{AreGiven, IsBetween};
+ghost use Rattle.nc_message.specs.Links.{IsHeard};
 
+use crate::links::{Heard, Links};
 use nc_policy::Policies;
-use nc_sessions::{Link, link_at};
+use nc_sessions::link_at;
 use nc_tables::{BaseTables, Sessions};
 use nc_types::{Network, RouterId};
 
@@ -17,15 +19,24 @@ pub struct Given<'a> {
     pub base: &'a BaseTables,
     pub sessions: &'a Sessions,
     pub policies: &'a Policies,
+    /// What is known of the sessions, where it is asked again and again; without it the same is
+    /// found anew for each message.
+    pub links: Option<&'a Links<'a>>,
 }
 
-/// Both ends of the session of the neighbor statement at a place of a router.
-pub(crate) fn link_of<'a>(given: &Given<'a>, router: RouterId, place: u32) -> Option<Link<'a>>
+/// Both ends of the session of the neighbor statement at a place of a router, and what is known of
+/// its sender.
+pub(crate) fn link_of<'a>(given: &Given<'a>, router: RouterId, place: u32) -> Option<Heard<'a>>
     requires { AreGiven given.now }
-    ensures link { option_map link_view result
+    ensures link { option_map (λ h. link_view h.link) result
         ≡ link_at given.now.network.now given.now.sessions.now router.0 place }
     ensures between { IfSome result
-        (λ k. IsBetween given.now.network.now router.0 (link_view k)) }
+        (λ h. IsBetween given.now.network.now router.0 (link_view h.link)) }
+    ensures sender { IfSome result (IsHeard given.now.base.now router.0) }
 {
-    link_at(given.network, given.sessions, router, place)
+    if let Some(links) = given.links {
+        return links.get(router, place);
+    }
+    let link = link_at(given.network, given.sessions, router, place)?;
+    Some(Heard { link, sender: None })
 }

@@ -16,6 +16,7 @@ mod candidates;
 mod choosing;
 mod entries;
 mod given;
+mod links;
 mod messages;
 mod rows;
 
@@ -23,5 +24,5 @@ pub use accepting::{Taken, accepted_at, next_hop};
 pub use choosing::chosen_anew;
 pub use entries::entry;
 pub use given::Given;
+pub use links::{Heard, Links, Sender};
 pub use messages::{Sent, message_at};
-pub use rows::{has_longer, is_longer_in};

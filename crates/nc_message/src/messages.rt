@@ -1,32 +1,32 @@
 //! The message over a session for a prefix.
 
-ghost use Rattle.std.specs.Prelude.{◌≡◌, ◌+◌, ◌≤◌, ◌<◌, ◌&&◌, [], length, IfSome, Some, slice_get, if◌then◌else◌};
+ghost use Rattle.std.specs.Prelude.{◌≡◌, ◌+◌, ◌≤◌, ◌<◌, ◌&&◌, length, IfSome, Some, slice_get, if◌then◌else◌};
 ghost use Rattle.std.specs.Option.{option_map};
 ghost use Rattle.nc_types.specs.Config.{process_view};
-ghost use Rattle.nc_types.specs.declared.TheConstants.{PATH_LIMIT};
+ghost use Rattle.nc_types.specs.declared.TheConstants.{COMMUNITY_LIMIT, PATH_LIMIT};
 ghost use Rattle.nc_tables.specs.Rounds.{best_at, is_held_back, message_at, message_of, out_of};
 ghost use Rattle.nc_policy.specs.Passing.{communities_by, prepended_by};
 ghost use Rattle.nc_sessions.specs.Views.{link_view};
 ghost use Rattle.nc_message.specs.Given.{AreGiven, IsBetween};
-ghost use Rattle.nc_message.specs.Views.{message_view, message_by, out_view, IsTold};
+ghost use Rattle.nc_message.specs.Views.{message_view, message_by, out_view, IsKnown, IsTold};
 
 use crate::given::{Given, link_of};
-use crate::rows::is_longer_in;
-use nc_community::CommunitySet;
-use nc_policy::{PassedRoute, Passing};
+use crate::links::{Heard, Sender};
+use nc_community::Held;
+use nc_policy::Passing;
 use nc_sessions::Link;
-use nc_tables::{BgpTable, Chosen};
+use nc_tables::{BgpTable, Chosen, is_longer_in};
 use nc_types::{PATH_LIMIT, Prefix, Process, RouterId};
 
 /// A message: over which session, of which candidate of the sender, and how the candidate passed
 /// the sender's neighbor statement.
-#[derive(Drop)]
+#[derive(Clone, Copy)]
 pub struct Sent<'a> {
     pub link: Link<'a>,
+    /// What is known of the sender, where it was asked before.
+    pub sender: Option<Sender>,
     pub best: &'a Chosen,
     pub out: Passing<'a>,
-    /// The communities with which the route is sent.
-    pub communities: CommunitySet,
 }
 
 // The best candidate that a router has chosen of a prefix.
@@ -49,18 +49,18 @@ fn is_held_back(process: &Process, prefix: Prefix) -> bool
 }
 
 // How the best candidate passes the sender's statement for the receiver.
-fn out_of<'a>(given: &Given<'a>, link: &Link<'a>, best: &'a Chosen) -> Option<PassedRoute<'a>>
+fn out_of<'a>(given: &Given<'a>, link: &Link<'a>, best: &'a Chosen) -> Option<Passing<'a>>
     requires given { AreGiven given.now }
     requires sender { slice_get given.now.network.now link.now.session.peer.0
         ≡ Some (link_view link.now).sender.config }
-    ensures out { option_map (λ p. out_view (link_view link.now) best.now p.passing) result
+    ensures out { option_map (out_view (link_view link.now) best.now) result
         ≡ out_of (link_view link.now) best.now }
-    ensures communities { IfSome result
-        (λ p. p.communities ≡ communities_by p.passing best.now.route.communities) }
     ensures short { IfSome result
-        (λ p. length (prepended_by p.passing) + length best.now.route.path ≤ PATH_LIMIT) }
+        (λ p. length (prepended_by p) + length best.now.route.path ≤ PATH_LIMIT) }
+    ensures few { IfSome result
+        (λ p. length (communities_by p best.now.route.communities) ≤ COMMUNITY_LIMIT) }
 {
-    let held = CommunitySet::of(best.route.communities.numbers());
+    let held = Held::of(&best.route.communities);
     let count = best.route.path.numbers().len();
     let map = &link.sender.statement.map_out;
     let peer = link.session.peer;
@@ -80,28 +80,31 @@ pub(crate) fn sent_length(internal: bool, best: &Chosen, out: &Passing) -> usize
     if internal { length } else { 1 + length }
 }
 
-// The communities that are carried to a neighbor, where its statement says so.
-fn carried(send: bool, communities: CommunitySet) -> CommunitySet
-    ensures { result ≡ (if send then communities else []) }
+/// The communities with which the route of a message is sent: where the sender's statement says so,
+/// those that its map left.
+pub(crate) fn carried<'a>(sent: &Sent<'a>) -> Held<'a>
+    requires { IsTold sent.now }
+    ensures { result ≡ (message_view sent.now).route.communities }
 {
-    if send {
-        communities
-    } else {
-        CommunitySet::new()
+    if !sent.link.sender.statement.send_community {
+        return Held::none();
     }
+    sent.out.communities(&sent.best.route.communities)
 }
 
 // The message over a session of the sender's best candidate.
-fn message_of<'a>(given: &Given<'a>, link: Link<'a>, best: &'a Chosen) -> Option<Sent<'a>>
+fn message_of<'a>(given: &Given<'a>, heard: Heard<'a>, best: &'a Chosen) -> Option<Sent<'a>>
     requires given { AreGiven given.now }
-    requires sender { slice_get given.now.network.now link.session.peer.0
-        ≡ Some (link_view link).sender.config }
+    requires sender { slice_get given.now.network.now heard.link.session.peer.0
+        ≡ Some (link_view heard.link).sender.config }
     ensures message { option_map message_view result
-        ≡ message_of (link_view link.entry) best.entry.now }
-    ensures link { IfSome result (λ s. link_view s.link ≡ link_view link.entry) }
+        ≡ message_of (link_view heard.entry.link) best.entry.now }
+    ensures link { IfSome result (λ s. s.link ≡ heard.entry.link) }
+    ensures sender { IfSome result (λ s. s.sender ≡ heard.entry.sender) }
     ensures best { IfSome result (λ s. s.best.now ≡ best.entry.now) }
     ensures told { IfSome result IsTold }
 {
+    let Heard { link, sender } = heard;
     if is_held_back(link.sender.process, best.route.prefix) {
         return None;
     }
@@ -109,14 +112,14 @@ fn message_of<'a>(given: &Given<'a>, link: Link<'a>, best: &'a Chosen) -> Option
         return None;
     }
     let out = out_of(given, &link, best)?;
-    if sent_length(link.session.internal, best, &out.passing) > PATH_LIMIT {
+    if sent_length(link.session.internal, best, &out) > PATH_LIMIT {
         return None;
     }
     Some(Sent {
         link,
+        sender,
         best,
-        out: out.passing,
-        communities: carried(link.sender.statement.send_community, out.communities),
+        out,
     })
 }
 
@@ -142,9 +145,10 @@ pub fn message_at<'a>(
     ensures between { IfSome result
         (λ s. IsBetween given.now.network.now router.0 (link_view s.link)) }
     ensures own { IfSome result (λ s. s.best.now.route.prefix ≡ prefix) }
+    ensures sender { IfSome result (IsKnown given.now.base.now router.0) }
     ensures told { IfSome result IsTold }
 {
-    let link = link_of(given, router, place)?;
-    let best = best_at(table, link.session.peer, prefix)?;
-    message_of(given, link, best)
+    let heard = link_of(given, router, place)?;
+    let best = best_at(table, heard.link.session.peer, prefix)?;
+    message_of(given, heard, best)
 }

@@ -1,24 +1,16 @@
-//! What rows of tables say of a prefix or an address.
+//! What tables and interfaces say of a prefix or an address.
 
-ghost use Rattle.std.specs.Prelude.{◌≡◌, ◌<◌, [], length, nat_lt, slice_index_or};
+ghost use Rattle.std.specs.Prelude.{◌≡◌, ◌<◌, length};
 ghost use Rattle.std.specs.List.{list_any};
-ghost use Rattle.nc_types.specs.Cidr.{IsCidr};
-ghost use Rattle.nc_tables.specs.Base.{same_prefix};
-ghost use Rattle.nc_tables.specs.Reach.{hits, rows_of};
-ghost use Rattle.nc_tables.specs.Rounds.{is_longer_in};
-ghost use Rattle.nc_message.specs.Beginning.{has_longer};
+ghost use Rattle.nc_tables.specs.Base.{is_own, same_prefix};
+ghost use Rattle.nc_tables.specs.Reach.{rows_of};
+ghost use Rattle.nc_sessions.specs.Views.{link_view};
+ghost use Rattle.nc_message.specs.Given.{IsBetween};
 
-use nc_tables::{BaseTables, BgpTable};
+use nc_sessions::Link;
+use nc_tables::BaseTables;
 use nc_types::{Addr, Network, Prefix, RouterId};
-use nc_underlay::is_hit;
-
-/// Whether a prefix is a longer one inside another.
-pub fn is_longer_in(prefix: Prefix, outer: Prefix) -> bool
-    ensures longer { result ≡ is_longer_in prefix outer }
-    ensures valid { IsCidr prefix.base prefix.len }
-{
-    outer.len() < prefix.len() && outer.covers(prefix.addr())
-}
+use nc_underlay::own_interface;
 
 /// Whether a router's base table has a row of a prefix.
 pub(crate) fn has_row(base: &BaseTables, router: RouterId, prefix: Prefix) -> bool
@@ -30,33 +22,10 @@ pub(crate) fn has_row(base: &BaseTables, router: RouterId, prefix: Prefix) -> bo
     rows.from < rows.to
 }
 
-/// Whether some row by which a router sends to an address leads on.
-pub(crate) fn has_hit(network: &Network, base: &BaseTables, router: RouterId, addr: Addr) -> bool
-    requires router { router.0 < length base.now }
-    requires tables { length base.now ≡ length network.now }
-    ensures { result ≡ nat_lt 0 (length (hits base.now router.0 addr.0)) }
+/// Whether an address is that of one of the interfaces of a session's receiver that are up.
+pub(crate) fn is_own(network: &Network, router: RouterId, link: &Link, addr: Addr) -> bool
+    requires { IsBetween network.now router.0 (link_view link.now) }
+    ensures { result ≡ is_own (link_view link.now).receiver.config.interfaces addr.0 }
 {
-    let rows = base.longest(router, addr);
-    'rows: for place in rows.from..rows.to {
-        if is_hit(network, base, router, place) {
-            return true;
-        }
-    }
-    false
-}
-
-/// Whether a router has chosen candidates of a longer prefix inside another. The rows stand in order
-/// of prefix, so those of longer ones follow the outer one, and the first that follows it is inside
-/// if any is.
-pub fn has_longer(table: &BgpTable, router: RouterId, outer: Prefix) -> bool
-    requires { router.0 < length table.now }
-    ensures { result ≡ has_longer (slice_index_or table.now router.0 []) outer }
-{
-    let rows = table.rows(router);
-    let _len = outer.len();
-    let next = rows.partition_point(|row| row.prefix <= outer);
-    match rows.get(next) {
-        Some(row) => is_longer_in(row.prefix, outer),
-        None => false,
-    }
+    own_interface(network, router, addr).is_some()
 }

@@ -1,6 +1,6 @@
 -- What is made of a route, by the clause that decides.
 use Rattle.std.proofs.Common.{◌≡◌, ℕ, ◌-◌, ◌<◌, ◌≤◌, ◌++◌, Bool, true, false, cond, ◌||◌, nat_lt, List, length, Option, Some, None, refl, sym, ap, ◌∙◌, arith}
-use Rattle.std.specs.Option.{option_map_or}
+use Rattle.std.specs.Option.{is_some, option_map_or}
 use Rattle.std.proofs.lemmas.Bool.Decides.{nat_tests}
 use Rattle.std.proofs.lemmas.List.{length-append}
 use Rattle.nc_types.specs.Cidr.{Cidr}
@@ -70,37 +70,29 @@ module _ (k : ClauseView) (r : Route) where
       let long : nat_lt PATH_LIMIT (length (k.prepend ++ r.path)) ≡ true = (let over : PATH_LIMIT < length (k.prepend ++ r.path) = omega (arith, length-append k.prepend r.path) in grind (arith, nat_tests)) in
       sym (ap (λ (b : Bool). cond (b || nat_lt COMMUNITY_LIMIT (length s.communities)) None (Some s)) long)
 
-  pub too_full : (held : List ℕ) → r.communities ≡ held → None ≡ limited (set_all k.communities held) → None ≡ changed_by k r
+  pub too_full : (held : List ℕ) → r.communities ≡ held → is_some (limited (set_all k.communities held)) ≡ false → None ≡ changed_by k r
   too_full held is none =
       let s = set_by k r in
       let left = set_all k.communities r.communities in
-      let over : nat_lt COMMUNITY_LIMIT (length left) ≡ true = on (nat_lt COMMUNITY_LIMIT (length left)) left (none ∙ ap (λ (l : List ℕ). limited (set_all k.communities l)) (sym is)) in
+      let over : nat_lt COMMUNITY_LIMIT (length left) ≡ true = on (nat_lt COMMUNITY_LIMIT (length left)) left (ap (λ (l : List ℕ). is_some (limited (set_all k.communities l))) is ∙ none) in
       too_many (nat_lt PATH_LIMIT (length (k.prepend ++ r.path))) s (nat_lt COMMUNITY_LIMIT (length left)) over
     where
-      on : (b : Bool) (set : List ℕ) → None ≡ cond b None (Some set) → b ≡ true
+      on : (b : Bool) (set : List ℕ) → is_some (cond b None (Some set)) ≡ false → b ≡ true
       on true set e = refl
       on false set e = cc
 
-  pub not_over : (count : ℕ) (held set : List ℕ) → length r.path ≡ count → count ≤ PATH_LIMIT → length k.prepend ≤ PATH_LIMIT - count → r.communities ≡ held → Some set ≡ limited (set_all k.communities held)
+  pub not_over : (count : ℕ) (held : List ℕ) → length r.path ≡ count → count ≤ PATH_LIMIT → length k.prepend ≤ PATH_LIMIT - count → r.communities ≡ held → is_some (limited (set_all k.communities held)) ≡ true
       → Some (set_by k r) ≡ changed_by k r
-  not_over count held set is few fits same some =
+  not_over count held is few fits same some =
       let s = set_by k r in
       let left = set_all k.communities r.communities in
       let short : nat_lt PATH_LIMIT (length (k.prepend ++ r.path)) ≡ false = (let within : length (k.prepend ++ r.path) ≤ PATH_LIMIT = omega (arith, length-append k.prepend r.path) in grind (arith, nat_tests)) in
-      let enough : nat_lt COMMUNITY_LIMIT (length left) ≡ false = on (nat_lt COMMUNITY_LIMIT (length left)) left (some ∙ ap (λ (l : List ℕ). limited (set_all k.communities l)) (sym same)) in
+      let enough : nat_lt COMMUNITY_LIMIT (length left) ≡ false = on (nat_lt COMMUNITY_LIMIT (length left)) left (ap (λ (l : List ℕ). is_some (limited (set_all k.communities l))) same ∙ some) in
       sym (
       ap (λ (b : Bool). cond (b || nat_lt COMMUNITY_LIMIT (length left)) None (Some s)) short
       ∙ ap (λ (b : Bool). cond b None (Some s)) enough
       )
     where
-      on : (b : Bool) (l : List ℕ) → Some set ≡ cond b None (Some l) → b ≡ false
+      on : (b : Bool) (l : List ℕ) → is_some (cond b None (Some l)) ≡ true → b ≡ false
       on true l e = cc
       on false l e = refl
-
--- the same communities are left of the same ones
-pub left_of : (k : ClauseView) (held set : List ℕ) → Some set ≡ limited (set_all k.communities held) → set ≡ set_all k.communities held
-left_of k held set some = on (nat_lt COMMUNITY_LIMIT (length (set_all k.communities held))) (set_all k.communities held) some
-  where
-    on : (b : Bool) (l : List ℕ) → Some set ≡ cond b None (Some l) → set ≡ l
-    on true l e = cc
-    on false l e = cc

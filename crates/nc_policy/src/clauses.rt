@@ -12,6 +12,7 @@ ghost use Rattle.nc_policy.specs.Indexes.{place_from, IsIndexed};
 
 use crate::lists::{community_place, prefix_place};
 use crate::router_index::RouterIndex;
+use nc_community::Held;
 use nc_tables::{Names, Place};
 use nc_types::{Clause, Prefix, Reference, RouterConfig};
 
@@ -38,7 +39,7 @@ fn first_prefix_place(
 fn first_community_place(
     config: &RouterConfig,
     index: Option<&RouterIndex>,
-    held: &[u32],
+    held: &Held,
     references: &[Reference],
 ) -> Option<Place>
     requires indexed { IfSome index (λ x. IsIndexed (config_view config.now) x.now) }
@@ -77,7 +78,7 @@ fn prefixes_met(
 fn communities_met(
     config: &RouterConfig,
     index: Option<&RouterIndex>,
-    held: &[u32],
+    held: &Held,
     references: &[Reference],
 ) -> Option<Option<Place>>
     requires indexed { IfSome index (λ x. IsIndexed (config_view config.now) x.now) }
@@ -97,7 +98,7 @@ fn names_of(
     config: &RouterConfig,
     index: Option<&RouterIndex>,
     prefix: Prefix,
-    held: &[u32],
+    held: &Held,
     clause: &Clause,
 ) -> Option<Names>
     requires indexed { IfSome index (λ x. IsIndexed (config_view config.now) x.now) }
@@ -135,7 +136,7 @@ fn better<'a>(
     config: &'a RouterConfig,
     index: Option<&RouterIndex>,
     prefix: Prefix,
-    held: &[u32],
+    held: &Held,
     place: usize,
     best: Option<Candidate<'a>>,
 ) -> Option<Candidate<'a>>
@@ -213,7 +214,7 @@ pub(crate) fn deciding<'a>(
     index: Option<&RouterIndex>,
     map: &[u8],
     prefix: Prefix,
-    held: &[u32],
+    held: &Held,
 ) -> Option<Candidate<'a>>
     requires indexed { IfSome index (λ x. IsIndexed (config_view config.now) x.now) }
     requires formed { IsWellFormed (config_view config.now) }

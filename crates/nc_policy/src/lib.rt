@@ -5,8 +5,8 @@
 //! [`apply`] scans clauses and lists. [`Policies`] has tables of them, made once for a network: the
 //! clauses of a map are found one behind the other, a list by its name at one look-up, and the
 //! entry of a prefix list that decides at 33, however long the list is. [`pass`] tells the same
-//! without making the route and without memory: which clause let it pass, by which entries, and the
-//! communities that are left. The tables find the network and the aggregate of a prefix too.
+//! without making the route, without a set of communities and without memory: which clause let it
+//! pass, and by which entries. The tables find the network and the aggregate of a prefix too.
 //!
 //! The crate stands on `nc_types` for the configuration of a router, on `nc_tables` for routes and
 //! for the definition of what a map makes of one, and on `nc_community` for sets of communities.
@@ -25,6 +25,6 @@ mod setting;
 mod statements;
 
 pub use nc_tables::Place;
-pub use passing::{ByClause, PassedRoute, Passing, pass};
+pub use passing::{ByClause, Passing, pass};
 pub use policies::Policies;
 pub use route_map::{Verdict, apply};

@@ -12,7 +12,7 @@ ghost use Rattle.nc_policy.specs.Indexes.{IsIndexOf, IsIndexed};
 
 use crate::index::ListIndex;
 use crate::router_index::RouterIndex;
-use nc_community::decide;
+use nc_community::{Held, decide};
 use nc_tables::Place;
 use nc_types::{CommunityList, ListEntry, Prefix, PrefixList, Reference, RouterConfig};
 
@@ -53,7 +53,7 @@ fn permitting_prefix(list: &PrefixList, index: Option<&ListIndex>, prefix: Prefi
 }
 
 // The place of the entry by which a community list permits communities.
-fn permitting_community(list: &CommunityList, held: &[u32]) -> Option<usize>
+fn permitting_community(list: &CommunityList, held: &Held) -> Option<usize>
     ensures entry { result ≡ permitting_community held.now list.now.entries.items }
     ensures within { IfSome result (λ entry. entry < length list.now.entries.items) }
 {
@@ -150,7 +150,7 @@ pub(crate) fn prefix_place(
 pub(crate) fn community_place(
     config: &RouterConfig,
     index: Option<&RouterIndex>,
-    held: &[u32],
+    held: &Held,
     reference: &Reference,
 ) -> Option<Place>
     requires indexed { IfSome index (λ x. IsIndexed (config_view config.now) x.now) }

@@ -1,10 +1,10 @@
 //! What the map of a neighbor statement makes of a route, told without making the route.
 
-ghost use Rattle.std.specs.Prelude.{◌≡◌, ◌+◌, ◌≤◌, ◌<◌, length, IfSome, Some, slice_get};
+ghost use Rattle.std.specs.Prelude.{◌≡◌, ◌+◌, ◌≤◌, ◌<◌, length, IfOk, IfSome};
 ghost use Rattle.std.specs.Option.{option_map};
 ghost use Rattle.nc_types.specs.Config.{ConfigView, config_view};
 ghost use Rattle.nc_types.specs.WellFormed.{IsWellFormed};
-ghost use Rattle.nc_types.specs.declared.TheConstants.{PATH_LIMIT};
+ghost use Rattle.nc_types.specs.declared.TheConstants.{COMMUNITY_LIMIT, PATH_LIMIT};
 ghost use Rattle.nc_tables.specs.Policy.{verdict};
 ghost use Rattle.nc_tables.specs.Rounds.{passed, passed_by};
 ghost use Rattle.nc_tables.specs.declared.bgp.Route.{Route};
@@ -15,9 +15,10 @@ ghost use Rattle.nc_policy.specs.Passing.{communities_by, passing_view};
 use crate::clauses::deciding;
 use crate::lists::place_number;
 use crate::router_index::RouterIndex;
-use nc_community::{CommunitySet, set_over};
+use nc_community::Held;
 use nc_tables::Names;
-use nc_types::{Clause, OriginCode, PATH_LIMIT, Prefix, Reference, RouterConfig};
+use nc_types::{Clause, Communities, OriginCode, PATH_LIMIT, Prefix, Reference, RouterConfig};
+use std::alloc::{AllocError, Global};
 
 /// The clause of a route map that let a route pass.
 #[derive(Clone, Copy)]
@@ -78,82 +79,69 @@ impl<'a> Passing<'a> {
             Passing::By(by) => by.clause.origin.unwrap_or(before),
         }
     }
-}
 
-/// A route that passed a neighbor statement.
-#[derive(Drop)]
-pub struct PassedRoute<'a> {
-    pub passing: Passing<'a>,
-    /// The communities that the route has then.
-    pub communities: CommunitySet,
+    /// The communities of a route that had these. They are no more than
+    /// [`nc_types::COMMUNITY_LIMIT`], as they are of a route that passed.
+    pub fn communities(&self, before: &'a Communities) -> Held<'a>
+        requires { length (communities_by self.now before.now) ≤ COMMUNITY_LIMIT }
+        ensures { result ≡ communities_by self.now before.now }
+    {
+        match self {
+            Passing::Unchanged => Held::of(before),
+            Passing::By(by) => Held::set_over(before, &by.clause.communities),
+        }
+    }
+
+    /// The same in memory.
+    ///
+    /// # Errors
+    ///
+    /// Memory that runs out.
+    pub fn communities_left(&self, alloc: Global, before: &Held) -> Result<Communities, AllocError>
+        requires { length (communities_by self.now before.now) ≤ COMMUNITY_LIMIT }
+        ensures { IfOk result (λ left. left ≡ communities_by self.now before.now) }
+    {
+        match self {
+            Passing::Unchanged => before.communities(alloc),
+            Passing::By(by) => before.left(alloc, &by.clause.communities),
+        }
+    }
 }
 
 // What a router's route map of this name makes of a route with this prefix, so many numbers in its
 // path and these communities, by the router's tables, if it has any.
-fn pass_map<'a>(
+pub(crate) fn pass_map<'a>(
     config: &'a RouterConfig,
     index: Option<&RouterIndex>,
     map: &[u8],
     prefix: Prefix,
     count: usize,
-    held: &CommunitySet,
-) -> Option<PassedRoute<'a>>
+    held: &Held,
+) -> Option<Passing<'a>>
     requires indexed { IfSome index (λ x. IsIndexed (config_view config.now) x.now) }
     requires formed { IsWellFormed (config_view config.now) }
     requires few { count ≤ PATH_LIMIT }
     ensures passed { (r : Route) → r.prefix ≡ prefix → length r.path ≡ count
-        → r.communities ≡ held.now → option_map (λ p. passing_view r p.passing) result
+        → r.communities ≡ held.now → option_map (passing_view r) result
         ≡ passed_by (verdict (config_view config.now) map.now r) }
-    ensures communities { IfSome result
-        (λ p. p.communities ≡ communities_by p.passing held.now) }
-    ensures short { IfSome result
-        (λ p. length (prepended_by p.passing) + count ≤ PATH_LIMIT) }
+    ensures short { IfSome result (λ p. length (prepended_by p) + count ≤ PATH_LIMIT) }
+    ensures few { IfSome result (λ p. length (communities_by p held.now) ≤ COMMUNITY_LIMIT) }
 {
-    let found = deciding(config, index, map, prefix, held.numbers())?;
+    let found = deciding(config, index, map, prefix, held)?;
     if !found.clause.permit {
         return None;
     }
     if found.clause.prepend.len() > PATH_LIMIT - count {
         return None;
     }
-    let communities = set_over(held, &found.clause.communities)?;
-    Some(PassedRoute {
-        passing: Passing::By(ByClause {
-            place: place_number(config, found.place),
-            clause: found.clause,
-            names: found.names,
-        }),
-        communities,
-    })
-}
-
-// The same of a neighbor statement's map, by the router's tables, if it has any.
-pub(crate) fn pass_by<'a>(
-    config: &'a RouterConfig,
-    index: Option<&RouterIndex>,
-    map: &Option<Reference>,
-    prefix: Prefix,
-    count: usize,
-    held: &CommunitySet,
-) -> Option<PassedRoute<'a>>
-    requires indexed { IfSome index (λ x. IsIndexed (config_view config.now) x.now) }
-    requires formed { IsWellFormed (config_view config.now) }
-    requires few { count ≤ PATH_LIMIT }
-    ensures passed { (r : Route) → r.prefix ≡ prefix → length r.path ≡ count
-        → r.communities ≡ held.now → option_map (λ p. passing_view r p.passing) result
-        ≡ passed (config_view config.now) map.now r }
-    ensures communities { IfSome result
-        (λ p. p.communities ≡ communities_by p.passing held.now) }
-    ensures short { IfSome result
-        (λ p. length (prepended_by p.passing) + count ≤ PATH_LIMIT) }
-{
-    match map {
-        None => Some(PassedRoute {
-            passing: Passing::Unchanged,
-            communities: CommunitySet::of(held.numbers()),
-        }),
-        Some(reference) => { pass_map(config, index, reference.name.bytes(), prefix, count, held) }
+    if !held.fits(&found.clause.communities) {
+        return None;
     }
+    Some(Passing::By(ByClause {
+        place: place_number(config, found.place),
+        clause: found.clause,
+        names: found.names,
+    }))
 }
 
 /// What the map of a neighbor statement, if it has one, makes of a route with this prefix, so many
@@ -165,17 +153,19 @@ pub fn pass<'a>(
     map: &Option<Reference>,
     prefix: Prefix,
     count: usize,
-    held: &CommunitySet,
-) -> Option<PassedRoute<'a>>
+    held: &Held,
+) -> Option<Passing<'a>>
     requires formed { IsWellFormed (config_view config.now) }
     requires few { count ≤ PATH_LIMIT }
     ensures passed { (r : Route) → r.prefix ≡ prefix → length r.path ≡ count
-        → r.communities ≡ held.now → option_map (λ p. passing_view r p.passing) result
+        → r.communities ≡ held.now → option_map (passing_view r) result
         ≡ passed (config_view config.now) map.now r }
-    ensures communities { IfSome result
-        (λ p. p.communities ≡ communities_by p.passing held.now) }
-    ensures short { IfSome result
-        (λ p. length (prepended_by p.passing) + count ≤ PATH_LIMIT) }
+    ensures short { IfSome result (λ p. length (prepended_by p) + count ≤ PATH_LIMIT) }
+    ensures few { IfSome result (λ p. length held.now ≤ COMMUNITY_LIMIT
+        → length (communities_by p held.now) ≤ COMMUNITY_LIMIT) }
 {
-    pass_by(config, None, map, prefix, count, held)
+    match map {
+        None => Some(Passing::Unchanged),
+        Some(reference) => pass_map(config, None, reference.name.bytes(), prefix, count, held),
+    }
 }

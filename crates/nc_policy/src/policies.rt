@@ -5,7 +5,7 @@ ghost use Rattle.std.specs.Prelude.{◌≡◌, ◌+◌, ◌<◌, ◌≤◌, List
 ghost use Rattle.std.specs.Option.{option_map};
 ghost use Rattle.nc_types.specs.Cidr.{same_prefix};
 ghost use Rattle.nc_types.specs.Config.{ConfigView};
-ghost use Rattle.nc_types.specs.declared.TheConstants.{PATH_LIMIT};
+ghost use Rattle.nc_types.specs.declared.TheConstants.{COMMUNITY_LIMIT, PATH_LIMIT};
 ghost use Rattle.nc_tables.specs.Policy.{verdict};
 ghost use Rattle.nc_tables.specs.Rounds.{passed};
 ghost use Rattle.nc_tables.specs.declared.bgp.Route.{Route};
@@ -14,10 +14,10 @@ ghost use Rattle.nc_policy.specs.Passing.{communities_by, passing_view, prepende
 ghost use Rattle.nc_policy.specs.Statements.{aggregates_in, networks_in};
 ghost use Rattle.nc_policy.specs.Views.{verdict_view};
 
-use crate::passing::{PassedRoute, pass_by};
+use crate::passing::{Passing, pass_map};
 use crate::route_map::{Verdict, judge};
 use crate::router_index::RouterIndex;
-use nc_community::CommunitySet;
+use nc_community::Held;
 use nc_tables::Route;
 use nc_types::{Network, Prefix, Reference, RouterId};
 use std::alloc::{AllocError, Global};
@@ -91,22 +91,25 @@ impl Policies {
         map: &Option<Reference>,
         prefix: Prefix,
         count: usize,
-        held: &CommunitySet,
-    ) -> Option<PassedRoute<'a>>
+        held: &Held,
+    ) -> Option<Passing<'a>>
         requires policies { ArePolicies network.now self.now }
         requires router { router.0 < length network.now }
         requires few { count ≤ PATH_LIMIT }
         ensures passed { (c : ConfigView) (r : Route) → slice_get network.now router.0 ≡ Some c
             → r.prefix ≡ prefix → length r.path ≡ count → r.communities ≡ held.now
-            → option_map (λ p. passing_view r p.passing) result ≡ passed c map.now r }
-        ensures communities { IfSome result
-            (λ p. p.communities ≡ communities_by p.passing held.now) }
-        ensures short { IfSome result
-            (λ p. length (prepended_by p.passing) + count ≤ PATH_LIMIT) }
+            → option_map (passing_view r) result ≡ passed c map.now r }
+        ensures short { IfSome result (λ p. length (prepended_by p) + count ≤ PATH_LIMIT) }
+        ensures few { IfSome result (λ p. length held.now ≤ COMMUNITY_LIMIT
+            → length (communities_by p held.now) ≤ COMMUNITY_LIMIT) }
     {
+        let Some(reference) = map else {
+            return Some(Passing::Unchanged);
+        };
         let place = router.0 as usize;
         let config = &network.routers()[place];
-        pass_by(config, self.tables(place), map, prefix, count, held)
+        let name = reference.name.bytes();
+        pass_map(config, self.tables(place), name, prefix, count, held)
     }
 
     /// The place of the network statement of a prefix among those of a router; `None` where it has

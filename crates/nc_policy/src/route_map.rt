@@ -11,6 +11,7 @@ use crate::clauses::deciding;
 use crate::lists::place_number;
 use crate::router_index::RouterIndex;
 use crate::setting::set_by;
+use nc_community::Held;
 use nc_tables::{Place, Route};
 use nc_types::RouterConfig;
 use std::alloc::{AllocError, Global};
@@ -48,8 +49,8 @@ pub(crate) fn judge(
     ensures { IfOk result (λ v. verdict_view v
         ≡ verdict (config_view config.now) map.now route.now) }
 {
-    let held = route.communities.numbers();
-    let Some(found) = deciding(config, index, map, route.prefix, held) else {
+    let held = Held::of(&route.communities);
+    let Some(found) = deciding(config, index, map, route.prefix, &held) else {
         return Ok(Verdict::Deny);
     };
     if !found.clause.permit {

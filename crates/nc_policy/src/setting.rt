@@ -7,7 +7,7 @@ ghost use Rattle.nc_types.specs.Setting.{set_all};
 ghost use Rattle.nc_types.specs.Config.{clause_view};
 ghost use Rattle.nc_tables.specs.Policy.{set_by, is_over};
 
-use nc_community::{CommunitySet, set_over};
+use nc_community::Held;
 use nc_tables::{Path, Route};
 use nc_types::{Clause, Communities, PATH_LIMIT, SetCommunity};
 use std::alloc::{AllocError, Global};
@@ -36,11 +36,11 @@ fn communities_left(
 ) -> Result<Option<Communities>, AllocError>
     ensures { IfOk result (λ left. left ≡ limited (set_all set.now held.now)) }
 {
-    let base = CommunitySet::of(held.numbers());
-    match set_over(&base, set) {
-        None => Ok(None),
-        Some(left) => Ok(Some(left.communities(alloc)?)),
+    let held = Held::of(held);
+    if !held.fits(set) {
+        return Ok(None);
     }
+    Ok(Some(held.left(alloc, set)?))
 }
 
 /// A route with what a clause sets; `None` where its path is too long, or its communities are too

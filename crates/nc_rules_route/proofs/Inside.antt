@@ -12,7 +12,7 @@ use Rattle.nc_tables.specs.Base.{prefix_cmp}
 use Rattle.nc_tables.specs.Rounds.{BgpRowView, bgp_row_view, is_longer_in, AreBgpRows}
 use Rattle.nc_tables.proofs.BgpRows.{by_prefix}
 use Rattle.nc_tables.proofs.SideBySide.{rises}
-use Rattle.nc_main_rib.proofs.Activity.{between, longer_behind}
+use Rattle.nc_tables.proofs.LongerIn.{between, longer_behind}
 
 -- ---- what passes a test, where it stands side by side
 

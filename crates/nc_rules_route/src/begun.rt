@@ -13,8 +13,7 @@ ghost use Rattle.nc_rules_route.specs.Parents.{element_in, each_chosen, chosen_i
 
 use crate::configs::config_of;
 use nc_fact::{Fact, aggregate_of};
-use nc_message::is_longer_in;
-use nc_tables::{BgpRow, Stable};
+use nc_tables::{BgpRow, Stable, is_longer_in};
 use nc_types::{AggregateStatement, NetworkStatement, Prefix, Process, RouterId};
 use std::alloc::AllocError;
 

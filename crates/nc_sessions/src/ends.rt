@@ -59,7 +59,7 @@ fn neighbors_of(config: &RouterConfig) -> &[Neighbor]
 
 /// The neighbor statements of a router; none where it has no process, and where there is no such
 /// router.
-pub(crate) fn statements(network: &Network, router: RouterId) -> &[Neighbor]
+pub fn statements(network: &Network, router: RouterId) -> &[Neighbor]
     ensures statements { result.now ≡ statements_of network.now router.0 }
     ensures few { length result.now < 2 ^ 32 }
 {

@@ -18,8 +18,9 @@ mod places;
 mod sources;
 mod table;
 
-pub use ends::{End, end_at};
+pub use ends::{End, end_at, statements};
 pub use ids::router_id;
 pub use links::{Link, link_at};
 pub use peers::session_at;
+pub use places::place_for;
 pub use table::sessions;

@@ -9,7 +9,7 @@ ghost use Rattle.nc_sessions.specs.Views.{sides_view};
 
 use crate::conditions::{Sides, are_met, is_internal};
 use crate::ends::{Side, side_at};
-use crate::places::place_alone;
+use crate::places::place_for;
 use nc_tables::{BaseTables, SessionRow};
 use nc_types::{Network, RouterId};
 
@@ -74,7 +74,7 @@ pub fn session_at(
 {
     let own = side_at(network, base, router, place)?;
     let owner = owner_of(network, &own)?;
-    let peer_place = place_alone(network, owner, own.source.addr)?;
+    let peer_place = place_for(network, owner, own.source.addr)?;
     let peer = side_at(network, base, owner, peer_place)?;
     session_between(network, base, &Sides { own, peer })
 }

@@ -52,7 +52,7 @@ pub(crate) fn statement_places(
 }
 
 /// The place of a router's statement for an address, by the places of all routers of a network.
-pub(crate) fn place_for(
+pub(crate) fn place_in_table(
     network: &Network,
     places: &[BTreeMap<Addr, u32>],
     router: RouterId,
@@ -72,8 +72,9 @@ fn place_among(neighbors: &[Neighbor], addr: Addr) -> Option<usize>
     neighbors.iter().position(|neighbor| neighbor.addr == addr)
 }
 
-/// The same by the statements of the router themselves, which takes no table.
-pub(crate) fn place_alone(network: &Network, router: RouterId, addr: Addr) -> Option<u32>
+/// The place of a router's neighbor statement for an address; `None` where there is no such
+/// statement or router. It goes over the router's statements once, and takes no memory.
+pub fn place_for(network: &Network, router: RouterId, addr: Addr) -> Option<u32>
     ensures { result ≡ place_for network.now router.0 addr.0 }
 {
     let place = place_among(statements(network, router), addr)?;

@@ -6,7 +6,7 @@ ghost use Rattle.nc_sessions.specs.Statements.{ArePlaces};
 use crate::conditions::Sides;
 use crate::ends::{side_at, statements};
 use crate::peers::{owner_of, session_between};
-use crate::places::{place_for, statement_places};
+use crate::places::{place_in_table, statement_places};
 use nc_tables::{BaseTables, SessionRow, Sessions};
 use nc_types::{Addr, Network, RouterId};
 use std::alloc::{AllocError, Global};
@@ -28,7 +28,7 @@ fn session_by(
 {
     let own = side_at(network, base, router, place)?;
     let owner = owner_of(network, &own)?;
-    let peer_place = place_for(network, places, owner, own.source.addr)?;
+    let peer_place = place_in_table(network, places, owner, own.source.addr)?;
     let peer = side_at(network, base, owner, peer_place)?;
     session_between(network, base, &Sides { own, peer })
 }

@@ -6,8 +6,7 @@ use Rattle.nc_types.specs.declared.config.AggregateStatement.{AggregateStatement
 use Rattle.nc_tables.specs.declared.bgp.Chosen.{Chosen}
 use Rattle.nc_tables.specs.declared.bgp.BgpFrom.TheVariants.{Aggregate}
 use Rattle.nc_tables.specs.Base.{same_prefix}
-use Rattle.nc_tables.specs.Rounds.{begun}
-use Rattle.nc_message.specs.Beginning.{has_longer}
+use Rattle.nc_tables.specs.Rounds.{begun, has_longer}
 use Rattle.nc_message.proofs.Making.{one_has, single_made}
 use Rattle.nc_message.proofs.candidates.add_aggregate.Goals as goal
 

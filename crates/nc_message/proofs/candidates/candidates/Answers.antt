@@ -8,8 +8,8 @@ use Rattle.nc_types.proofs.Sameness.{same_prefix_is}
 use Rattle.nc_tables.specs.declared.bgp.BgpFrom.TheVariants.{Aggregate, Origin}
 use Rattle.nc_tables.specs.declared.bgp.Chosen.{Chosen}
 use Rattle.nc_tables.specs.Base.{same_prefix}
-use Rattle.nc_tables.specs.Rounds.{BgpRowView, begun, entry_at, made_from}
-use Rattle.nc_message.specs.Beginning.{aggregates_of, has_base_row, has_longer, networks_of}
+use Rattle.nc_tables.specs.Rounds.{BgpRowView, begun, entry_at, has_longer, made_from}
+use Rattle.nc_message.specs.Beginning.{aggregates_of, has_base_row, networks_of}
 use Rattle.nc_message.specs.Given.{IsOf}
 use Rattle.nc_message.proofs.Making.{kept_all, made_alike}
 use Rattle.nc_message.proofs.candidates.candidates.Goals as goal

@@ -1,8 +1,23 @@
-use Rattle.std.proofs.Common.{ap, ◌∙◌}
+use Rattle.std.proofs.Common.{◌≡◌, ℕ, List, Option, Some, None, IfSome, ap, ◌∙◌}
+use Rattle.nc_tables.specs.declared.base.BaseRow.{BaseRow}
 use Rattle.nc_tables.specs.declared.bgp.Chosen.{Chosen}
+use Rattle.nc_tables.specs.Rounds.{Link}
+use Rattle.nc_tables.specs.Sessions.{router_id}
 use Rattle.nc_sessions.specs.Views.{link_view}
+use Rattle.nc_message.specs.Links.{IsSender}
+use Rattle.nc_message.specs.declared.links.Sender.{Sender}
 use Rattle.nc_message.proofs.Sending.{message_is}
 use Rattle.nc_message.proofs.entries.entry.Goals as goal
+
+-- of what is known of a sender, its router id
+id_of : (tables : List (List BaseRow)) (router : ℕ) (k : Link) (o : Option Sender) → IfSome o (IsSender tables router k) → IfSome o (λ d. d.id.0 ≡ router_id k.sender.config)
+id_of tables router k None known = tt
+id_of tables router k (Some d) known = known.id
+
+pub learnt_from-requires-clause-sender : goal.learnt_from-requires-clause-sender
+learnt_from-requires-clause-sender c =
+    let s = c.in-Some.taken.sent in
+    id_of c.args.given.now.base.now c.args.router.0 (link_view s.link) s.sender c.in-Some.ensures.known
 
 pub returns-in_ok-learnt_from-in-Some-clause-own : goal.returns-in_ok-learnt_from-in-Some-clause-own
 returns-in_ok-learnt_from-in-Some-clause-own c =

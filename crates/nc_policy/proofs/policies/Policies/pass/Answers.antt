@@ -1,18 +1,20 @@
-use Rattle.std.proofs.Common.{◌≡◌, Some, ap, sym, ◌∙◌}
+use Rattle.std.proofs.Common.{◌≡◌, ℕ, List, Option, Some, ap, sym, ◌∙◌}
 use Rattle.std.specs.Prelude.{slice_get}
 use Rattle.nc_types.specs.Config.{ConfigView, config_view}
 use Rattle.nc_types.specs.WellFormed.{IsWellFormed}
 use Rattle.nc_types.proofs.Members.{all_in, in_by_get}
-use Rattle.nc_tables.specs.Rounds.{passed}
+use Rattle.nc_types.specs.declared.config.Reference.{Reference}
+use Rattle.nc_tables.specs.Rounds.{passed, passed_by}
+use Rattle.nc_tables.specs.Policy.{verdict}
 use Rattle.nc_policy.proofs.Tables.{config_at}
 use Rattle.nc_policy.proofs.policies.Policies.pass.Goals as goal
 
-pub pass_by-requires-clause-indexed : goal.pass_by-requires-clause-indexed
-pass_by-requires-clause-indexed c = c.tables.ensures c.args.network.now (config_view c.index-routers-place.result) c.requires.policies
+pub pass_map-requires-clause-indexed : goal.pass_map-requires-clause-indexed
+pass_map-requires-clause-indexed c = c.tables.ensures c.args.network.now (config_view c.index-routers-place.result) c.requires.policies
     (config_at c.args.network.now c.routers.result.now c.args.router.0 c.index-routers-place.result c.routers.ensures.routers c.requires.router c.index-routers-place.is)
 
-pub pass_by-requires-clause-formed : goal.pass_by-requires-clause-formed
-pass_by-requires-clause-formed c = all_in IsWellFormed c.args.network.now c.routers.ensures.valid.each (config_view c.index-routers-place.result) (in_by_get c.args.network.now c.args.router.0 (config_view c.index-routers-place.result)
+pub pass_map-requires-clause-formed : goal.pass_map-requires-clause-formed
+pass_map-requires-clause-formed c = all_in IsWellFormed c.args.network.now c.routers.ensures.valid.each (config_view c.index-routers-place.result) (in_by_get c.args.network.now c.args.router.0 (config_view c.index-routers-place.result)
     (config_at c.args.network.now c.routers.result.now c.args.router.0 c.index-routers-place.result c.routers.ensures.routers c.requires.router c.index-routers-place.is))
 
 pub returns-clause-passed : goal.returns-clause-passed
@@ -22,4 +24,7 @@ returns-clause-passed c = λ other r at p l h.
     config_at c.args.network.now c.routers.result.now c.args.router.0 c.index-routers-place.result c.routers.ensures.routers c.requires.router c.index-routers-place.is in
     let one : Some config ≡ Some other = sym here ∙ at in
     let same : config ≡ other = cc in
-    c.pass_by.ensures.passed r p l h ∙ ap (λ (k : ConfigView). passed k c.args.map.now r) same
+    c.pass_map.ensures.passed r p l h
+    ∙ ap (λ (name : List ℕ). passed_by (verdict config name r)) c.bytes-name.ensures
+    ∙ ap (λ (k : ConfigView). passed k (Some c.in-Some.reference) r) same
+    ∙ ap (λ (o : Option Reference). passed other o r) (sym c.in-Some.is)

@@ -4,7 +4,7 @@ use Rattle.nc_types.specs.Config.{ConfigView, ProcessView}
 use Rattle.nc_types.specs.declared.config.Neighbor.{Neighbor}
 use Rattle.nc_tables.specs.Sessions.{place_for}
 use Rattle.nc_sessions.specs.Statements.{neighbors_of, statements_of}
-use Rattle.nc_sessions.proofs.places.place_alone.Goals as goal
+use Rattle.nc_sessions.proofs.places.place_for.Goals as goal
 
 -- a router's place for an address is that among its statements
 among : (routers : List ConfigView) (router addr : ℕ) → position (λ n. nat_eq n.addr.0 addr) (statements_of routers router) ≡ place_for routers router addr

@@ -1,8 +1,0 @@
-use Rattle.std.proofs.Common.{◌≡◌, ◌-◌, false}
-use Rattle.std.specs.List.{list_any, range_with_len}
-use Rattle.nc_tables.specs.Reach.{is_hit}
-use Rattle.nc_fact.proofs.exits.has_hit.Given as goal
-
--- no row so far is a hit
-abbrev pub invariant-rows : goal.invariant-rows
-invariant-rows l = list_any (is_hit l.state.base l.router.0) (range_with_len l.initial.place (l.place - l.initial.place)) ≡ false

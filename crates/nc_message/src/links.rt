@@ -1,0 +1,124 @@
+//! What is known of each session before any message.
+
+ghost use Rattle.std.specs.Prelude.{◌≡◌, IfOk, length};
+ghost use Rattle.nc_sessions.specs.Views.{link_view};
+ghost use Rattle.nc_message.specs.Given.{IsBetween};
+ghost use Rattle.nc_message.specs.Links.{heard_in, AreHeard, AreLinks, IsHeardAt, IsSender};
+
+use crate::rows::is_own;
+use nc_sessions::{Link, link_at, router_id, statements};
+use nc_tables::{BaseTables, Sessions};
+use nc_types::{Addr, Network, RouterId};
+use nc_underlay::has_hit;
+use std::alloc::{AllocError, Global};
+
+/// What is known of the sender of a session once for all its messages.
+#[derive(Clone, Copy)]
+pub struct Sender {
+    /// Its router id.
+    pub id: Addr,
+    /// Whether the address from which it starts is one of the receiver's own.
+    pub is_own: bool,
+    /// Whether the receiver's base table leads to that address.
+    pub is_reached: bool,
+}
+
+/// Both ends of a session, and what is known of its sender, where that was asked before.
+#[derive(Clone, Copy)]
+pub struct Heard<'a> {
+    pub link: Link<'a>,
+    pub sender: Option<Sender>,
+}
+
+/// The sessions of a network, each with its ends and with what is known of its sender. They are
+/// made once, and by them a message from another system needs no look-up but that of the best
+/// candidate.
+#[derive(Drop)]
+pub struct Links<'a> {
+    routers: Vec<Vec<Option<Heard<'a>>>>,
+}
+
+// What is known of the sender of a session of a router.
+fn sender_of(network: &Network, base: &BaseTables, router: RouterId, link: &Link) -> Sender
+    requires tables { length base.now ≡ length network.now }
+    requires between { IsBetween network.now router.0 (link_view link.now) }
+    ensures { IsSender base.now router.0 (link_view link.now) result }
+{
+    Sender {
+        id: router_id(link.sender.config),
+        is_own: is_own(network, router, link, link.source),
+        is_reached: has_hit(network, base, router, link.source),
+    }
+}
+
+// The session of the neighbor statement at a place of a router, with what is known of its sender.
+fn heard_at<'a>(
+    network: &'a Network,
+    base: &BaseTables,
+    sessions: &Sessions,
+    router: RouterId,
+    place: u32,
+) -> Option<Heard<'a>>
+    requires tables { length base.now ≡ length network.now }
+    requires sessions { length sessions.now ≡ length network.now }
+    ensures { IsHeardAt network.now base.now sessions.now router.0 place result }
+{
+    let link = link_at(network, sessions, router, place)?;
+    let sender = Some(sender_of(network, base, router, &link));
+    Some(Heard { link, sender })
+}
+
+// The sessions of a router, one for each of its neighbor statements that has one.
+fn heard_of<'a>(
+    alloc: Global,
+    network: &'a Network,
+    base: &BaseTables,
+    sessions: &Sessions,
+    router: RouterId,
+) -> Result<Vec<Option<Heard<'a>>>, AllocError>
+    requires tables { length base.now ≡ length network.now }
+    requires sessions { length sessions.now ≡ length network.now }
+    ensures { IfOk result (λ row. AreHeard network.now base.now sessions.now router.0 row.items) }
+{
+    let count = statements(network, router).len();
+    let mut row = Vec::with_capacity(alloc, count)?;
+    'places: for place in 0..count {
+        row.push(heard_at(network, base, sessions, router, place as u32))?;
+    }
+    Ok(row)
+}
+
+impl<'a> Links<'a> {
+    /// The sessions of a network, which has a base table and a list of sessions for each router.
+    ///
+    /// # Errors
+    ///
+    /// Memory that runs out.
+    pub fn new(
+        alloc: Global,
+        network: &'a Network,
+        base: &BaseTables,
+        sessions: &Sessions,
+    ) -> Result<Links<'a>, AllocError>
+        requires tables { length base.now ≡ length network.now }
+        requires sessions { length sessions.now ≡ length network.now }
+        ensures { IfOk result (AreLinks network.now base.now sessions.now) }
+    {
+        let count = network.routers().len();
+        let mut routers = Vec::with_capacity(alloc, count)?;
+        'routers: for router in 0..count {
+            let router = RouterId(router as u32);
+            routers.push(heard_of(alloc, network, base, sessions, router)?)?;
+        }
+        Ok(Links { routers })
+    }
+
+    /// The session of the neighbor statement at a place of a router; `None` where the statement has
+    /// none, and where there is no such statement or router.
+    pub(crate) fn get(&self, router: RouterId, place: u32) -> Option<Heard<'a>>
+        ensures { result ≡ heard_in self.now router.0 place }
+    {
+        let row = self.routers.get(router.0 as usize)?;
+        *row.get(place as usize)?
+    }
+}
