@@ -5,3 +5,5 @@ pub mod NextRows
 pub mod NewRows
 pub mod Woken
 pub mod Settled
+pub mod KeptPrefixes
+pub mod RowsAfter

@@ -14,7 +14,8 @@ use Rattle.nc_tables.specs.Rounds.{BgpRowView, AreBgpRows, chosen_in, chosen_at,
 use Rattle.nc_tables.proofs.ByPrefix.{same_itself}
 use Rattle.nc_message.specs.declared.given.Given.{Given}
 use Rattle.nc_round.specs.Keys.{Key, key, AreInOrder}
-use Rattle.nc_round.specs.Given.{AreOfNetwork, next}
+use Rattle.nc_message.specs.Given.{AreGiven}
+use Rattle.nc_round.specs.Given.{next}
 use Rattle.nc_round.specs.Hearing.{heard, hearers_from, AreHearers, aggregates_of, woken_by, begun_from}
 use Rattle.nc_round.specs.Changes.{IsRoundOf, ReadAlike}
 use Rattle.nc_round.specs.Renewing.{AreEnough}
@@ -68,7 +69,7 @@ by_hearers number (rows ∷ more) peer r i = on (by_hearers (suc number) more pe
 -- ---- what changed
 
 module _ (i : Given) (hearers : List (List RouterId)) (before table : List (List BgpRowView)) (changed : List Key)
-    (are : AreOfNetwork i) (hear : AreHearers i.sessions.now hearers) (rows_table : All AreBgpRows table) (made : IsRoundOf i.network.now i.base.now i.sessions.now before table changed) where
+    (are : AreGiven i) (hear : AreHearers i.sessions.now hearers) (rows_table : All AreBgpRows table) (made : IsRoundOf i.network.now i.base.now i.sessions.now before table changed) where
   abbrev routers : List ConfigView
   routers = i.network.now
 

@@ -2,7 +2,7 @@
 
 ghost use Rattle.std.specs.Prelude.{◌≡◌, ◌<◌, ◌==◌, ◌∷◌, ◌++◌, [], ℕ, length, map, IfOk, OnOk, slice_index_or, if◌then◌else◌};
 ghost use Rattle.nc_round.specs.Hearing.{heard, AreHearers};
-ghost use Rattle.nc_round.specs.Given.{AreOfNetwork};
+ghost use Rattle.nc_message.specs.Given.{AreGiven};
 
 use nc_message::Given;
 use nc_tables::SessionRow;
@@ -84,7 +84,7 @@ impl Hearers {
     ///
     /// Memory that runs out.
     pub fn new(alloc: Global, given: Given<'_>) -> Result<Hearers, AllocError>
-        requires { AreOfNetwork given }
+        requires { AreGiven given }
         ensures { IfOk result (AreHearers given.entry.sessions.now) }
     {
         let count = given.network.routers().len();

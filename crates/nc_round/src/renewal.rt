@@ -5,7 +5,8 @@ ghost use Rattle.std.specs.List.{cons_option, filter_map};
 ghost use Rattle.nc_types.specs.Cidr.{Cidr};
 ghost use Rattle.nc_tables.specs.declared.bgp.Chosen.{Chosen};
 ghost use Rattle.nc_tables.specs.Rounds.{chosen_at};
-ghost use Rattle.nc_round.specs.Given.{AreOfNetwork, next};
+ghost use Rattle.nc_message.specs.Given.{AreGiven};
+ghost use Rattle.nc_round.specs.Given.{next};
 ghost use Rattle.nc_round.specs.Changes.{IsDifference};
 ghost use Rattle.nc_round.specs.Renewing.{row_change, change_at, AreEnough, IsNew, Leads};
 
@@ -39,7 +40,7 @@ fn add_new(
     table: &BgpTable,
     row: (RouterId, Prefix),
 ) -> Result<(), AllocError>
-    requires given { AreOfNetwork given }
+    requires given { AreGiven given }
     requires table { length table.now ≡ length given.network.now }
     requires router { row.0.0 < length given.network.now }
     requires news { All (IsNew (length given.network.now)) news.old.items }
@@ -48,16 +49,7 @@ fn add_new(
     ensures news { All (IsNew (length given.entry.network.now)) news.new.items }
 {
     let (router, prefix) = row;
-    let chosen = chosen_anew(
-        alloc,
-        given.network,
-        given.base,
-        given.sessions,
-        given.policies,
-        table,
-        router,
-        prefix,
-    )?;
+    let chosen = chosen_anew(alloc, &given, table, router, prefix)?;
     if same_chosen(&chosen, table.chosen(router, prefix)) {
         return Ok(());
     }
@@ -76,7 +68,7 @@ fn news_of(
     table: &BgpTable,
     keys: &[(RouterId, Prefix)],
 ) -> Result<Vec<NewRow>, AllocError>
-    requires given { AreOfNetwork given }
+    requires given { AreGiven given }
     requires table { length table.now ≡ length given.network.now }
     requires keys { All (λ k. k.0.0 < length given.network.now) keys.now }
     ensures rows { IfOk result (λ news. map row_change news.items
@@ -124,7 +116,7 @@ pub(crate) fn renew(
     mut table: BgpTable,
     keys: &[(RouterId, Prefix)],
 ) -> Result<(BgpTable, Changed), AllocError>
-    requires given { AreOfNetwork given }
+    requires given { AreGiven given }
     requires keys { AreEnough given table keys.now }
     ensures table { IfOk result (λ r. r.0 ≡ next given.entry table) }
     ensures changed { IfOk result (λ r. IsDifference table r.0 r.1.rows.items) }

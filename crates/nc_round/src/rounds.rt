@@ -1,7 +1,8 @@
 ghost use Rattle.std.specs.Prelude.{◌≡◌, List, IfOk, length};
 ghost use Rattle.nc_tables.specs.Rounds.{BgpRowView, no_routes};
 ghost use Rattle.nc_round.specs.Hearing.{AreHearers};
-ghost use Rattle.nc_round.specs.Given.{AreOfNetwork, next};
+ghost use Rattle.nc_message.specs.Given.{AreGiven};
+ghost use Rattle.nc_round.specs.Given.{next};
 ghost use Rattle.nc_round.specs.Changes.{IsDifference, IsRoundOf};
 
 use crate::changed::Changed;
@@ -18,7 +19,7 @@ use std::alloc::{AllocError, Global};
 ///
 /// Memory that runs out.
 pub fn first_round(alloc: Global, given: Given<'_>) -> Result<(BgpTable, Changed), AllocError>
-    requires given { AreOfNetwork given }
+    requires given { AreGiven given }
     ensures table { IfOk result (λ r. r.0 ≡ next given.entry (no_routes given.entry.network.now)) }
     ensures changed { IfOk result (λ r. IsDifference (no_routes given.entry.network.now) r.0
         r.1.rows.items) }
@@ -44,7 +45,7 @@ pub fn round_changed(
     old: BgpTable,
     changed: Changed,
 ) -> Result<(BgpTable, Changed), AllocError>
-    requires given { AreOfNetwork given }
+    requires given { AreGiven given }
     requires hearers { AreHearers given.sessions.now hearers.now }
     requires made { (before : List (List BgpRowView))
         × IsRoundOf given.network.now given.base.now given.sessions.now before old

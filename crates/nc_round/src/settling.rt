@@ -1,6 +1,6 @@
 ghost use Rattle.std.specs.Prelude.{IfOk, MatchOption};
 ghost use Rattle.nc_tables.specs.Rounds.{IsStable, IsUnstable};
-ghost use Rattle.nc_round.specs.Given.{AreOfNetwork};
+ghost use Rattle.nc_message.specs.Given.{AreGiven};
 
 use crate::hearers::Hearers;
 use crate::rounds::{first_round, round_changed};
@@ -19,7 +19,7 @@ pub fn settle_table(
     given: Given<'_>,
     rounds: u32,
 ) -> Result<Option<BgpTable>, AllocError>
-    requires given { AreOfNetwork given }
+    requires given { AreGiven given }
     ensures { IfOk result (λ settled. MatchOption settled
         (IsUnstable given.entry.network.now given.entry.base.now given.entry.sessions.now rounds)
         (IsStable given.entry.network.now given.entry.base.now given.entry.sessions.now rounds)) }

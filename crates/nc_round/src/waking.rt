@@ -8,15 +8,9 @@ ghost use Rattle.nc_round.specs.Hearing.{aggregates_of, begun_from, woken_by};
 ghost use Rattle.nc_round.specs.Keys.{Key, AreInOrder};
 
 use crate::hearers::Hearers;
+use nc_tables::is_longer_in;
 use nc_types::{AggregateStatement, Network, NetworkStatement, Prefix, RouterConfig, RouterId};
 use std::alloc::{AllocError, Global};
-
-// Whether a prefix is a longer one inside another.
-fn is_longer_in(prefix: Prefix, outer: Prefix) -> bool
-    ensures { result ≡ is_longer_in prefix outer }
-{
-    outer.len() < prefix.len() && outer.covers(prefix.addr())
-}
 
 // The aggregates of a router; none where it has no BGP process.
 fn aggregates_of(network: &Network, router: RouterId) -> &[AggregateStatement]

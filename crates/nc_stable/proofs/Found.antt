@@ -1,17 +1,21 @@
--- The state that is computed over so many rounds, from the table that no round changes; and a network that has none.
-use Rattle.std.proofs.Common.{◌≡◌, ℕ, List, Option, Some, None, refl, sym, ap, ◌∙◌}
+-- The state that is computed over so many rounds, from the table that no round changes, and that it is one; and a network that has none.
+use Rattle.std.proofs.Common.{◌≡◌, ℕ, ◌≤◌, List, length, All, Option, Some, None, refl, sym, ap, subst, ◌∙◌}
 use Rattle.std.specs.Option.{MatchOption, option_map}
+use Rattle.std.proofs.lemmas.Option.{same_Some}
+use Rattle.nc_types.specs.declared.TheConstants.{ROUTER_LIMIT}
 use Rattle.nc_types.specs.Config.{ConfigView}
+use Rattle.nc_types.specs.Joining.{IsValid}
 use Rattle.nc_tables.specs.declared.base.BaseRow.{BaseRow}
 use Rattle.nc_tables.specs.declared.bgp.SessionRow.{SessionRow}
 use Rattle.nc_tables.specs.declared.bgp.MainRow.{MainRow}
 use Rattle.nc_tables.specs.Base.{base_tables}
 use Rattle.nc_tables.specs.Sessions.{sessions}
 use Rattle.nc_tables.specs.Main.{main_tables}
-use Rattle.nc_tables.specs.Rounds.{BgpRowView, IsStable, IsUnstable}
-use Rattle.nc_tables.specs.State.{state_at}
+use Rattle.nc_tables.specs.Rounds.{BgpRowView, AreBgpRows, IsStable, IsUnstable}
+use Rattle.nc_tables.specs.State.{StateView, IsState, state_at}
 use Rattle.nc_tables.specs.Settling.{settled_table, settled}
 use Rattle.nc_tables.proofs.Settled.{found, stable_found}
+use Rattle.nc_round.proofs.RowsAfter.{after_rows}
 
 module _ (routers : List ConfigView) (base : List (List BaseRow)) (established : List (List SessionRow)) (is_base : base ≡ base_tables routers) (is_sessions : established ≡ sessions routers base) where
   same_sessions : established ≡ sessions routers (base_tables routers)
@@ -45,3 +49,28 @@ module _ (routers : List ConfigView) (base : List (List BaseRow)) (established :
       on : (o : Option (List (List BgpRowView))) → MatchOption o (IsUnstable routers base established rounds) (IsStable routers base established rounds) → o ≡ None
       on None is = refl
       on (Some table) stable = absurd (unstable stable.count stable.within stable.settled)
+
+-- what is computed is a state, if the routers are valid together and few
+pub found_state : (routers : List ConfigView) → IsValid routers → length routers ≤ ROUTER_LIMIT → (rounds : ℕ) (s : StateView) → settled rounds routers ≡ Some s → IsState s
+unfolding settled state_at
+found_state routers valid few rounds s e = on (settled_table routers base established rounds) (found routers base established rounds) e
+  where
+    base : List (List BaseRow)
+    base = base_tables routers
+
+    established : List (List SessionRow)
+    established = sessions routers base
+
+    state_of : (bgp : List (List BgpRowView)) → IsStable routers base established rounds bgp → IsState (state_at routers bgp)
+    state_of bgp stable = record {
+      valid = valid;
+      few = few;
+      tables = refl;
+      rows = subst (All AreBgpRows) (sym stable.state) (after_rows routers valid.each base established stable.count);
+      rounds = rounds;
+      stable = stable;
+    }
+
+    on : (o : Option (List (List BgpRowView))) → MatchOption o (IsUnstable routers base established rounds) (IsStable routers base established rounds) → option_map (state_at routers) o ≡ Some s → IsState s
+    on None is f = absurd cc
+    on (Some bgp) is f = subst IsState (same_Some (state_at routers bgp) s f) (state_of bgp is)

@@ -1,3 +1,2 @@
-mod WithoutRoutes
 pub mod Bounds
 pub mod Found

@@ -4,17 +4,12 @@ ghost use Rattle.std.specs.Prelude.{◌≡◌, ◌≤◌, ℕ, List, Some, lengt
 ghost use Rattle.nc_types.specs.declared.TheConstants.{ROUTER_LIMIT};
 ghost use Rattle.nc_types.specs.Config.{ConfigView};
 ghost use Rattle.nc_types.specs.Joining.{IsValid};
-ghost use Rattle.nc_tables.specs.State.{StateView, BeginNothing, IsState};
+ghost use Rattle.nc_tables.specs.State.{StateView, IsState};
 ghost use Rattle.nc_tables.specs.Settling.{settled};
 
-use nc_tables::settling_is_lawful;
-
-/// What settles where no router begins a prefix of BGP, by a network or an aggregate, is a state of the
-/// routers, if these are valid together. It does nothing: a caller that needs the law calls it.
+/// What routers settle in is a state of theirs, if they are valid together and no more than a network
+/// may have. It does nothing: a caller that needs the law calls it.
 pub fn settled_states_are_states()
-    ensures { (routers : List ConfigView) (rounds : ℕ) (s : StateView) → BeginNothing routers
-        → IsValid routers → length routers ≤ ROUTER_LIMIT → settled rounds routers ≡ Some s
-        → IsState s }
-{
-    settling_is_lawful();
-}
+    ensures { (routers : List ConfigView) (rounds : ℕ) (s : StateView) → IsValid routers
+        → length routers ≤ ROUTER_LIMIT → settled rounds routers ≡ Some s → IsState s }
+{}

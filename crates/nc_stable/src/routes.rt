@@ -1,12 +1,14 @@
 //! The stable state of any network.
 
 ghost use Rattle.std.specs.Prelude.{◌≡◌, None, Some, IfOk, IsErrOf};
+ghost use Rattle.nc_policy.specs.Indexes.{ArePolicies};
 ghost use Rattle.nc_tables.specs.Base.{base_tables};
 ghost use Rattle.nc_tables.specs.Rounds.{IsStable, IsUnstable};
 ghost use Rattle.nc_tables.specs.Sessions.{sessions};
 ghost use Rattle.nc_tables.specs.Settling.{settled};
 
 use crate::fault::SettleFault;
+use crate::settled_network::SettledNetwork;
 use nc_base_rib::base_tables;
 use nc_main_rib::main_tables;
 use nc_policy::Policies;
@@ -22,20 +24,22 @@ fn stable_table(
     network: &Network,
     base: &BaseTables,
     established: &Sessions,
+    policies: &Policies,
     rounds: u32,
 ) -> Result<BgpTable, SettleFault>
     requires base { base.now ≡ base_tables network.now }
     requires sessions { established.now ≡ sessions network.now base.now }
+    requires policies { ArePolicies network.now policies.now }
     ensures stable { IfOk result (IsStable network.now base.now established.now rounds) }
     ensures unstable { IsErrOf result SettleFault.Unstable
         → IsUnstable network.now base.now established.now rounds }
 {
-    let policies = Policies::new(alloc, network)?;
     let given = Given {
         network,
         base,
         sessions: established,
-        policies: &policies,
+        policies,
+        links: None,
     };
     let table = settle_table(alloc, given, rounds)?;
     match table {
@@ -45,7 +49,37 @@ fn stable_table(
 }
 
 /// The state in which a network settles within so many rounds of BGP: its base tables, its
-/// sessions, the first BGP table that no round changes, and its main tables.
+/// sessions, the first BGP table that no round changes, and its main tables. The tables of its maps,
+/// by which the rounds were made, are handed on with it.
+///
+/// # Errors
+///
+/// [`SettleFault::Unstable`] where each of so many rounds changes something; none where the state
+/// is found. [`SettleFault::Memory`] where memory runs out.
+pub fn settle_network(
+    alloc: Global,
+    network: Network,
+    rounds: u32,
+) -> Result<SettledNetwork, SettleFault>
+    ensures routers { IfOk result (λ made. made.state.routers ≡ network) }
+    ensures settled { IfOk result (λ made. settled rounds network ≡ Some made.state) }
+    ensures policies { IfOk result (λ made. ArePolicies network made.policies) }
+    ensures unstable { IsErrOf result SettleFault.Unstable → settled rounds network ≡ None }
+{
+    let base = base_tables(alloc, &network)?;
+    let sessions = sessions(alloc, &network, &base)?;
+    let policies = Policies::new(alloc, &network)?;
+    let bgp = stable_table(alloc, &network, &base, &sessions, &policies, rounds)?;
+    let _routers = network.routers();
+    let _elements = network.element_count();
+    let _count = bgp.count();
+    let main = main_tables(alloc, &network, &base, &bgp)?;
+    let state = Stable::new(network, base, sessions, bgp, main);
+    Ok(SettledNetwork { state, policies })
+}
+
+/// The state in which a network settles, as [`settle_network`] makes it, without the tables of its
+/// maps.
 ///
 /// # Errors
 ///
@@ -56,12 +90,8 @@ pub fn settle(alloc: Global, network: Network, rounds: u32) -> Result<Stable, Se
     ensures settled { IfOk result (λ state. settled rounds network ≡ Some state) }
     ensures unstable { IsErrOf result SettleFault.Unstable → settled rounds network ≡ None }
 {
-    let base = base_tables(alloc, &network)?;
-    let sessions = sessions(alloc, &network, &base)?;
-    let bgp = stable_table(alloc, &network, &base, &sessions, rounds)?;
-    let _routers = network.routers();
-    let _elements = network.element_count();
-    let _count = bgp.count();
-    let main = main_tables(alloc, &network, &base, &bgp)?;
-    Ok(Stable::new(network, base, sessions, bgp, main))
+    match settle_network(alloc, network, rounds) {
+        Ok(made) => Ok(made.state),
+        Err(fault) => Err(fault),
+    }
 }

@@ -11,7 +11,7 @@ use Rattle.nc_tables.specs.State.{StateView}
 use Rattle.nc_round.proofs.Settled.{after_count}
 use Rattle.nc_stable.proofs.Bounds.{main_few}
 use Rattle.nc_stable.proofs.Found.{state_is, state_found, nothing_found}
-use Rattle.nc_stable.proofs.routes.settle.Goals as goal
+use Rattle.nc_stable.proofs.routes.settle_network.Goals as goal
 
 fault_is : {A : Type 0} (r : Result A SettleFault) (x y : SettleFault) → r ≡ Err x → r ≡ Err y → x ≡ y
 fault_is r x y e f = cc
@@ -39,8 +39,8 @@ main_tables-requires-clause-few c =
     (main_few c.args.network c.routers-routers.ensures.valid c.element_count-elements.ensures.few c.in_ok-sessions.sessions c.in_ok-bgp.bgp stable.count
     (stable.state ∙ ap (λ (b : List (List BaseRow)). after c.args.network b c.in_ok-sessions.sessions stable.count) base) c.count-count.ensures.valid)
 
-pub new-requires : goal.new-requires
-new-requires c = record {
+pub new-state-requires : goal.new-state-requires
+new-state-requires c = record {
   valid = c.routers-routers.ensures.valid;
   few = c.routers-routers.ensures.few;
   tables = state_is c.args.network c.in_ok-base.base c.in_ok-sessions.sessions c.in_ok-base.ensures c.in_ok-sessions.ensures c.in_ok-bgp.bgp c.in_ok-main.main c.in_ok-main.ensures;
@@ -52,4 +52,4 @@ new-requires c = record {
 pub returns-clause-settled : goal.returns-clause-settled
 returns-clause-settled c =
     state_found c.args.network c.in_ok-base.base c.in_ok-sessions.sessions c.in_ok-base.ensures c.in_ok-sessions.ensures c.args.rounds c.in_ok-bgp.bgp c.in_ok-bgp.ensures.stable
-    ∙ ap (λ (s : StateView). Some s) (sym (c.new.ensures ∙ state_is c.args.network c.in_ok-base.base c.in_ok-sessions.sessions c.in_ok-base.ensures c.in_ok-sessions.ensures c.in_ok-bgp.bgp c.in_ok-main.main c.in_ok-main.ensures))
+    ∙ ap (λ (s : StateView). Some s) (sym (c.new-state.ensures ∙ state_is c.args.network c.in_ok-base.base c.in_ok-sessions.sessions c.in_ok-base.ensures c.in_ok-sessions.ensures c.in_ok-bgp.bgp c.in_ok-main.main c.in_ok-main.ensures))
