@@ -1,0 +1,10 @@
+use Rattle.std.proofs.Common.{List, slice_get, ap, sym}
+use Rattle.std.specs.Option.{option_map}
+use Rattle.nc_tables.specs.Forwarding.{Alternative}
+use Rattle.nc_trace.proofs.Beyond.{past_all, no_ways}
+use Rattle.nc_trace.proofs.traced.outcome_at.Goals as goal
+
+pub returns-then-router-routers : goal.returns-then-router-routers
+returns-then-router-routers c =
+    let beyond = past_all c.routers.result.now c.network.result.now c.args.state.now.routers c.args.router.0 c.routers.ensures.routers c.network.ensures.network c.if-router-routers.true in
+    sym (ap (λ (ways : List Alternative). option_map (λ (way : Alternative). way.outcome) (slice_get ways c.args.place)) (no_ways c.args.state.now c.network.ensures.state c.args.router.0 beyond c.args.addr.0))

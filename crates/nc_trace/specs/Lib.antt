@@ -1,0 +1,4 @@
+pub mod Views
+pub mod Left
+pub mod Traced
+pub mod Levels

@@ -1,0 +1,147 @@
+//! The ways out of a router for an address, one after the other.
+
+ghost use Rattle.std.specs.Prelude.{◌≡◌, ◌<◌, ◌∷◌, [], IfOk, MatchOption, ℕ, length, map, slice_get, slice_index_or};
+ghost use Rattle.std.specs.Option.{option_map};
+ghost use Rattle.nc_tables.specs.Forwarding.{alternatives};
+ghost use Rattle.nc_trace.specs.Views.{alternative_view, ways_view};
+
+use crate::alternative::Alternative;
+use crate::left::{Left, first_left, next_way, nothing_left};
+use nc_tables::Stable;
+use nc_types::{Addr, RouterId};
+use std::alloc::{AllocError, Global};
+use std::marker::Model;
+
+/// The ways out of a router for an address that are left: one after the other, in order. It takes no memory.
+#[derive(Drop)]
+pub struct Ways<'a> {
+    // Those that were found before, and then those that are to be found.
+    kept: &'a [Alternative],
+    state: &'a Stable,
+    router: RouterId,
+    addr: Addr,
+    left: Left,
+}
+
+impl<'a> Model for Ways<'a> {
+    ghost use Rattle.std.specs.Prelude.{List, ◌<◌, ◌++◌, length, map};
+    ghost use Rattle.nc_tables.specs.Forwarding.{Alternative};
+    ghost use Rattle.nc_trace.specs.Left.{left_ways, IsLeft};
+    ghost use Rattle.nc_trace.specs.Views.{alternative_view};
+
+    ghost Value = { List Alternative };
+
+    ghost view = { λ w. map alternative_view w.kept.now ++ left_ways w.state.now w.router.0 w.addr.0 w.left };
+
+    ghost invariant = { λ w. (w.router.0 < length w.state.now.routers) × IsLeft w.left };
+}
+
+impl<'a> Ways<'a> {
+    /// All ways out of a router, which has a number below that of the routers.
+    pub fn new(state: &'a Stable, router: RouterId, addr: Addr) -> Ways<'a>
+        requires { router.0 < length state.now.routers }
+        ensures { result ≡ alternatives state.now.routers state.now.base state.now.bgp state.now.main router.0 addr.0 }
+    {
+        Ways {
+            kept: &[],
+            state,
+            router,
+            addr,
+            left: first_left(state, router, addr),
+        }
+    }
+
+    /// Ways of that router that were found before.
+    pub(crate) fn kept(
+        state: &'a Stable,
+        router: RouterId,
+        addr: Addr,
+        kept: &'a [Alternative],
+    ) -> Ways<'a>
+        requires { router.0 < length state.now.routers }
+        ensures { result ≡ map alternative_view kept.now }
+    {
+        Ways {
+            kept,
+            state,
+            router,
+            addr,
+            left: nothing_left(addr),
+        }
+    }
+
+    /// The first way that is left, which is taken from the front; `None` where none is.
+    pub fn next(&mut self) -> Option<Alternative>
+        ensures { MatchOption result ((self.old ≡ []) × (self.new ≡ []))
+            (λ way. self.old ≡ alternative_view way ∷ self.new) }
+    {
+        if let Some((way, kept)) = self.kept.split_first() {
+            self.kept = kept;
+            return Some(*way);
+        }
+        let (way, left) = next_way(self.state, self.router, self.addr, self.left)?;
+        self.left = left;
+        Some(way)
+    }
+}
+
+/// The ways out of a router for an address: one for each main row of the longest prefix, and for a row of BGP one for
+/// each base row that leads toward its next hop. The router has a number below that of the routers.
+///
+/// # Errors
+///
+/// Memory that runs out.
+pub fn alternatives(
+    alloc: Global,
+    state: &Stable,
+    router: RouterId,
+    addr: Addr,
+) -> Result<Vec<Alternative>, AllocError>
+    requires { router.0 < length state.now.routers }
+    ensures { IfOk result (λ made. map alternative_view made.items
+        ≡ alternatives state.now.routers state.now.base state.now.bgp state.now.main router.0 addr.0) }
+{
+    let mut made = Vec::new(alloc);
+    let mut ways = Ways::new(state, router, addr);
+    'ways: while let Some(way) = ways.next() {
+        made.push(way)?;
+    }
+    Ok(made)
+}
+
+/// The alternative at a place of that list; `None` where the list ends before it. Takes no memory.
+pub fn alternative_at(
+    state: &Stable,
+    router: RouterId,
+    addr: Addr,
+    place: u32,
+) -> Option<Alternative>
+    requires { router.0 < length state.now.routers }
+    ensures { option_map alternative_view result ≡ slice_get
+        (alternatives state.now.routers state.now.base state.now.bgp state.now.main router.0 addr.0) place }
+{
+    let mut ways = Ways::new(state, router, addr);
+    'ways: for _before in 0..place {
+        if ways.next().is_none() {
+            return None;
+        }
+    }
+    ways.next()
+}
+
+/// The lists of all routers, by their numbers.
+pub(crate) fn all_alternatives(
+    alloc: Global,
+    state: &Stable,
+    addr: Addr,
+) -> Result<Vec<Vec<Alternative>>, AllocError>
+    ensures { IfOk result (λ made. (router : ℕ) → slice_index_or (ways_view made.items) router []
+        ≡ alternatives state.now.routers state.now.base state.now.bgp state.now.main router addr.0) }
+{
+    let mut made = Vec::new(alloc);
+    let count = state.network().routers().len();
+    'routers: for router in 0..count {
+        made.push(alternatives(alloc, state, RouterId(router as u32), addr)?)?;
+    }
+    Ok(made)
+}
