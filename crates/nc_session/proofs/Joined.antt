@@ -1,10 +1,9 @@
 -- What is told of configurations: of one by itself, and of several together.
-use Rattle.std.proofs.Common.{◌≡◌, ℕ, zero, suc, ◌≤◌, List, [], ◌∷◌, length, map, Option, Some, None, Result, Ok, Err, All, refl, sym, ap, ◌∙◌, subst}
+use Rattle.std.proofs.Common.{◌≡◌, ℕ, zero, suc, ◌≤◌, List, [], ◌∷◌, length, map, Option, Some, None, Ok, Err, All, refl, sym, ap, ◌∙◌, subst}
 use Rattle.std.specs.Prelude.{slice_get}
 use Rattle.std.specs.Option.{option_map, option_map_or}
 use Rattle.std.proofs.lemmas.List.Elements.{All-map}
 use Rattle.std.proofs.lemmas.List.{length-map}
-use Rattle.std.proofs.lemmas.Simd.{map-map}
 use Rattle.nc_types.specs.Config.{ConfigView, config_view}
 use Rattle.nc_types.specs.WellFormed.{IsWellFormed}
 use Rattle.nc_types.specs.declared.config.RouterConfig.{RouterConfig}
@@ -21,9 +20,7 @@ use Rattle.nc_network.specs.declared.fault.JoinFault.{JoinFault}
 use Rattle.nc_network.specs.declared.fault.JoinFault.TheVariants as joins
 use Rattle.nc_types.specs.declared.TheConstants.{LINE_LIMIT}
 use Rattle.nc_session.specs.File.{FileView, AreFilesOf}
-use Rattle.nc_session.specs.Begun.{LineIn, begun_from}
-use Rattle.nc_session.specs.declared.refusal.Reason.TheVariants.{Unsupported}
-use Rattle.nc_session.specs.Load.{Faulty, Unsettled, file_named, load_begun, load_judged, load_settled}
+use Rattle.nc_session.specs.Load.{Unsettled, load_judged, load_settled}
 use Rattle.nc_session.specs.Loading.{IsFault, IsConfigured, AreBeside, joining_fault}
 
 -- ---- one configuration
@@ -85,27 +82,18 @@ settled_routers rounds routers s e = on (settled_table routers (base_tables rout
         let same : state_at routers table ≡ s = cc in sym (ap (λ (t : StateView). t.routers) same)
 
 -- configurations with which nothing is wrong, and which settle
-pub load_fine : (rounds : ℕ) (names : List (List ℕ)) (routers : List ConfigView) (j : Judgement) (state : StateView) → j ≡ Fine → begun_from 0 routers ≡ None → settled rounds routers ≡ Some state
+pub load_fine : (rounds : ℕ) (names : List (List ℕ)) (routers : List ConfigView) (j : Judgement) (state : StateView) → j ≡ Fine → settled rounds routers ≡ Some state
     → load_settled rounds (load_judged names routers j) ≡ Ok state
-load_fine rounds names routers j state fine none is =
+load_fine rounds names routers j state fine is =
     ap (λ (k : Judgement). load_settled rounds (load_judged names routers k)) fine
-    ∙ ap (λ (o : Option LineIn). load_settled rounds (load_begun names routers o)) none
     ∙ ap (λ (o : Option StateView). option_map_or Ok o (Err (Unsettled rounds))) is
 
 -- configurations with which nothing is wrong, and which don't settle
-pub load_unsettled : (rounds : ℕ) (names : List (List ℕ)) (routers : List ConfigView) (j : Judgement) → j ≡ Fine → begun_from 0 routers ≡ None → settled rounds routers ≡ None
+pub load_unsettled : (rounds : ℕ) (names : List (List ℕ)) (routers : List ConfigView) (j : Judgement) → j ≡ Fine → settled rounds routers ≡ None
     → load_settled rounds (load_judged names routers j) ≡ Err (Unsettled rounds)
-load_unsettled rounds names routers j fine none is =
+load_unsettled rounds names routers j fine is =
     ap (λ (k : Judgement). load_settled rounds (load_judged names routers k)) fine
-    ∙ ap (λ (o : Option LineIn). load_settled rounds (load_begun names routers o)) none
     ∙ ap (λ (o : Option StateView). option_map_or Ok o (Err (Unsettled rounds))) is
-
--- configurations that begin a prefix
-pub load_unserved : (rounds : ℕ) (names : List (List ℕ)) (routers : List ConfigView) (j : Judgement) (at : LineIn) → j ≡ Fine → begun_from 0 routers ≡ Some at
-    → load_settled rounds (load_judged names routers j) ≡ Err (Faulty (file_named names at.router) at.line Unsupported)
-load_unserved rounds names routers j at fine some =
-    ap (λ (k : Judgement). load_settled rounds (load_judged names routers k)) fine
-    ∙ ap (λ (o : Option LineIn). load_settled rounds (load_begun names routers o)) some
 
 -- ---- the files of the routers
 

@@ -1,7 +1,6 @@
 mod Options
 mod Asking
 mod EachFile
-mod BeginningNothing
 mod OneFile
 mod Joined
 mod AllFiles

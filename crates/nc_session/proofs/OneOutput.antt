@@ -14,7 +14,7 @@ use Rattle.nc_marks.specs.declared.mark.Mark.TheVariants.{Strong, Weak, Uncovere
 use Rattle.nc_reader.specs.Configuration.{configuration}
 use Rattle.nc_types.specs.Joining.{IsValid}
 use Rattle.nc_types.specs.declared.TheConstants.{ROUTER_LIMIT}
-use Rattle.nc_tables.specs.State.{StateView, BeginNothing, IsState}
+use Rattle.nc_tables.specs.State.{StateView, IsState}
 use Rattle.nc_tables.specs.Settling.{settled}
 use Rattle.nc_fact.specs.declared.fact.Fact.{Fact}
 use Rattle.nc_fact.specs.Tested.{tested_facts}
@@ -157,7 +157,7 @@ module _ (lengths : (g : Flow Fact) → IsFlow g → (fs xs ys : List Fact) → 
 -- ---- one output
 
 module _ (formed : (lines : List (List ℕ)) (c : ConfigView) → configuration lines ≡ Ok c → IsWellFormed c)
-    (lawful : (routers : List ConfigView) (rounds : ℕ) (s : StateView) → BeginNothing routers → IsValid routers → length routers ≤ ROUTER_LIMIT → settled rounds routers ≡ Some s → IsState s)
+    (lawful : (routers : List ConfigView) (rounds : ℕ) (s : StateView) → IsValid routers → length routers ≤ ROUTER_LIMIT → settled rounds routers ≡ Some s → IsState s)
     (flows : (s : StateView) → IsState s → IsFlow (flow_of s))
     (lengths : (g : Flow Fact) → IsFlow g → (fs xs ys : List Fact) → IsClosure g fs xs → IsClosure g fs ys → length xs ≡ length ys) where
   concludes_once : (loaded : Result StateView Refusal) (session : List ℕ) (m n : Status) (r t : List ℕ) → ((state : StateView) → loaded ≡ Ok state → IsState state)

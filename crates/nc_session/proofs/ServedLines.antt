@@ -1,6 +1,6 @@
 -- Lines that are served one after another.
-use Rattle.std.proofs.Common.{◌≡◌, ℕ, ◌<◌, Bool, true, false, ◌||◌, nat_lt, cond, List, [], ◌∷◌, ◌++◌, length, Option, Some, refl, sym, ap, ◌∙◌, subst, append_assoc, append-nil}
-use Rattle.std.specs.Prelude.{codes, Result, Ok, Err, IfOk, OnErr}
+use Rattle.std.proofs.Common.{◌≡◌, ℕ, ◌<◌, Bool, true, false, ◌||◌, nat_lt, cond, List, [], ◌∷◌, ◌++◌, length, Option, None, Some, inl, inr, refl, sym, ap, ◌∙◌, subst, append_assoc, append-nil}
+use Rattle.std.specs.Prelude.{codes, Result, Ok, Err, IfOk, OnOk}
 use Rattle.std.specs.Io.KnownBytes.{Appends}
 use Rattle.std.proofs.KnownBytes.{Appends-trans, Appends-nil}
 use Rattle.std.proofs.lemmas.Bool.{lt-ltb, ltb-true, or_left, or_right, or_from}
@@ -19,7 +19,7 @@ use Rattle.nc_session.specs.Session.{State, Step, Answers, Run, ends, is_quit, u
 use Rattle.nc_session.specs.Output.{has_quit}
 use Rattle.nc_session.specs.Engine.{Progress, flow_behind, Turns}
 use Rattle.nc_session.specs.Texts.{line_of}
-use Rattle.nc_session.specs.Serving.{AppendsFront, AreServed, AreEnded, AreBroken, AreAnswered, ServesLines}
+use Rattle.nc_session.specs.Serving.{AppendsFront, AppendsPart, EndsWith, AreServed, ArePending, AreEnded, AreBroken, AreAnswered, ServesLines, AnswersLine}
 
 -- ---- runs, and the lines up to the end of a session
 
@@ -93,14 +93,14 @@ long_is raw is = ltb-true command.LINE_LIMIT (length (without_return raw)) (on (
 -- ---- one line
 
 -- whether a line ends the session, by how the session goes on
-pub goes_by : (line : List ℕ) → Go ≡ flow_behind (command_of line) → is_quit line ≡ false
+goes_by : (line : List ℕ) → Go ≡ flow_behind (command_of line) → is_quit line ≡ false
 goes_by line is = on (ends (command_of line)) is
   where
     on : (b : Bool) → Go ≡ cond b Stop Go → b ≡ false
     on true e = absurd cc
     on false e = refl
 
-pub stops_by : (line : List ℕ) → Stop ≡ flow_behind (command_of line) → is_quit line ≡ true
+stops_by : (line : List ℕ) → Stop ≡ flow_behind (command_of line) → is_quit line ≡ true
 stops_by line is = on (ends (command_of line)) is
   where
     on : (b : Bool) → Stop ≡ cond b Stop Go → b ≡ true
@@ -110,18 +110,144 @@ stops_by line is = on (ends (command_of line)) is
 some_same : (o : Option Progress) (p q : Progress) → o ≡ Some p → o ≡ Some q → p ≡ q
 some_same o p q e f = let same : Some p ≡ Some q = sym e ∙ f in cc
 
-module _ (from : Progress) (lines : List (List ℕ)) (now : Option Progress) (start mid : Option (List ℕ)) (a : AreServed from lines now start mid) where
-  -- memory gave out before the reply to a further line was written
-  pub served_broken : (more : List (List ℕ)) → AreBroken from (lines ++ more) start mid
-  served_broken more = record {
+-- a line that ends the session has no reply
+quit_reply : (s : StateView) (line reply : List ℕ) (a b : State) → is_quit line ≡ true → Step s a line reply b → reply ≡ []
+quit_reply s line reply a b quits step = on (command_of line) quits step
+  where
+    on : (l : Line) → ends l ≡ true → Answers s a l reply b → reply ≡ []
+    on (Asks Quit) quits answers = answers.0
+    on (Asks (Test test)) quits answers = absurd cc
+    on Passed quits answers = absurd cc
+    on TooLong quits answers = absurd cc
+    on Unread quits answers = absurd cc
+
+-- ---- replies that are pending
+
+module _ (from : Progress) (lines : List (List ℕ)) (now : Option Progress) (pending : List ℕ) (start mid : Option (List ℕ)) (p : ArePending from lines now pending start mid) where
+  -- they were written
+  pub pending_served : (new : Option (List ℕ)) → Appends mid new pending → AreServed from lines now start new
+  pending_served new written = record {
+    to = p.to;
+    to_is = p.to_is;
+    state = p.state;
+    replies = p.sent ++ pending;
+    run = p.run;
+    goes = p.goes;
+    written = Appends-trans start mid new p.sent pending p.written written;
+  }
+
+  -- the sink failed within them
+  pub pending_broken : (more : List (List ℕ)) (new : Option (List ℕ)) → AppendsFront mid new pending → AreBroken from (lines ++ more) start new
+  pending_broken more new begun = record {
     answered = lines;
     others = until_quit more;
-    parts = until_then lines more a.goes;
-    replies = a.replies;
-    last = a.to.session;
-    run = a.run;
-    begun = record { front = a.replies; behind = []; parts = sym (append-nil a.replies); written = a.written };
+    parts = until_then lines more p.goes;
+    replies = p.sent ++ pending;
+    last = p.to.session;
+    run = p.run;
+    begun = record {
+      front = p.sent ++ begun.front;
+      behind = begun.behind;
+      parts = ap (λ (l : List ℕ). p.sent ++ l) begun.parts ∙ sym (append_assoc p.sent begun.front begun.behind);
+      written = Appends-trans start mid new p.sent begun.front p.written begun.written;
+    };
   }
+
+  -- they were written, or the sink failed within them
+  pub pending_ends : (bytes : List ℕ) → bytes ≡ pending → (new : Option (List ℕ)) (r : Result Flow stop.Stop) → EndsWith (Ok Go) mid new bytes r → ServesLines from lines now start new r
+  pending_ends bytes same new r (inl done) =
+      subst (λ (r : Result Flow stop.Stop). ServesLines from lines now start new r) (sym done.0) (pending_served new (subst (Appends mid new) same done.1))
+  pending_ends bytes same new r (inr failed) =
+      subst (λ (r : Result Flow stop.Stop). ServesLines from lines now start new r) (sym failed.0)
+      (subst (λ (ls : List (List ℕ)). AreBroken from ls start new) (append-nil lines) (pending_broken [] new (subst (AppendsFront mid new) same failed.1)))
+
+  -- a part of them was written
+  pub pending_less : (after : List ℕ) (new : Option (List ℕ)) → AppendsPart mid new pending after → ArePending from lines now after start new
+  pending_less after new some = record {
+    to = p.to;
+    to_is = p.to_is;
+    state = p.state;
+    sent = p.sent ++ some.part;
+    run = subst (λ (r : List ℕ). Run from.state from.session lines r p.to.session)
+        (ap (λ (l : List ℕ). p.sent ++ l) some.parts ∙ sym (append_assoc p.sent some.part after)) p.run;
+    goes = p.goes;
+    written = Appends-trans start mid new p.sent some.part p.written some.written;
+  }
+
+  -- the reply to a further line is behind them
+  pub pending_more : (line reply : List ℕ) (next : Option Progress) (to : Progress) → is_quit line ≡ false → next ≡ Some to → to.state ≡ p.to.state
+      → Step p.to.state p.to.session line reply to.session → ArePending from (lines ++ line ∷ []) next (pending ++ reply) start mid
+  pending_more line reply next to goes is state step = record {
+    to = to;
+    to_is = is;
+    state = state ∙ p.state;
+    sent = p.sent;
+    run = subst (λ (r : List ℕ). Run from.state from.session (lines ++ line ∷ []) r to.session) (append_assoc p.sent pending reply)
+        (run_line from.state from.session p.to.session to.session lines line (p.sent ++ pending) reply p.run
+        (subst (λ (s : StateView). Step s p.to.session line reply to.session) p.state step));
+    goes = list_any-append is_quit lines (line ∷ []) ∙ or_from (has_quit lines) (is_quit line || false) p.goes (or_from (is_quit line) false goes refl);
+    written = p.written;
+  }
+
+  -- the engine answered a line
+  module _ (line : List ℕ) (next : Option Progress) (after : List ℕ) (t : Turns now next line pending after) where
+    at : t.from ≡ p.to
+    at = some_same now t.from p.to t.from_is p.to_is
+
+    step_is : Step p.to.state p.to.session line t.answered.reply t.to.session
+    step_is = subst (λ (q : Progress). Step q.state q.session line t.answered.reply t.to.session) at t.answered.step
+
+    line_more : is_quit line ≡ false → ArePending from (lines ++ line ∷ []) next after start mid
+    line_more goes = subst (λ (bytes : List ℕ). ArePending from (lines ++ line ∷ []) next bytes start mid) (sym t.answered.text)
+        (pending_more line t.answered.reply next t.to goes t.to_is (t.answered.state ∙ ap (λ (q : Progress). q.state) at) step_is)
+
+    line_none : is_quit line ≡ true → after ≡ pending
+    line_none quits =
+        t.answered.text ∙ ap (λ (l : List ℕ). pending ++ l) (quit_reply p.to.state line t.answered.reply p.to.session t.to.session quits step_is) ∙ append-nil pending
+
+    pub line_answered : (how : Flow) → how ≡ flow_behind (command_of line) → AnswersLine from lines line next pending after start mid how
+    line_answered Go is = line_more (goes_by line is)
+    line_answered Stop is = (stops_by line is, line_none (stops_by line is))
+
+  pub line_replied : {E : Type 0} → (line : List ℕ) (next : Option Progress) (after : List ℕ) (r : Result Flow E) → OnOk r (Turns now next line pending after)
+      → IfOk r (λ how. how ≡ flow_behind (command_of line)) → IfOk r (AnswersLine from lines line next pending after start mid)
+  line_replied line next after (Ok how) turns flow = line_answered line next after turns how flow
+  line_replied line next after (Err error) turns flow = tt
+
+  -- a line that is too long
+  module _ (line : List ℕ) (long : command.LINE_LIMIT < length line) where
+    too_long : command_of line ≡ TooLong
+    unfolding command_of
+    too_long = ap (λ (b : Bool). cond b TooLong (asked_by (words_of line))) (lt-ltb command.LINE_LIMIT (length line) long)
+
+    long_step : Step p.to.state p.to.session line (line_of (codes "refused long")) p.to.session
+    long_step = subst (λ (l : Line). Answers p.to.state p.to.session l (line_of (codes "refused long")) p.to.session) (sym too_long) (refl, refl)
+
+    pub long_replied : {E : Type 0} → (after : List ℕ) (r : Result Flow E) → IfOk r (λ how. (how ≡ Go) × (after ≡ pending ++ line_of (codes "refused long")))
+        → IfOk r (AnswersLine from lines line now pending after start mid)
+    long_replied after (Ok how) done =
+        subst (AnswersLine from lines line now pending after start mid) (sym done.0)
+        (subst (λ (bytes : List ℕ). ArePending from (lines ++ line ∷ []) now bytes start mid) (sym done.1)
+        (pending_more line (line_of (codes "refused long")) now p.to (ap ends too_long) p.to_is refl long_step))
+    long_replied after (Err error) done = tt
+
+module _ (from : Progress) (lines : List (List ℕ)) (now : Option Progress) (start mid : Option (List ℕ)) (a : AreServed from lines now start mid) where
+  -- nothing is pending where all is written
+  pub served_pending : ArePending from lines now [] start mid
+  served_pending = record {
+    to = a.to;
+    to_is = a.to_is;
+    state = a.state;
+    sent = a.replies;
+    run = subst (λ (r : List ℕ). Run from.state from.session lines r a.to.session) (sym (append-nil a.replies)) a.run;
+    goes = a.goes;
+    written = a.written;
+  }
+
+  -- memory gave out behind them
+  pub served_broken : (more : List (List ℕ)) → AreBroken from (lines ++ more) start mid
+  served_broken more =
+      pending_broken from lines now [] start mid served_pending more mid (record { front = []; behind = []; parts = refl; written = Appends-nil mid })
 
   -- a line that ends the session has no reply
   pub served_quit : (line : List ℕ) → is_quit line ≡ true → AreEnded from (lines ++ line ∷ []) start mid
@@ -136,84 +262,6 @@ module _ (from : Progress) (lines : List (List ℕ)) (now : Option Progress) (st
         written = a.written;
       }
 
-  module _ (line reply : List ℕ) (new : Option (List ℕ)) (goes : is_quit line ≡ false) where
-    still : has_quit (lines ++ line ∷ []) ≡ false
-    still = list_any-append is_quit lines (line ∷ []) ∙ or_from (has_quit lines) (is_quit line || false) a.goes (or_from (is_quit line) false goes refl)
-
-    -- the reply to a further line was written
-    pub served_more : (next : Option Progress) (to : Progress) → next ≡ Some to → to.state ≡ a.to.state → Step a.to.state a.to.session line reply to.session
-        → Appends mid new reply → AreServed from (lines ++ line ∷ []) next start new
-    served_more next to is state step written = record {
-      to = to;
-      to_is = is;
-      state = state ∙ a.state;
-      replies = a.replies ++ reply;
-      run = run_line from.state from.session a.to.session to.session lines line a.replies reply a.run
-          (subst (λ (s : StateView). Step s a.to.session line reply to.session) a.state step);
-      goes = still;
-      written = Appends-trans start mid new a.replies reply a.written written;
-    }
-
-    -- the sink failed within it
-    pub served_begun : (last : State) → Step a.to.state a.to.session line reply last → AppendsFront mid new reply → AreBroken from (lines ++ line ∷ []) start new
-    served_begun last step begun = record {
-      answered = lines ++ line ∷ [];
-      others = [];
-      parts = until_all (lines ++ line ∷ []) still ∙ sym (append-nil (lines ++ line ∷ []));
-      replies = a.replies ++ reply;
-      last = last;
-      run = run_line from.state from.session a.to.session last lines line a.replies reply a.run
-          (subst (λ (s : StateView). Step s a.to.session line reply last) a.state step);
-      begun = record {
-        front = a.replies ++ begun.front;
-        behind = begun.behind;
-        parts = ap (λ (l : List ℕ). a.replies ++ l) begun.parts ∙ sym (append_assoc a.replies begun.front begun.behind);
-        written = Appends-trans start mid new a.replies begun.front a.written begun.written;
-      };
-    }
-
-  -- the engine answered a line
-  module _ (line : List ℕ) (next : Option Progress) (before after : List ℕ) (t : Turns now next line before after) (new : Option (List ℕ)) (goes : is_quit line ≡ false) where
-    at : t.from ≡ a.to
-    at = some_same now t.from a.to t.from_is a.to_is
-
-    step_is : Step a.to.state a.to.session line t.answered.reply t.to.session
-    step_is = subst (λ (p : Progress). Step p.state p.session line t.answered.reply t.to.session) at t.answered.step
-
-    pub served_line : Appends mid new t.answered.reply → AreServed from (lines ++ line ∷ []) next start new
-    served_line written = served_more line t.answered.reply new goes next t.to t.to_is (t.answered.state ∙ ap (λ (p : Progress). p.state) at) step_is written
-
-    pub line_begun : AppendsFront mid new t.answered.reply → AreBroken from (lines ++ line ∷ []) start new
-    line_begun begun = served_begun line t.answered.reply new goes t.to.session step_is begun
-
-    -- its reply was given to the sink
-    pub line_replied : (bytes : List ℕ) (r : Result Flow stop.Stop) → bytes ≡ t.answered.reply → IfOk r (λ how. (how ≡ Go) × Appends mid new bytes) → OnErr r (AppendsFront mid new bytes)
-        → ServesLines from (lines ++ line ∷ []) next start new r
-    line_replied bytes (Ok how) is done failed =
-        subst (λ (f : Flow). ServesLines from (lines ++ line ∷ []) next start new (Ok f)) (sym done.0) (served_line (subst (Appends mid new) is done.1))
-    line_replied bytes (Err why) is done failed = line_begun (subst (AppendsFront mid new) is failed)
-
-  -- a line that is too long
-  module _ (line : List ℕ) (new : Option (List ℕ)) (long : command.LINE_LIMIT < length line) where
-    too_long : command_of line ≡ TooLong
-    unfolding command_of
-    too_long = ap (λ (b : Bool). cond b TooLong (asked_by (words_of line))) (lt-ltb command.LINE_LIMIT (length line) long)
-
-    long_step : Step a.to.state a.to.session line (line_of (codes "refused long")) a.to.session
-    long_step = subst (λ (l : Line). Answers a.to.state a.to.session l (line_of (codes "refused long")) a.to.session) (sym too_long) (refl, refl)
-
-    pub served_long : Appends mid new (line_of (codes "refused long")) → AreServed from (lines ++ line ∷ []) now start new
-    served_long written = served_more line (line_of (codes "refused long")) new (ap ends too_long) now a.to a.to_is refl long_step written
-
-    pub long_begun : AppendsFront mid new (line_of (codes "refused long")) → AreBroken from (lines ++ line ∷ []) start new
-    long_begun begun = served_begun line (line_of (codes "refused long")) new (ap ends too_long) a.to.session long_step begun
-
-    pub long_replied : (r : Result Flow stop.Stop) → IfOk r (λ how. (how ≡ Go) × Appends mid new (line_of (codes "refused long"))) → OnErr r (AppendsFront mid new (line_of (codes "refused long")))
-        → ServesLines from (lines ++ line ∷ []) now start new r
-    long_replied (Ok how) done failed =
-        subst (λ (f : Flow). ServesLines from (lines ++ line ∷ []) now start new (Ok f)) (sym done.0) (served_long done.1)
-    long_replied (Err why) done failed = long_begun failed
-
 -- ---- lines behind
 
 module _ (from : Progress) (xs ys : List (List ℕ)) (old new : Option (List ℕ)) where
@@ -225,19 +273,6 @@ module _ (from : Progress) (xs ys : List (List ℕ)) (old new : Option (List ℕ
     quits = quits_more xs ys e.quits;
     written = e.written;
   }
-
-  pub broken_on : AreBroken from xs old new → AreBroken from (xs ++ ys) old new
-  broken_on b =
-      let more = until_more xs ys in
-      record {
-        answered = b.answered;
-        others = b.others ++ more.0;
-        parts = more.1 ∙ ap (λ (ls : List (List ℕ)). ls ++ more.0) b.parts ∙ append_assoc b.answered b.others more.0;
-        replies = b.replies;
-        last = b.last;
-        run = b.run;
-        begun = b.begun;
-      }
 
 pub served_answered : (from : Progress) (lines : List (List ℕ)) (now : Option Progress) (old new : Option (List ℕ)) → AreServed from lines now old new → AreAnswered from lines old new
 served_answered from lines now old new a = record {

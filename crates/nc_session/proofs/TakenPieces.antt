@@ -1,6 +1,6 @@
 -- A session that is served piece by piece.
-use Rattle.std.proofs.Common.{◌≡◌, ◌≢◌, ℕ, ◌+◌, ◌<◌, ◌≤◌, min, ◌==◌, Bool, true, false, ◌&&◌, ◌||◌, nat_lt, cond, List, [], ◌∷◌, ◌++◌, length, take, map, Option, None, Some, Result, Ok, Err, refl, sym, ap, ◌∙◌, subst, append_assoc, append-nil, length-append, arith}
-use Rattle.std.specs.Prelude.{if◌then◌else◌}
+use Rattle.std.proofs.Common.{◌≡◌, ◌≢◌, ℕ, ◌+◌, ◌<◌, ◌≤◌, min, ◌==◌, Bool, true, false, ◌&&◌, ◌||◌, nat_lt, cond, List, [], ◌∷◌, ◌++◌, length, take, map, Option, None, Some, Result, Ok, Err, inl, inr, refl, sym, ap, ◌∙◌, subst, append_assoc, append-nil, length-append, arith}
+use Rattle.std.specs.Prelude.{if◌then◌else◌, IfOk}
 use Rattle.std.specs.List.{list_any}
 use Rattle.std.specs.Io.KnownBytes.{Appends, Keeps, Consumes, IsAtEnd}
 use Rattle.std.proofs.KnownBytes.{Appends-nil, Consumes-nil, Consumes-trans, Consumes-kept}
@@ -22,16 +22,32 @@ use Rattle.nc_session.specs.declared.reading.Stop.TheVariants as stop
 use Rattle.nc_session.specs.declared.status.Status.{Status}
 use Rattle.nc_session.specs.declared.status.Status.TheVariants.{Done, Config, Usage, Unstable, InputFault, OutputFault, FileFault, Memory, Limit}
 use Rattle.nc_session.specs.File.{FileView}
-use Rattle.nc_session.specs.Session.{no_tests, Run}
+use Rattle.nc_session.specs.Session.{no_tests, Run, is_quit}
 use Rattle.nc_session.specs.Output.{has_quit}
 use Rattle.nc_session.specs.Engine.{Progress, begin_at}
-use Rattle.nc_session.specs.Serving.{AreServed, AreEnded, AreBroken, AreAnswered, ServesLines}
+use Rattle.nc_session.specs.Serving.{AppendsFront, EndsWith, AreServed, ArePending, AreEnded, AreBroken, AreAnswered, ServesLines}
 use Rattle.nc_session.specs.Leaving.{Told, told, failures, Leaves, FailsAs, GoesOn, stopped_as}
 use Rattle.nc_session.specs.SoFar.{IsTaken, RefusesRest}
-use Rattle.nc_session.proofs.ServedLines.{served_broken, served_answered, ended_answered, ended_on, broken_on}
+use Rattle.nc_session.proofs.ServedLines.{pending_served, pending_broken, pending_ends, served_broken, served_quit, served_answered, ended_answered, ended_on}
 use Rattle.nc_session.proofs.SessionLeft.{quit_leaves, end_leaves, fault_leaves, broken_leaves, last_broken, limit_leaves, limit_broken}
 
 -- ---- a piece, line by line
+
+empty_front : (xs : List ℕ) → front_of xs ≡ [] → xs ≡ []
+empty_front [] e = refl
+empty_front (x ∷ xs) e =
+    let none : length (front_of (x ∷ xs)) ≡ 0 = ap length e in
+    let taken : length (front_of (x ∷ xs)) ≡ min HELD_LIMIT (length (x ∷ xs)) = length-take HELD_LIMIT (x ∷ xs) in
+    absurd (omega arith)
+
+pub nothing_held : (held : List ℕ) → length held ≡ 0 → held ≡ []
+nothing_held [] none = refl
+nothing_held (b ∷ bs) none = absurd (omega arith)
+
+-- a line that stands whole in a piece, where nothing is held in front
+pub first_is : (taken front held line : List ℕ) → held ≡ [] → held ≡ held_of taken → line ≡ without_return front → line ≡ without_return (open_of taken ++ front)
+first_is taken front held line none is e =
+    e ∙ ap (λ (bs : List ℕ). without_return (bs ++ front)) (sym (empty_front (open_of taken) (sym is ∙ none)))
 
 -- the line that is cut, by what was taken and the bytes in front of the line feed
 module _ (taken front : List ℕ) (first : list_any is_feed front ≡ false) where
@@ -51,11 +67,8 @@ pub lines_on : (xs ys : List ℕ) → (more : List (List ℕ)) × (whole_lines_o
 lines_on xs ys = (whole_lines_of (open_of xs ++ ys), whole_more xs ys)
 
 module _ (from : Progress) (xs ys : List ℕ) (old new : Option (List ℕ)) where
-  pub ended_behind : AreEnded from (whole_lines_of xs) old new → AreEnded from (whole_lines_of (xs ++ ys)) old new
+  ended_behind : AreEnded from (whole_lines_of xs) old new → AreEnded from (whole_lines_of (xs ++ ys)) old new
   ended_behind e = let on = lines_on xs ys in subst (λ (ls : List (List ℕ)). AreEnded from ls old new) (sym on.1) (ended_on from (whole_lines_of xs) on.0 old new e)
-
-  pub broken_behind : AreBroken from (whole_lines_of xs) old new → AreBroken from (whole_lines_of (xs ++ ys)) old new
-  broken_behind b = let on = lines_on xs ys in subst (λ (ls : List (List ℕ)). AreBroken from ls old new) (sym on.1) (broken_on from (whole_lines_of xs) on.0 old new b)
 
   pub memory_behind : (now : Option Progress) → AreServed from (whole_lines_of xs) now old new → AreBroken from (whole_lines_of (xs ++ ys)) old new
   memory_behind now a = let on = lines_on xs ys in subst (λ (ls : List (List ℕ)). AreBroken from ls old new) (sym on.1) (served_broken from (whole_lines_of xs) now old new a on.0)
@@ -73,23 +86,55 @@ pub fed_lines : (taken front line : List ℕ) → list_any is_feed line ≡ fals
     → whole_lines_of (taken ++ front) ++ without_return (open_of (taken ++ front) ++ line) ∷ [] ≡ whole_lines_of (taken ++ (front ++ (line ++ 10 ∷ [])))
 fed_lines taken front line first = lines_fed (taken ++ front) line first ∙ ap whole_lines_of (append_assoc taken front (line ++ 10 ∷ []))
 
--- bytes without a line feed complete no line
-pub served_held : (from : Progress) (xs ys : List ℕ) (now : Option Progress) (old new : Option (List ℕ)) → list_any is_feed ys ≡ false
-    → AreServed from (whole_lines_of xs) now old new → AreServed from (whole_lines_of (xs ++ ys)) now old new
-served_held from xs ys now old new none a = subst (λ (ls : List (List ℕ)). AreServed from ls now old new) (sym (whole_held xs ys none)) a
+-- what holds where it ends as was said
+pub ok_after : (end : Result Flow Stop) (old new : Option (List ℕ)) (bytes : List ℕ) (result : Result Flow Stop) (P : Flow → Type 0) → EndsWith end old new bytes result → IfOk end P → IfOk result P
+ok_after end old new bytes result P (inl done) holds = subst (λ (r : Result Flow Stop). IfOk r P) (sym done.0) holds
+ok_after end old new bytes result P (inr failed) holds = subst (λ (r : Result Flow Stop). IfOk r P) (sym failed.0) tt
+
+-- the replies to the whole lines so far are pending: they are written, and the piece is left
+module _ (from : Progress) (xs : List ℕ) (now : Option Progress) (pending bytes : List ℕ) (same : bytes ≡ pending) (old mid new : Option (List ℕ))
+    (p : ArePending from (whole_lines_of xs) now pending old mid) where
+  pub pending_behind : (ys : List ℕ) → AppendsFront mid new bytes → AreBroken from (whole_lines_of (xs ++ ys)) old new
+  pending_behind ys begun =
+      let on = lines_on xs ys in
+      subst (λ (ls : List (List ℕ)). AreBroken from ls old new) (sym on.1)
+      (pending_broken from (whole_lines_of xs) now pending old mid p on.0 new (subst (AppendsFront mid new) same begun))
+
+  all_served : Appends mid new bytes → AreServed from (whole_lines_of xs) now old new
+  all_served written = pending_served from (whole_lines_of xs) now pending old mid p new (subst (Appends mid new) same written)
+
+  module _ (result : Result Flow Stop) where
+    -- at the end of the piece
+    pub go_ends : (ys : List ℕ) → list_any is_feed ys ≡ false → EndsWith (Ok flow.Go) mid new bytes result → ServesLines from (whole_lines_of (xs ++ ys)) now old new result
+    go_ends ys none ends =
+        subst (λ (ls : List (List ℕ)). ServesLines from ls now old new result) (sym (whole_held xs ys none))
+        (pending_ends from (whole_lines_of xs) now pending old mid p bytes same new result ends)
+
+    -- where memory gave out
+    pub memory_ends : (next : Option Progress) (ys : List ℕ) → EndsWith (Err stop.Memory) mid new bytes result → ServesLines from (whole_lines_of (xs ++ ys)) next old new result
+    memory_ends next ys (inl done) =
+        subst (λ (r : Result Flow Stop). ServesLines from (whole_lines_of (xs ++ ys)) next old new r) (sym done.0) (memory_behind from xs ys old new now (all_served done.1))
+    memory_ends next ys (inr failed) =
+        subst (λ (r : Result Flow Stop). ServesLines from (whole_lines_of (xs ++ ys)) next old new r) (sym failed.0) (pending_behind ys failed.1)
+
+    -- at a line that ends the session
+    pub quit_ends : (next : Option Progress) (line rest : List ℕ) → list_any is_feed line ≡ false → is_quit (without_return (open_of xs ++ line)) ≡ true
+        → EndsWith (Ok flow.Stop) mid new bytes result → ServesLines from (whole_lines_of (xs ++ (line ++ 10 ∷ rest))) next old new result
+    quit_ends next line rest first quits (inl done) =
+        let ended : AreEnded from (whole_lines_of (xs ++ (line ++ 10 ∷ []))) old new =
+        subst (λ (ls : List (List ℕ)). AreEnded from ls old new) (lines_fed xs line first)
+        (served_quit from (whole_lines_of xs) now old new (all_served done.1) (without_return (open_of xs ++ line)) quits) in
+        subst (λ (r : Result Flow Stop). ServesLines from (whole_lines_of (xs ++ (line ++ 10 ∷ rest))) next old new r) (sym done.0)
+        (subst (λ (bs : List ℕ). AreEnded from (whole_lines_of bs) old new) (sym (fed xs line rest))
+        (ended_behind from (xs ++ (line ++ 10 ∷ [])) rest old new ended))
+    quit_ends next line rest first quits (inr failed) =
+        subst (λ (r : Result Flow Stop). ServesLines from (whole_lines_of (xs ++ (line ++ 10 ∷ rest))) next old new r) (sym failed.0) (pending_behind (line ++ 10 ∷ rest) failed.1)
 
 pub held_on : (xs ys held now : List ℕ) → list_any is_feed ys ≡ false → held ≡ held_of xs → now ≡ front_of (held ++ ys) → now ≡ held_of (xs ++ ys)
 held_on xs ys held now none is e =
     e ∙ ap (λ (h : List ℕ). front_of (h ++ ys)) is ∙ front_more (open_of xs) ys ∙ sym (ap front_of (open_held xs ys none))
 
 -- ---- the end of a session
-
-empty_front : (xs : List ℕ) → front_of xs ≡ [] → xs ≡ []
-empty_front [] e = refl
-empty_front (x ∷ xs) e =
-    let none : length (front_of (x ∷ xs)) ≡ 0 = ap length e in
-    let taken : length (front_of (x ∷ xs)) ≡ min HELD_LIMIT (length (x ∷ xs)) = length-take HELD_LIMIT (x ∷ xs) in
-    absurd (omega arith)
 
 no_line : (xs : List ℕ) → open_of xs ≡ [] → lines_of xs ≡ whole_lines_of xs
 no_line xs e =

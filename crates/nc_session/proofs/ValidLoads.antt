@@ -1,5 +1,5 @@
 -- What is loaded is a valid network, and has a state.
-use Rattle.std.proofs.Common.{◌≡◌, ℕ, ◌<◌, ◌≤◌, Bool, true, false, cond, nat_le, List, [], ◌∷◌, length, All, Option, Some, None, Result, Ok, Err, refl, ap, ◌∙◌, subst, arith}
+use Rattle.std.proofs.Common.{◌≡◌, ℕ, ◌≤◌, Bool, true, false, cond, nat_le, List, [], ◌∷◌, length, All, Option, Some, None, Result, Ok, Err, refl, ap, ◌∙◌, subst, arith}
 use Rattle.std.specs.Option.{option_map_or}
 use Rattle.std.proofs.lemmas.Bool.{leb-true}
 use Rattle.std.proofs.lemmas.List.Elements.{All-cons}
@@ -11,15 +11,13 @@ use Rattle.nc_outside.specs.Named.{Named, content_of}
 use Rattle.nc_lines.specs.Lines.{lines_of}
 use Rattle.nc_reader.specs.Configuration.{configuration}
 use Rattle.nc_network.specs.Judged.{ClashKind, Names, Overlaps, Addresses, References, Judgement, Clashing, OverLimit, Fine, or_clash, judged}
-use Rattle.nc_tables.specs.State.{StateView, BeginNothing, IsState}
+use Rattle.nc_tables.specs.State.{StateView, IsState}
 use Rattle.nc_tables.specs.Settling.{settled}
 use Rattle.nc_types.specs.declared.TheConstants.{ROUTER_LIMIT, LINE_LIMIT}
 use Rattle.nc_session.specs.declared.TheConstants.{FILE_LIMIT}
 use Rattle.nc_session.specs.declared.refusal.Quantity.TheVariants.{Routers, Bytes, Lines}
 use Rattle.nc_session.specs.Words.{RequestView, request_of}
-use Rattle.nc_session.specs.Load.{Refusal, WrongWords, TooMany, Unsettled, load, load_result, load_lines, load_content, load_each, and_then, load_begun, load_judged, load_joined, load_names, load_settled, load_request}
-use Rattle.nc_session.specs.Begun.{LineIn, begun_from}
-use Rattle.nc_session.proofs.BeginningNothing.{begins_nothing}
+use Rattle.nc_session.specs.Load.{Refusal, WrongWords, TooMany, Unsettled, load, load_result, load_lines, load_content, load_each, and_then, load_judged, load_joined, load_names, load_settled, load_request}
 
 -- ---- joining
 
@@ -39,7 +37,7 @@ valid routers formed fine =
 -- ---- file by file
 
 module _ (formed : (lines : List (List ℕ)) (c : ConfigView) → configuration lines ≡ Ok c → IsWellFormed c)
-    (lawful : (routers : List ConfigView) (rounds : ℕ) (s : StateView) → BeginNothing routers → IsValid routers → length routers ≤ ROUTER_LIMIT → settled rounds routers ≡ Some s → IsState s) where
+    (lawful : (routers : List ConfigView) (rounds : ℕ) (s : StateView) → IsValid routers → length routers ≤ ROUTER_LIMIT → settled rounds routers ≡ Some s → IsState s) where
   result_one : (name : List ℕ) (lines : List (List ℕ)) (c : ConfigView) (r : Result ConfigView Fault) → configuration lines ≡ r → load_result name r ≡ Ok c → IsWellFormed c
   result_one name lines c (Err fault) is e = absurd (cc)
   result_one name lines c (Ok d) is e =
@@ -89,9 +87,9 @@ module _ (formed : (lines : List (List ℕ)) (c : ConfigView) → configuration 
   by_settled rounds (Some s) state holds e =
       let same : s ≡ state = cc in subst IsState same (holds s refl)
 
-  routers_settled : (routers : List ConfigView) → BeginNothing routers → IsValid routers → length routers ≤ ROUTER_LIMIT → IsSettled (Ok routers)
+  routers_settled : (routers : List ConfigView) → IsValid routers → length routers ≤ ROUTER_LIMIT → IsSettled (Ok routers)
   unfolding IsSettled
-  routers_settled routers none valid few rounds state e = by_settled rounds (settled rounds routers) state (λ s. lawful routers rounds s none valid few) e
+  routers_settled routers valid few rounds state e = by_settled rounds (settled rounds routers) state (λ s. lawful routers rounds s valid few) e
 
   refusal_settled : (refusal : Refusal) → IsSettled (Err refusal)
   unfolding IsSettled
@@ -103,11 +101,7 @@ module _ (formed : (lines : List (List ℕ)) (c : ConfigView) → configuration 
   judged_settled names cs (Clashing Addresses c) is each few = refusal_settled _
   judged_settled names cs (Clashing References c) is each few = refusal_settled _
   judged_settled names cs (OverLimit which) is each few = refusal_settled _
-  judged_settled names cs Fine is each few = on (begun_from 0 cs) refl
-    where
-      on : (o : Option LineIn) → begun_from 0 cs ≡ o → IsSettled (load_begun names cs o)
-      on (Some at) some = refusal_settled _
-      on None none = routers_settled cs (begins_nothing cs 0 none) (valid cs each is) few
+  judged_settled names cs Fine is each few = routers_settled cs (valid cs each is) few
 
   joined_settled : (names : List (List ℕ)) (each : Result (List ConfigView) Refusal) → length names ≤ ROUTER_LIMIT
       → ((cs : List ConfigView) → each ≡ Ok cs → AreLoaded names cs) → IsSettled (load_joined names each)

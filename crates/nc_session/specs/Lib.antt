@@ -4,7 +4,6 @@ pub mod Session
 pub mod File
 pub mod Words
 pub mod CaseWords
-pub mod Begun
 pub mod Load
 pub mod Refusals
 pub mod Output

@@ -22,7 +22,6 @@ use Rattle.nc_session.specs.declared.refusal.Quantity.{Quantity}
 use Rattle.nc_session.specs.declared.refusal.Quantity.TheVariants.{Routers, Bytes, Lines, Prefixes, Neighbors}
 use Rattle.nc_session.specs.declared.refusal.Reason.{Reason}
 use Rattle.nc_session.specs.declared.refusal.Reason.TheVariants.{Syntax, Unsupported, NoName, TwoProcesses, SameName, Overlap, SameAddress, Undefined}
-use Rattle.nc_session.specs.Begun.{LineIn, begun_from}
 use Rattle.nc_session.specs.File.{FileView}
 use Rattle.nc_session.specs.Words.{RequestView, request_of}
 
@@ -97,15 +96,10 @@ abbrev pub quantity_of : LimitWord → Quantity
 quantity_of words.Prefixes = Prefixes
 quantity_of words.Neighbours = Neighbors
 
--- networks and aggregates of BGP aren't served yet: the first of them is refused
-abbrev pub load_begun : List (List ℕ) → List ConfigView → Option LineIn → Result (List ConfigView) Refusal
-load_begun names routers (Some at) = Err (Faulty (file_named names at.router) at.line Unsupported)
-load_begun names routers None = Ok routers
-
 abbrev pub load_judged : List (List ℕ) → List ConfigView → Judgement → Result (List ConfigView) Refusal
 load_judged names routers (Clashing kind c) = Err (clash_refusal names kind c)
 load_judged names routers (OverLimit which) = Err (TooMany (quantity_of which))
-load_judged names routers Fine = load_begun names routers (begun_from 0 routers)
+load_judged names routers Fine = Ok routers
 
 abbrev pub load_joined : List (List ℕ) → Result (List ConfigView) Refusal → Result (List ConfigView) Refusal
 load_joined names (Ok routers) = load_judged names routers (judged routers)

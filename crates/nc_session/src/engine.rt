@@ -10,6 +10,7 @@ use crate::work::Work;
 use nc_tables::Stable;
 use std::alloc::{AllocError, Global};
 use std::marker::Model;
+use std::mem;
 
 /// Whether the session goes on behind a line.
 #[derive(Clone, Copy, Debug, PartialEq, Eq)]
@@ -25,6 +26,8 @@ pub enum Flow {
 pub struct Engine {
     work: Option<Work>,
     files: Vec<LoadedFile>,
+    // where replies are made, one after another
+    reply: Vec<u8>,
 }
 
 impl Model for Engine {
@@ -43,16 +46,16 @@ impl Model for Engine {
         × AreFilesOf (state_of w.rules).routers (map file_view e.files.items)) };
 }
 
-// Appends a reply: where nothing stands before it, the buffer itself is handed on.
-fn hand_on(reply: Vec<u8>, out: &mut Vec<u8>) -> Result<(), AllocError>
-    ensures appended { OnOk result (out.new.items ≡ out.old.items ++ reply.items) }
+// Hands a reply on to the end of the bytes: where nothing stands there, the two buffers change places.
+fn hand_on(reply: &mut Vec<u8>, out: &mut Vec<u8>) -> Result<(), AllocError>
+    ensures appended { OnOk result (out.new.items ≡ out.old.items ++ reply.old.items) }
     ensures kept { OnErr result (out.new.items ≡ out.old.items) }
 {
     if out.is_empty() {
-        *out = reply;
+        mem::swap(out, reply);
         return Ok(());
     }
-    out.extend_from_slice(&reply)
+    out.extend_from_slice(reply)
 }
 
 impl Engine {
@@ -71,6 +74,7 @@ impl Engine {
         Ok(Engine {
             work: Some(work),
             files,
+            reply: Vec::new(alloc),
         })
     }
 
@@ -94,9 +98,9 @@ impl Engine {
         let Some(mut work) = self.work.take() else {
             return Err(AllocError);
         };
-        let mut reply = Vec::new(alloc);
-        let flow = work.answer(alloc, line, &mut reply)?;
-        hand_on(reply, out)?;
+        self.reply.clear();
+        let flow = work.answer(alloc, line, &mut self.reply)?;
+        hand_on(&mut self.reply, out)?;
         self.work = Some(work);
         Ok(flow)
     }

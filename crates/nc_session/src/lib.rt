@@ -1,14 +1,14 @@
 //! The session: from words, files and test commands to replies, a report of coverage after each test, and
 //! the status that a run ends with.
 //!
-//! It stands on `nc_reader` for the configuration, on `nc_graph` for what a derivation is and on `nc_outside`
-//! for the outside. [`run`] is all that a program calls. Its contract promises that every byte that it writes
-//! is the one that the definitions of `specs/` give for the words, the files and the session, and that each
-//! status comes only where its cause stands. The definitions of facts, marks and the steps of a session
-//! are public: `Facts`, `Marks`, `Standing`, `Session` and `Output`, in the order to read them.
+//! It stands on `nc_reader` for the configuration, on `nc_stable` for the state in which a network settles, on
+//! `nc_graph` for what a derivation is and on `nc_outside` for the outside. [`run`] is all that a program calls.
+//! Its contract promises that every byte that it writes is the one that the definitions of `specs/` give for the
+//! words, the files and the session, and that each status comes only where its cause stands. The definitions of
+//! marks and of loading, of the steps of a session and of the output are public: `Marks`, `Load`, `Session` and
+//! `Output`, in the order to read them.
 #![tactic(auto)]
 
-mod begun;
 mod engine;
 mod file;
 pub mod laws;

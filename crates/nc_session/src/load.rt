@@ -17,7 +17,6 @@ ghost use Rattle.nc_session.specs.Causes.{TakesOfEntered, TakesOfFiles, IsInTurn
 ghost use Rattle.nc_session.specs.Loading.{IsOne, IsFileOf, AddsOne, AddsFile, IsEach, AreBeside, AreFilesNamed, IsJoined, IsLoad, IsConfigured, joining_fault, HasCauseOf};
 
 use crate::FILE_LIMIT;
-use crate::begun::first_begun;
 use crate::file::LoadedFile;
 use crate::reading::read_file;
 use crate::refusal::{LoadFault, Quantity, Reason};
@@ -250,9 +249,6 @@ fn join_all(alloc: Global, configs: Vec<RouterConfig>, rounds: u32) -> Result<St
         Ok(network) => network,
         Err(fault) => return Err(join_fault(fault)),
     };
-    if let Some((router, line)) = first_begun(network.routers()) {
-        return Err(bad(router, line, Reason::Unsupported));
-    }
     match settle(alloc, network, rounds) {
         Ok(state) => Ok(state),
         Err(SettleFault::Unstable) => Err(LoadFault::Unsettled(rounds)),

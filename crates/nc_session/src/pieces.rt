@@ -16,7 +16,7 @@ use crate::engine::{Engine, Flow};
 use crate::file::LoadedFile;
 use crate::laws::sessions_go_on;
 use crate::reading::Stop;
-use crate::serving::{answer_cut, take_piece};
+use crate::serving::{answer_last, take_piece};
 use crate::status::Status;
 use crate::writing::write_all;
 use nc_command::Cutter;
@@ -68,7 +68,7 @@ fn finish<K: Sink>(alloc: Global, engine: &mut Engine, cutter: Cutter, output: &
     let Some(cut) = cutter.end() else {
         return Status::Done;
     };
-    match answer_cut(alloc, engine, cut, output) {
+    match answer_last(alloc, engine, cut, output) {
         Ok(_) => Status::Done,
         Err(stop) => stopped(stop),
     }

@@ -1,56 +1,139 @@
-//! Serving a session: every line is answered, and its reply written before the next is looked at.
+//! Serving a session: every line is answered, and the replies to the whole lines of a piece are written before it is left.
 
-ghost use Rattle.std.specs.Prelude.{◌≡◌, ℕ, ◌++◌, ◌∷◌, [], List, Option, IfOk, OnErr};
+ghost use Rattle.std.specs.Prelude.{◌≡◌, ◌≢◌, ℕ, ◌<◌, ◌++◌, ◌∷◌, [], List, Option, Err, length, position, IfSome, MatchOption, IfOk, OnOk, OnErr, codes};
 ghost use Rattle.std.specs.Io.KnownBytes.{Appends};
-ghost use Rattle.nc_lines.specs.Lines.{without_return};
+ghost use Rattle.nc_lines.specs.Lines.{is_feed, without_return};
 ghost use Rattle.nc_lines.specs.WholeLines.{whole_lines_of};
 ghost use Rattle.nc_command.specs.Cutting.{cut_of, held_of};
+ghost use Rattle.nc_session.specs.declared.serving.TheConstants.{PENDING_LIMIT};
 ghost use Rattle.nc_session.specs.declared.engine.Flow.TheVariants as flow;
+ghost use Rattle.nc_session.specs.Texts.{line_of};
 ghost use Rattle.nc_session.specs.Reading.{HasStopCause};
 ghost use Rattle.nc_session.specs.Engine.{Progress};
-ghost use Rattle.nc_session.specs.Serving.{AppendsFront, AreServed, ServesLines};
+ghost use Rattle.nc_session.specs.Serving.{AppendsFront, AppendsPart, EndsWith, AreServed, ArePending, AnswersLine, IsFirst, AnswersFirst, AnswersNone, ServesLines};
 
 use crate::engine::{Engine, Flow};
 use crate::reading::Stop;
 use crate::writing::write_all;
 use nc_command::{Cut, Cutter};
+use nc_lines::line_end::line_len;
 use nc_outside::Sink;
-use std::alloc::Global;
+use std::alloc::{AllocError, Global};
 
-// Writes the reply to a line behind which the session goes on.
-fn write_reply<K: Sink>(output: &mut K, reply: &[u8]) -> Result<Flow, Stop>
-    ensures written { IfOk result (λ how. (how ≡ flow.Go)
-        × Appends (K.written output.old) (K.written output.new) reply.now) }
-    ensures begun { OnErr result
-        (AppendsFront (K.written output.old) (K.written output.new) reply.now) }
+// How many bytes of replies may be pending when a line is answered.
+const PENDING_LIMIT: usize = 65_536;
+
+// Writes the pending replies, and then ends as is said. Where the sink fails, that is the end.
+fn end_with<K: Sink>(output: &mut K, pending: &[u8], end: Result<Flow, Stop>) -> Result<Flow, Stop>
+    requires { end ≢ Err Stop.Outside }
+    ensures ends { EndsWith end (K.written output.old) (K.written output.new) pending.now result }
     ensures cause { HasStopCause (K.faults output.old) (K.faults output.new) result }
 {
-    write_all(output, reply)?;
-    Ok(Flow::Go)
-}
-
-// Answers one line. A line that ends the session has no reply.
-fn answer_line<K: Sink>(
-    alloc: Global,
-    engine: &mut Engine,
-    line: &[u8],
-    output: &mut K,
-) -> Result<Flow, Stop>
-    ensures serves { (from : Progress) (lines : List (List ℕ)) (start : Option (List ℕ))
-        → AreServed from lines engine.old start (K.written output.old)
-        → ServesLines from (lines ++ line.now ∷ []) engine.new start (K.written output.new) result }
-    ensures cause { HasStopCause (K.faults output.old) (K.faults output.new) result }
-{
-    let mut reply = Vec::new(alloc);
-    match engine.answer(alloc, line, &mut reply) {
-        Ok(Flow::Go) => write_reply(output, &reply),
-        Ok(Flow::Stop) => Ok(Flow::Stop),
-        Err(_) => Err(Stop::Memory),
+    match write_all(output, pending) {
+        Ok(()) => end,
+        Err(_) => Err(Stop::Outside),
     }
 }
 
-// Answers a line as it was cut. The engine needs no byte of one that is too long.
-pub(crate) fn answer_cut<K: Sink>(
+// Writes the pending replies where they have become many.
+fn keep_few<K: Sink>(output: &mut K, pending: &mut Vec<u8>) -> Result<(), Stop>
+    ensures part { OnOk result (AppendsPart (K.written output.old) (K.written output.new)
+        pending.old.items pending.new.items) }
+    ensures few { OnOk result (length pending.new.items < PENDING_LIMIT) }
+    ensures begun { OnErr result
+        (AppendsFront (K.written output.old) (K.written output.new) pending.old.items) }
+    ensures cause { HasStopCause (K.faults output.old) (K.faults output.new) result }
+{
+    if pending.len() < PENDING_LIMIT {
+        return Ok(());
+    }
+    write_all(output, pending)?;
+    pending.clear();
+    Ok(())
+}
+
+// Answers a line that is too long.
+fn push_long(pending: &mut Vec<u8>) -> Result<Flow, AllocError>
+    ensures appended { IfOk result (λ how. (how ≡ flow.Go)
+        × (pending.new.items ≡ pending.old.items ++ line_of (codes "refused long"))) }
+    ensures kept { OnErr result (pending.new.items ≡ pending.old.items) }
+{
+    pending.extend_from_slice(b"refused long\n")?;
+    Ok(Flow::Go)
+}
+
+// Where the first line feed of a piece is.
+fn feed_place(piece: &[u8]) -> Option<usize>
+    ensures { result ≡ position is_feed piece.now }
+{
+    piece.iter().position(|b| *b == b'\n')
+}
+
+// The first line of a piece and the bytes behind it, where the piece has a line feed and nothing is held in front.
+fn first_line<'a>(cutter: &Cutter, piece: &'a [u8]) -> Option<(&'a [u8], &'a [u8])>
+    ensures { IfSome result
+        (λ cut. (cutter.now ≡ []) × IsFirst piece.now cut.0.now cut.1.now) }
+{
+    if cutter.kept() > 0 {
+        return None;
+    }
+    let at = feed_place(piece)?;
+    let (front, _) = piece.split_at(at);
+    let (_, rest) = piece.split_at(at + 1);
+    let (line, _) = front.split_at(line_len(front));
+    Some((line, rest))
+}
+
+// Answers a line as it was cut: its reply goes to the end of the pending ones. The engine needs no byte of one that
+// is too long.
+fn answer_cut(
+    alloc: Global,
+    engine: &mut Engine,
+    cut: Cut,
+    pending: &mut Vec<u8>,
+) -> Result<Flow, AllocError>
+    ensures answers { (from : Progress) (lines : List (List ℕ)) (raw : List ℕ)
+        (start now : Option (List ℕ)) → cut ≡ cut_of raw
+        → ArePending from lines engine.old pending.old.items start now
+        → IfOk result (AnswersLine from lines (without_return raw) engine.new
+        pending.old.items pending.new.items start now) }
+    ensures kept { OnErr result (pending.new.items ≡ pending.old.items) }
+{
+    match cut {
+        Cut::Line(line) => engine.answer(alloc, line.bytes(), pending),
+        Cut::Long => push_long(pending),
+    }
+}
+
+// Answers the line that the first line feed of a piece ends: its reply goes to the end of the pending ones. A line
+// that stands whole in the piece needs no cutter.
+fn answer_next<'a>(
+    alloc: Global,
+    engine: &mut Engine,
+    cutter: &mut Cutter,
+    piece: &'a [u8],
+    pending: &mut Vec<u8>,
+) -> Result<Option<(Flow, &'a [u8])>, AllocError>
+    ensures answers { IfOk result (λ next. MatchOption next
+        (AnswersNone piece.now cutter.old cutter.new engine.old engine.new
+        pending.old.items pending.new.items)
+        (λ cut. AnswersFirst piece.now cut.1.now cutter.old cutter.new engine.old engine.new
+        pending.old.items pending.new.items cut.0)) }
+    ensures kept { OnErr result (pending.new.items ≡ pending.old.items) }
+{
+    if let Some((line, rest)) = first_line(cutter, piece) {
+        let how = engine.answer(alloc, line, pending)?;
+        return Ok(Some((how, rest)));
+    }
+    let Some((cut, rest)) = cutter.push_line(piece)? else {
+        return Ok(None);
+    };
+    let how = answer_cut(alloc, engine, cut, pending)?;
+    Ok(Some((how, rest)))
+}
+
+/// Answers the last line of a session, as it was cut, and writes the reply.
+pub(crate) fn answer_last<K: Sink>(
     alloc: Global,
     engine: &mut Engine,
     cut: Cut,
@@ -63,14 +146,17 @@ pub(crate) fn answer_cut<K: Sink>(
         (K.written output.new) result }
     ensures cause { HasStopCause (K.faults output.old) (K.faults output.new) result }
 {
-    match cut {
-        Cut::Line(line) => answer_line(alloc, engine, line.bytes(), output),
-        Cut::Long => write_reply(output, b"refused long\n"),
+    let mut reply = Vec::new(alloc);
+    match answer_cut(alloc, engine, cut, &mut reply) {
+        Ok(Flow::Go) => end_with(output, &reply, Ok(Flow::Go)),
+        Ok(Flow::Stop) => Ok(Flow::Stop),
+        Err(_) => Err(Stop::Memory),
     }
 }
 
 /// Answers the lines that a piece of a session ends, each before the next is looked at, up to one that ends the
-/// session, and says whether there is one. What the piece leaves open is held for the next.
+/// session, and says whether there is one. What the piece leaves open is held for the next. The replies are written
+/// before it returns, and earlier where many are pending.
 pub(crate) fn take_piece<K: Sink>(
     alloc: Global,
     engine: &mut Engine,
@@ -87,18 +173,21 @@ pub(crate) fn take_piece<K: Sink>(
         → cutter.old ≡ held_of taken → cutter.new ≡ held_of (taken ++ piece.now)) }
     ensures cause { HasStopCause (K.faults output.old) (K.faults output.new) result }
 {
+    let mut pending = Vec::new(alloc);
     let mut rest = piece;
     'lines: loop {
-        let Ok(next) = cutter.push_line(rest) else {
-            return Err(Stop::Memory);
+        let Ok(next) = answer_next(alloc, engine, cutter, rest, &mut pending) else {
+            return end_with(output, &pending, Err(Stop::Memory));
         };
-        let Some((cut, behind)) = next else {
-            return Ok(Flow::Go);
+        let Some((how, behind)) = next else {
+            return end_with(output, &pending, Ok(Flow::Go));
         };
-        match answer_cut(alloc, engine, cut, output) {
-            Ok(Flow::Go) => rest = behind,
-            Ok(Flow::Stop) => return Ok(Flow::Stop),
-            Err(stop) => return Err(stop),
+        match how {
+            Flow::Go => rest = behind,
+            Flow::Stop => return end_with(output, &pending, Ok(Flow::Stop)),
+        }
+        if let Err(stop) = keep_few(output, &mut pending) {
+            return Err(stop);
         }
     }
 }

@@ -1,16 +1,17 @@
-use Rattle.std.proofs.Common.{◌≡◌, ◌++◌, ◌∷◌, [], ◌∙◌, List, ℕ, sym, subst}
+use Rattle.std.proofs.Common.{◌≡◌, ◌++◌, ◌∷◌, [], ◌∙◌, List, ℕ, sym, subst, IfOk}
 use Rattle.nc_lines.specs.Lines.{without_return}
-use Rattle.nc_session.specs.Serving.{ServesLines}
-use Rattle.nc_session.proofs.ServedLines.{line_is, long_is, long_replied}
+use Rattle.nc_session.specs.Serving.{AnswersLine}
+use Rattle.nc_session.proofs.ServedLines.{line_is, long_is, line_replied, long_replied}
 use Rattle.nc_session.proofs.serving.answer_cut.Goals as goal
 
-pub returns-in-Line-clause-serves : goal.returns-in-Line-clause-serves
-returns-in-Line-clause-serves g c from lines start raw is a =
+pub returns-in-Line-clause-answers : goal.returns-in-Line-clause-answers
+returns-in-Line-clause-answers c from lines raw start now is p =
+    let pending = c.args.pending.now.items in
+    let after = c.answer.new.out.items in
     let line : c.bytes.result.now ≡ without_return raw = c.bytes.ensures ∙ line_is raw c.in-Line.line (sym c.in-Line.is ∙ is) in
-    subst (λ (l : List ℕ). ServesLines from (lines ++ l ∷ []) c.answer_line.new.engine start (g.K.Sink.written c.answer_line.new.output) c.answer_line.result) line
-    (c.answer_line.ensures.serves from lines start a)
+    subst (λ (l : List ℕ). IfOk c.answer.result (AnswersLine from lines l c.answer.new.self pending after start now)) line
+    (line_replied from lines c.args.engine.now pending start now p c.bytes.result.now c.answer.new.self after c.answer.result c.answer.ensures.turns c.answer.ensures.flow)
 
-pub returns-in-Long-clause-serves : goal.returns-in-Long-clause-serves
-returns-in-Long-clause-serves g c from lines start raw is a =
-    long_replied from lines c.args.engine.now start (g.K.Sink.written c.args.output.now) a (without_return raw) (g.K.Sink.written c.write_reply.new.output)
-    (long_is raw (sym c.in-Long.is ∙ is)) c.write_reply.result c.write_reply.ensures.written c.write_reply.ensures.begun
+pub returns-in-Long-clause-answers : goal.returns-in-Long-clause-answers
+returns-in-Long-clause-answers c from lines raw start now is p =
+    long_replied from lines c.args.engine.now c.args.pending.now.items start now p (without_return raw) (long_is raw (sym c.in-Long.is ∙ is)) c.push_long.new.pending.items c.push_long.result c.push_long.ensures.appended

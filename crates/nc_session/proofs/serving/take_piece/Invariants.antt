@@ -2,10 +2,10 @@ use Rattle.std.proofs.Common.{◌≡◌, ◌++◌, List, ℕ, Option, length}
 use Rattle.nc_lines.specs.WholeLines.{whole_lines_of}
 use Rattle.nc_command.specs.Cutting.{held_of}
 use Rattle.nc_session.specs.Engine.{Progress}
-use Rattle.nc_session.specs.Serving.{AreServed}
+use Rattle.nc_session.specs.Serving.{AreServed, ArePending}
 use Rattle.nc_session.proofs.serving.take_piece.Given as goal
 
--- the lines that the front of the piece ends are answered, and its open line is held
+-- the lines that the front of the piece ends are answered, with replies that are pending, and its open line is held
 abbrev pub invariant-lines : goal.invariant-lines
 invariant-lines g l = record {
   faults : g.K.Sink.faults l.output ≡ g.K.Sink.faults l.fn.output;
@@ -14,7 +14,7 @@ invariant-lines g l = record {
   held : (taken : List ℕ) → l.fn.cutter ≡ held_of taken → l.cutter ≡ held_of (taken ++ front);
   served : (from : Progress) (taken : List ℕ) (start : Option (List ℕ)) → l.fn.cutter ≡ held_of taken
       → AreServed from (whole_lines_of taken) l.fn.engine start (g.K.Sink.written l.fn.output)
-      → AreServed from (whole_lines_of (taken ++ front)) l.engine start (g.K.Sink.written l.output);
+      → ArePending from (whole_lines_of (taken ++ front)) l.engine l.pending.items start (g.K.Sink.written l.output);
 }
 
 abbrev pub decreases-lines : goal.decreases-lines

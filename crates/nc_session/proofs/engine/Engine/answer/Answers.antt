@@ -31,7 +31,7 @@ returns-clause-turns c =
         reply = a.reply;
         step = a.step;
         text = c.in_ok-hand_on.ensures.appended
-            ∙ ap (λ (l : List ℕ). c.args.out.now.items ++ l) (a.text ∙ ap (λ (l : List ℕ). l ++ a.reply) c.new-reply.ensures.items);
+            ∙ ap (λ (l : List ℕ). c.args.out.now.items ++ l) (a.text ∙ ap (λ (l : List ℕ). l ++ a.reply) c.clear.ensures.items);
         state = a.state;
         files = a.files;
         infers = a.infers;
