@@ -1,9 +1,11 @@
 #!/usr/bin/env python3
 """Random and systematic cases for the comparison of NetCov with the oracle: files, words and a session each.
 
-Those of route maps and lists alone stand in policies.py, those of processes and sessions in peers.py.
+Those of route maps and lists alone stand in policies.py, those of processes and sessions in peers.py, those of routes by
+BGP in exchanges.py.
 """
 import oracle
+from exchanges import kind_routes
 from pieces import MASKS, R, Case, b, dotted, mutate_words, named, network, random_banner, render, session_for
 from peers import kind_peers, kind_sides
 from policies import kind_policy
@@ -479,6 +481,7 @@ RANDOM_KINDS = {
     "policy": kind_policy,
     "peers": kind_peers,
     "sides": kind_sides,
+    "routes": kind_routes,
     "names": kind_names,
     "bytes": kind_bytes,
     "banner": kind_banner,

@@ -349,7 +349,7 @@ ROUNDS = of(
     ("round", "in_order prefix_cmp (distinct (flat_map prefixes_in routers))", "in_order prefix_cmp (flat_map prefixes_in routers)", "a prefix has several rows"),
     ("round", "row_of prefix [] = None", "row_of prefix [] = Some (record { prefix = prefix; chosen = [] })", "a prefix without a candidate has a row"),
     ("round", "made_from make (suc place) xs) (make place x)", "made_from make place xs) (make place x)", "places behind one that makes something aren't counted on"),
-    ("static_state", "no_routes routers = map (λ c. []) routers", "no_routes routers = []", "no router has a table of BGP"),
+    ("no_routes", "no_routes routers = map (λ c. []) routers", "no_routes routers = []", "no router has a table of BGP"),
     ("after", "after zero = no_routes routers", "after zero = round routers tables sessions (no_routes routers)", "one round more is made"),
 )
 

@@ -3,8 +3,9 @@
 
     python3 oracle/fuzz.py KIND [COUNT] [SEED]
 
-KIND is one of net, odd, join, static, policy, peers, sides, names, bytes, banner, session, words, which are random and take COUNT
-cases each, or table, grid, policies, processes, limits, facts, which are systematic (table takes COUNT random changes besides); all is all but facts.
+KIND is one of net, odd, join, static, policy, peers, sides, routes, names, bytes, banner, session, words, which are random and
+take COUNT cases each, or table, grid, policies, processes, exchanges, limits, facts, which are systematic (table takes COUNT
+random changes besides); all is all but facts.
 The program is crates/netcov/out/netcov, or what the variable NETCOV names. A difference goes to a folder of its own,
 which is printed. The status is 1 where there was one. At the end stands what was reached.
 """
@@ -18,6 +19,7 @@ import tempfile
 
 import oracle
 from cases import RANDOM_KINDS, facts_cases, grid_cases, limit_cases, table_cases
+from exchanges import exchange_cases
 from pieces import R, Case
 from peers import peer_cases
 from policies import policy_cases
@@ -109,10 +111,27 @@ def shrink(case, top):
     return case
 
 
-def note(status, out, kind):
+def command_of(line):
+    """The command of a line that is answered, with the word behind its prefix."""
+    w = oracle.words(line)
+    return b" ".join(w[:1] + w[3:4]).decode(errors="replace")
+
+
+def note_tests(session, replies):
+    """Which commands are accepted, and which are absent."""
+    lines = iter(x for x in oracle.served(session)[0] if len(x) > oracle.LIMIT_LINE or oracle.words(x) and oracle.words(x)[0][:1] != b"#")
+    for reply in replies:
+        if reply.startswith((b"test ", b"refused ")) and reply != b"refused limit session":
+            command = command_of(next(lines, b""))
+            if not reply.startswith(b"refused ") or reply.startswith(b"refused absent "):
+                reached[f"{'absent' if reply[:1] == b'r' else 'accepted'} {command}"] += 1
+
+
+def note(status, out, kind, session):
     total[kind] += 1
     if status == 0:
         reached[f"{kind}: status 0"] += 1
+        note_tests(session, out.split(b"\n"))
         for line in out.split(b"\n"):
             w = line.split(b" ")
             if w[0] == b"test":
@@ -128,7 +147,7 @@ def note(status, out, kind):
 
 def check(case, kind, top):
     want, got = both(case, top)
-    note(*want, kind)
+    note(*want, kind, case.session)
     if want == got:
         return True
     small = shrink(case, top) if sum(len(d or b"") for d in case.files.values()) + len(case.session) < 20000 else case
@@ -152,7 +171,7 @@ def systematic(kind, count):
     """The systematic cases of a kind."""
     if kind == "table":
         return table_cases(count)
-    return {"grid": grid_cases, "policies": policy_cases, "processes": peer_cases, "limits": limit_cases, "facts": facts_cases}[kind]()
+    return {"grid": grid_cases, "policies": policy_cases, "processes": peer_cases, "exchanges": exchange_cases, "limits": limit_cases, "facts": facts_cases}[kind]()
 
 
 def cases_of(kind, count):
@@ -167,7 +186,7 @@ def main():
     seed = int(sys.argv[3]) if len(sys.argv) > 3 else random.SystemRandom().randrange(10**9)
     R.seed(seed)
     print(f"{kind} {count} seed {seed}", flush=True)
-    kinds = ["table", "grid", "policies", "processes", "limits"] + list(RANDOM_KINDS) if kind == "all" else [kind]
+    kinds = ["table", "grid", "policies", "processes", "exchanges", "limits"] + list(RANDOM_KINDS) if kind == "all" else [kind]
     bad = collections.Counter()
     top = tempfile.mkdtemp(prefix="netcov-cases-")
     try:

@@ -40,15 +40,6 @@ def join(routers):
     return ("limit", b"neighbours") if sum(len(b["neighbors"]) for b in processes) > LIMIT_NEIGHBOURS else None
 
 
-def begun(routers):
-    """(router, line) of the first router with a network or an aggregate, and the lowest line of one in it; or None."""
-    for r, c in enumerate(routers):
-        things = c["process"]["networks"] + c["process"]["aggregates"] if c["process"] else []
-        if things:
-            return r, min(c["elements"][x["element"]][1][0] for x in things)
-    return None
-
-
 # --- base tables -----------------------------------------------------------------------------
 def route_interface(c, t):
     """The place of the interface of a usable static route; None where it isn't usable; -1 for Null0."""

@@ -5,14 +5,13 @@
 
 It has the statements and the commands that the program serves, and works everything out from lists, by filters. As a
 module, run(words, session) gives the status and the bytes. The variable NETCOV_ALSO names what it is to serve besides,
-which the program doesn't serve yet: `routes` are networks and aggregates, rounds with the word --rounds, the command
-bgp, and rows of the main table that come of BGP; `paths` are these and the commands reach, every and element.
+which the program doesn't serve yet: `paths` are the commands reach, every and element.
 """
 import os
 import sys
 
 from facts import closure, report
-from network import HOPS, Net, base_table, begun, join
+from network import HOPS, Net, base_table, join
 from paths import arrives
 from reading import Fault, read_file
 from routes import chosen_at, entry_of, main_table, settle
@@ -22,7 +21,6 @@ LIMIT_FILE, LIMIT_LINES, LIMIT_ROUTERS = 4194304, 65535, 256
 LIMIT_SESSION, LIMIT_LINE, LIMIT_TESTS, LIMIT_FACTS = 16777216, 4096, 4096, 1048576
 MOST_ROUNDS, ROUNDS = 10000, 256
 PATHS = "paths" in os.environ.get("NETCOV_ALSO", "").split()
-ROUTES = PATHS or "routes" in os.environ.get("NETCOV_ALSO", "").split()
 
 
 # --- the session -----------------------------------------------------------------------------
@@ -48,7 +46,7 @@ def asked_for(w):
         return w[0], w[1], address(w[2]), None
     if PATHS and w[0] == b"element" and len(w) == 3 and large(w[2]) is not None:
         return w[0], w[1], large(w[2]), None
-    behind = {b"rib": b"via", b"bgp": b"from"} if ROUTES else {b"rib": b"via"}
+    behind = {b"rib": b"via", b"bgp": b"from"}
     if w[0] not in behind or len(w) not in (3, 5) or prefix_word(w[2]) is None:
         return None
     if len(w) == 3:
@@ -128,10 +126,10 @@ def read_words(given):
     while k < len(given):
         w = given[k]
         k += 1
-        if ROUTES and w == b"--":
+        if w == b"--":
             files += given[k:]
             break
-        if ROUTES and (w == b"--rounds" or w.startswith(b"--rounds=")):
+        if w == b"--rounds" or w.startswith(b"--rounds="):
             value = w[9:] if w[8:] else given[k] if k < len(given) else b""
             k += not w[8:]
             if rounds is not None or number(value, 1, MOST_ROUNDS) is None:
@@ -189,8 +187,6 @@ def run(given, session):
         return 8, b"refused limit " + fault[1] + b"\n"
     if fault:
         return refused(files[fault[0]], fault[1], fault[2])
-    if not ROUTES and begun(routers):
-        return refused(files[begun(routers)[0]], begun(routers)[1], b"unsupported")
     net = Net(routers)
     if not settle(net, rounds):
         return 3, b"refused unstable %d\n" % rounds

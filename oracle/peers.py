@@ -2,13 +2,14 @@
 import itertools
 
 import oracle
+from asking import some_there
 from pieces import ADDRESSES, MASKS, ODD_ADDRESSES, ODD_MASKS, R, Case, Writer, b, dotted, render
 from policies import ODD_NUMBERS, changed, clause_block, entry_statement
 from processes import BEGINNINGS, OF_NEIGHBOR
 
-HEAD = ["hostname r1", "interface E", " ip address 10.0.0.1 255.255.255.0", "interface F"]
+HEAD = ["hostname r1", "interface E", " ip address 10.0.0.1 255.255.255.0", "interface F", "ip route 10.0.0.0 255.0.0.0 Null0"]
 OTHER = ["hostname r2", "interface E", " ip address 10.0.0.2 255.255.255.0", "router bgp 2", " neighbor 10.0.0.1 remote-as 1"]
-ASK = b"session r1 10.0.0.2\nsession r2 10.0.0.1\nsession r1 10.0.0.3\n"
+ASK = b"session r1 10.0.0.2\nsession r2 10.0.0.1\nsession r1 10.0.0.3\nbgp r1 10.0.0.0/8\nrib r2 10.0.0.0/8 via 10.0.0.1\nbgp r2 10.0.0.0/8 from 10.0.0.1\n"
 PROCESS = ["bgp router-id 10.0.0.9", "bgp always-compare-med", "bgp bestpath as-path multipath-relax", "bgp bestpath compare-routerid", "bgp bestpath med", "bgp log-neighbor-changes",
            "maximum-paths 4", "maximum-paths 0", "maximum-paths 2 3", "address-family ipv4", "address-family ipv4 unicast", "address-family ipv6 unicast", "exit-address-family",
            "no neighbor 10.0.0.2 activate", "no neighbor 10.0.0.2 shutdown", "no auto-summary", "no bgp default ipv4-unicast", "no bgp log-neighbor-changes", "timers bgp 5 15",
@@ -109,7 +110,7 @@ def field_cases():
 
 
 def joining_cases():
-    """Names that aren't defined, beside others and beside the limits; networks and aggregates that are refused last."""
+    """Names that aren't defined, beside others and beside the limits, and beside networks and aggregates."""
     names = {"source": " neighbor 10.0.0.2 update-source X", "in": " neighbor 10.0.0.2 route-map X in", "out": " neighbor 10.0.0.2 route-map X out", "route": "ip route 9.0.0.0 255.0.0.0 X 10.0.0.2",
              "list": "route-map M permit 10\n match ip address prefix-list X", "community": "route-map N permit 10\n match community X"}
     defined = ["!", "interface X", "route-map X deny 5", "ip prefix-list X permit 10.0.0.0/8", "ip community-list standard X permit 1:1", "route-map X permit", "interface X\n shutdown"]
@@ -405,11 +406,12 @@ def peers_session(wires, begin):
 
 def kind_peers():
     """Networks with processes and sessions over links, static routes and loopbacks."""
-    begin = R.random() < (0.7 if oracle.ROUTES else 0.05)
+    begin = R.random() < 0.7
     odd = R.choice([0] * 8 + [0.01, 0.05])
     wires, files = peers_network(odd, begin)
     data = {b"r%d.cfg" % (k + 1): render(lines) if odd else b"\n".join(lines) + b"\n" for k, lines in enumerate(files)}
     words = sorted(data)
-    if oracle.ROUTES and R.random() < 0.3:
+    present = b("\n".join(some_there(data, words, R.choice([0, 3, 10]))) + "\n")
+    if R.random() < 0.3:
         words = [b"--rounds", b"%d" % R.choice([1, 2, 3, 4, 5, 6, 10])] + words
-    return Case(data, words, peers_session(wires, begin))
+    return Case(data, words, R.choice([peers_session(wires, begin) + present, present + peers_session(wires, begin)]))

@@ -364,7 +364,8 @@ def odd_session_line(line):
         return R.choice([b"rib", b"rib r1", b"rib r1 10.0.0.1/24", b"rib r1 10.0.0.0/024", b"rib r1 10.0.0.0/33", b"rib r1 10.0.0.0/-1", b"rib r1 10.0.0.0/", b"rib r1 /8",
                          b"rib r1 10.0.0.0", b"rib r1 10.0.0.0/8/8", b"rib r1 10.0.0.0/8 via", b"rib r1 10.0.0.0/8 via x", b"rib r1 10.0.0.0/8 via 10.0.0.1 x",
                          b"rib r9 10.0.0.1/8", b"rib r9 0.0.0.0/0 via 1.1.1.1", b"rib r1 0.0.0.0/00", b"rib r1 10.9.0.0/16 from 10.0.0.2", b"RIB r1 10.0.0.0/24",
-                         b"bgp r1 10.0.0.0/8", b"session r1 10.0.0.2", b"session", b"session r1", b"session r1 10.0.0.256", b"session r1 10.0.0.2 x", b"session r9 10.0.0.2", b"Session r1 10.0.0.2",
+                         b"bgp r1 10.0.0.0/8", b"bgp r1 10.0.0.0/8 from 10.0.0.2", b"bgp", b"bgp r1", b"bgp r1 10.0.0.1/8", b"bgp r1 10.0.0.0/8 from", b"bgp r1 10.0.0.0/8 from x",
+                         b"bgp r1 10.0.0.0/8 via 10.0.0.2", b"bgp r9 10.0.0.0/8", b"bgp r9 10.0.0.0/33", b"bgp r1 10.0.0.0/8 from 10.0.0.2 x", b"BGP r1 10.0.0.0/8", b"session r1 10.0.0.2", b"session", b"session r1", b"session r1 10.0.0.256", b"session r1 10.0.0.2 x", b"session r9 10.0.0.2", b"Session r1 10.0.0.2",
                          b"session r1 10.0.0.0/24", b"session 10.0.0.2", b"session r9 x", b"reach r1 10.0.0.2", b"every r1 10.0.0.2", b"element r1 2", b"element r1 0", b"forget 1",
                          b"forget 0", b"implies 1 1", b"show r1", b"lcov", b"json", b"cut 1", b"suite", b"dead", b"flow r1 1.1.1.1 2.2.2.2", b"frob", b"via",
                          b"rib via 10.0.0.0/8", b"rib r1 10.0.0.0/8 VIA 10.0.0.1", b"rib r1 10.0.0.0 /8", b"rib r1 10.0.0.0/4294967304", b"rib r1 10.0.0.0/8x"])

@@ -1,4 +1,4 @@
-//! Two small networks with a session and its replies, which were worked out by hand.
+//! Three small networks with a session and its replies, which were worked out by hand.
 
 use crate::network::{Config, Network};
 use std::alloc::{AllocError, Global};
@@ -99,6 +99,39 @@ const SINGLE_EXCHANGES: [Exchange; 4] = [
     },
 ];
 
+// Two systems with a session between them, over which a network of the first goes to the second.
+const ROUTE_FILES: [Config; 2] = [
+    Config {
+        name: "r1.cfg",
+        text: b"hostname r1\ninterface Ethernet0\n ip address 10.0.12.1 255.255.255.252\n\
+            interface Ethernet1\n ip address 10.1.0.1 255.255.255.0\nrouter bgp 65001\n\
+            \x20bgp log-neighbor-changes\n network 10.1.0.0 mask 255.255.255.0\n\
+            \x20neighbor 10.0.12.2 remote-as 65002\n",
+    },
+    Config {
+        name: "r2.cfg",
+        text: b"hostname r2\ninterface Ethernet0\n ip address 10.0.12.2 255.255.255.252\n\
+            router bgp 65002\n neighbor 10.0.12.1 remote-as 65001\n",
+    },
+];
+
+// Two tests of one route, which rest on the same facts, and between them a route that the first
+// system doesn't take back.
+const ROUTE_EXCHANGES: [Exchange; 3] = [
+    Exchange {
+        line: b"rib r2 10.1.0.0/24",
+        reply: b"test 1 facts 29\nstrong 11 weak 0 uncovered 0 outside 3\nr1 .SSSSS.SS\nr2 .SSSS\n",
+    },
+    Exchange {
+        line: b"bgp r1 10.1.0.0/24 from 10.0.12.2",
+        reply: b"refused absent bgp r1 10.1.0.0/24 from 10.0.12.2\n",
+    },
+    Exchange {
+        line: b"bgp r2 10.1.0.0/24 from 10.0.12.1",
+        reply: b"test 2 facts 29\nstrong 11 weak 0 uncovered 0 outside 3\nr1 .SSSSS.SS\nr2 .SSSS\n",
+    },
+];
+
 /// Two routers; the session ends with `quit`.
 pub const PAIR: Example = Example {
     name: "pair",
@@ -117,6 +150,16 @@ pub const SINGLE: Example = Example {
     file_calls: 3,
     reads: 5,
     writes: 4,
+};
+
+/// Two systems; the session ends with its bytes.
+pub const ROUTE: Example = Example {
+    name: "route",
+    files: &ROUTE_FILES,
+    exchanges: &ROUTE_EXCHANGES,
+    file_calls: 6,
+    reads: 4,
+    writes: 3,
 };
 
 impl Example {

@@ -50,7 +50,7 @@ fn writes(alloc: Global, example: &Example) -> Result<Verdict, AllocError> {
     let session = example.session(alloc, b"\n")?;
     let replies = example.all_replies(alloc)?;
     let network = example.network(alloc)?;
-    let trial = Trial::new(&network, &session);
+    let trial = Trial::new(&network, &session).in_pieces(Pieces::Lines);
     let mut verdict = Verdict::new();
     for number in 0..example.writes {
         let written = example.written(alloc, number)?;

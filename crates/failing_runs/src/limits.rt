@@ -109,6 +109,17 @@ fn with_routes(alloc: Global, count: usize) -> Result<Vec<u8>, AllocError> {
     Ok(text)
 }
 
+// A router with so many networks of prefixes that differ.
+fn with_networks(alloc: Global, count: usize) -> Result<Vec<u8>, AllocError> {
+    let mut text = b"hostname r1\nrouter bgp 1\n".to_vec(alloc)?;
+    for number in 0..count {
+        let (high, low) = (number / 256, number % 256);
+        let line = format!(in alloc; " network 10.{high}.{low}.0 mask 255.255.255.0\n")?;
+        text.extend_from_slice(line.as_str().as_bytes())?;
+    }
+    Ok(text)
+}
+
 // A router of this name with so many neighbors, the addresses of which differ.
 fn with_neighbors(alloc: Global, name: &str, count: usize) -> Result<Vec<u8>, AllocError> {
     let head = format!(in alloc; "hostname {name}\nrouter bgp 1\n")?;
@@ -186,6 +197,12 @@ fn add_prefixes(alloc: Global, rows: &mut Vec<Row>) -> Result<(), AllocError> {
     let text = with_routes(alloc, PREFIXES + 1)?;
     let verdict = over_file(alloc, &text, over_limit(b"refused limit prefixes\n"))?;
     rows.push(Row::new("limits", "1,025 prefixes", verdict))?;
+    let text = with_networks(alloc, PREFIXES)?;
+    let verdict = over_file(alloc, &text, Expectation::done(b""))?;
+    rows.push(Row::new("limits", "1,024 networks", verdict))?;
+    let text = with_networks(alloc, PREFIXES + 1)?;
+    let verdict = over_file(alloc, &text, over_limit(b"refused limit prefixes\n"))?;
+    rows.push(Row::new("limits", "1,025 networks", verdict))?;
     Ok(())
 }
 

@@ -26,7 +26,7 @@ mod row;
 mod steady;
 mod trial;
 
-use example::{Example, PAIR, SINGLE};
+use example::{Example, PAIR, ROUTE, SINGLE};
 use judging::Verdict;
 use nc_session::Status;
 use network::Network;
@@ -50,10 +50,13 @@ fn all_rows(alloc: Global) -> Result<Vec<Row>, AllocError> {
     let mut rows = Vec::new(alloc);
     rows.push(steady_row(alloc, &PAIR)?)?;
     rows.push(steady_row(alloc, &SINGLE)?)?;
+    rows.push(steady_row(alloc, &ROUTE)?)?;
     cutting::add_cutting(alloc, &PAIR, &mut rows)?;
     cutting::add_cutting(alloc, &SINGLE, &mut rows)?;
+    cutting::add_cutting(alloc, &ROUTE, &mut rows)?;
     faults::add_faults(alloc, &PAIR, &mut rows)?;
     faults::add_faults(alloc, &SINGLE, &mut rows)?;
+    faults::add_faults(alloc, &ROUTE, &mut rows)?;
     ending::add_endings(alloc, &mut rows)?;
     refusals::add_refusals(alloc, &mut rows)?;
     lines::add_long_lines(alloc, &mut rows)?;

@@ -17,8 +17,9 @@ struct Refused {
     written: &'static [u8],
 }
 
-// A file in order, and one with a mask that isn't ones followed by zeros.
-const FILES: [Config; 2] = [
+// A file in order, one with a mask that isn't ones followed by zeros, and one whose routing settles
+// in two rounds.
+const FILES: [Config; 3] = [
     Config {
         name: "good.cfg",
         text: b"hostname r1\n",
@@ -27,12 +28,16 @@ const FILES: [Config; 2] = [
         name: "bad.cfg",
         text: b"hostname r2\nip route 10.0.0.0 255.0.255.0 10.0.0.2\n",
     },
+    Config {
+        name: "begun.cfg",
+        text: b"hostname r3\nip route 10.0.0.0 255.0.0.0 Null0\nrouter bgp 65001\n network 10.0.0.0\n",
+    },
 ];
 
 // A session that none of the runs may answer.
 const SESSION: &[u8] = b"frob\n";
 
-const REFUSALS: [Refused; 10] = [
+const REFUSALS: [Refused; 13] = [
     Refused {
         name: "no word",
         words: &[],
@@ -103,14 +108,35 @@ const REFUSALS: [Refused; 10] = [
         status: Status::FileFault,
         written: b"",
     },
+    Refused {
+        name: "a round too few, and a read of the session that would fail",
+        words: &["--rounds", "1", "begun.cfg"],
+        failing: Failing::Read(0),
+        status: Status::Unstable,
+        written: b"refused unstable 1\n",
+    },
+    Refused {
+        name: "a round too few, and a write that fails",
+        words: &["--rounds=1", "begun.cfg"],
+        failing: Failing::Write(0),
+        status: Status::OutputFault,
+        written: b"",
+    },
+    Refused {
+        name: "a round too few, and room for ten bytes",
+        words: &["begun.cfg", "--rounds", "1"],
+        failing: Failing::Room(10),
+        status: Status::OutputFault,
+        written: b"refused un",
+    },
 ];
 
 // The files, under these words.
 fn named(alloc: Global, words: &[&str]) -> Result<Network, AllocError> {
-    let [good, bad] = FILES;
     let mut network = Network::new(alloc);
-    network.keep_file(alloc, good.name, good.text)?;
-    network.keep_file(alloc, bad.name, bad.text)?;
+    for file in &FILES {
+        network.keep_file(alloc, file.name, file.text)?;
+    }
     for word in words {
         network.add_word(alloc, word)?;
     }

@@ -1,0 +1,64 @@
+"""What there is to ask of a network: tests of what is there in the state that the oracle works out, and of what is beside it."""
+import itertools
+
+import oracle
+from pieces import R, dotted
+from reading import Fault, read_file
+from routes import entry_of, main_table, settle
+from texts import lines_of
+
+MOST_ROUNDS = 12
+
+
+def slashed(prefix):
+    return f"{dotted(prefix[0])}/{prefix[1]}"
+
+
+def joined(files, names):
+    """The network of these files, and the least rounds in which it settles; None where there is none, or it doesn't soon."""
+    try:
+        routers = [read_file(lines_of(files[name])) for name in names]
+    except Fault:
+        return None, None
+    if oracle.join(routers):
+        return None, None
+    net = oracle.Net(routers)
+    return net, next((n for n in range(1, MOST_ROUNDS) if settle(net, n)), None)
+
+
+def named(net, r):
+    return net.routers[r]["name"].decode()
+
+
+def there(net):
+    """Tests that are accepted: each candidate that is chosen, each that is accepted, each row of a main table, each session."""
+    asks = [f"bgp {named(net, r)} {slashed(p)}" for r, p in net.bgp]
+    for r, n in net.sessions:
+        a = dotted(net.routers[r]["process"]["neighbors"][n]["addr"])
+        asks += [f"bgp {named(net, r)} {slashed(p)} from {a}" for p in sorted({p for _, p in net.bgp}) if entry_of(net, r, n, p) is not None]
+        asks.append(f"session {named(net, r)} {a}")
+    for r in range(len(net.routers)):
+        for prefix, _, hop in main_table(net, r):
+            asks += [f"rib {named(net, r)} {slashed(prefix)}"] + ([] if hop is None else [f"rib {named(net, r)} {slashed(prefix)} via {dotted(hop)}"])
+    return list(dict.fromkeys(asks))
+
+
+def beside(net):
+    """Tests of prefixes, neighbors and next hops that stand somewhere in the network, most of which aren't there."""
+    prefixes = {p for _, p in net.bgp} | {row[0] for table in net.tables for row in table}
+    prefixes |= {x["prefix"] for c in net.routers if c["process"] for x in c["process"]["networks"] + c["process"]["aggregates"]}
+    few = sorted(prefixes)[:4]
+    prefixes |= {(p[0] & oracle.bits(p[1] - 1), p[1] - 1) for p in few if p[1]} | {(p[0], p[1] + 1) for p in few if p[1] < 32}
+    hops = sorted(net.owners) + [0]
+    for r, prefix in itertools.product(range(len(net.routers)), sorted(prefixes)):
+        peers = [x["addr"] for x in net.routers[r]["process"]["neighbors"]] if net.routers[r]["process"] else []
+        yield f"{R.choice(['bgp', 'rib'])} {named(net, r)} {slashed(prefix)}"
+        yield f"bgp {named(net, r)} {slashed(prefix)} from {dotted(R.choice(peers * 3 + hops))}"
+        yield f"rib {named(net, r)} {slashed(prefix)} via {dotted(R.choice(hops))}"
+
+
+def some_there(files, names, count):
+    """So many tests of what is there, where the files go together and routing settles soon."""
+    net, rounds = joined(files, names)
+    present = there(net) if rounds else []
+    return R.sample(present, min(len(present), count))
