@@ -293,7 +293,7 @@ ROUNDS = of(
     ("is_active", "is_longer_in p outer = nat_lt outer.len p.len && covers outer p.base", "is_longer_in p outer = not (nat_lt p.len outer.len) && covers outer p.base",
      "a prefix is inside itself"),
     ("is_active", "is_longer_in p outer = nat_lt outer.len p.len && covers outer p.base", "is_longer_in p outer = nat_lt outer.len p.len", "any longer prefix is inside"),
-    ("is_active", "is_longer_in row.prefix a.prefix && nat_lt 0 (length row.chosen)", "is_longer_in row.prefix a.prefix", "a row without a candidate contributes"),
+    ("has_longer", "is_longer_in row.prefix outer && nat_lt 0 (length row.chosen)", "is_longer_in row.prefix outer", "a row without a candidate contributes"),
     ("message_at", "best_at router p = first_of (chosen_at router p)", "best_at router p = slice_get (chosen_at router p) 1", "the second of the chosen candidates is sent"),
     ("message_at", "passed c None route = Some (record { route = route; clause = None; names = unnamed })", "passed c None route = None", "without a map nothing passes"),
     ("message_at", "record { route = route; clause = Some clause; names = names }", "record { route = route; clause = None; names = names }", "the clause that let pass isn't named"),
