@@ -106,7 +106,7 @@ fn main_table(
     let rows = bgp.rows(router);
     let prefixes = prefixes_of(alloc, base_rows, rows, aggregates)?;
     let discards = active_places(alloc, bgp, router, aggregates)?;
-    let mut main = Vec::new(alloc);
+    let mut main = Vec::with_capacity(alloc, prefixes.len())?;
     let mut passed = Passed { base: 0, bgp: 0 };
     'prefixes: for prefix in &prefixes {
         let discard = discards.get(prefix).copied();

@@ -49,7 +49,7 @@ prefixes-init c =
     let is = c.deref-prefix-items.ensures.value ∙ c.in_ok-prefixes.ensures in
     let all = map (λ (row : BaseRow). row.prefix) c.rows-base_rows.result.now ++ (map (λ (row : BgpRow). row.prefix) c.rows-rows.result.now ++ map (λ (a : AggregateStatement). a.prefix) c.aggregates_of-aggregates.result.now) in
     record {
-      rows = c.new-main.ensures.items;
+      rows = c.in_ok-main.ensures.items;
       valid = λ k d lt. absurd (omega arith);
       left = subst (λ (l : List Cidr). Ascends prefix_cmp prefix_total l) (sym is) (distinct_ascend all);
       base = λ p i. (omega arith, λ k d lo hi. absurd (omega arith));
