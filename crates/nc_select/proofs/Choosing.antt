@@ -1,5 +1,5 @@
 -- What is chosen, by the best candidate and by those as good as it.
-use Rattle.std.proofs.Common.{◌≡◌, ℕ, zero, suc, ◌+◌, ◌<◌, Bool, true, false, cond, List, [], ◌∷◌, ◌++◌, length, map, filter, take, drop, get_or, refl, sym, ap, ◌∙◌}
+use Rattle.std.proofs.Common.{◌≡◌, ℕ, zero, suc, ◌+◌, ◌<◌, Bool, true, false, cond, List, [], ◌∷◌, ◌++◌, length, map, filter, take, drop, get_or, refl, sym, ap, ◌∙◌, arith}
 use Rattle.std.specs.List.{IsFirstBest}
 use Rattle.std.proofs.lemmas.List.{append_assoc, drop_more}
 use Rattle.nc_tables.specs.declared.bgp.Chosen.{Chosen}
@@ -59,3 +59,22 @@ module _ (candidates : List Chosen) (best : ℕ) (d : Chosen) (is : IsFirstBest 
       ∙ ap (λ (t : Bool). places (take limit (cond t (b ∷ filter (is_equal relax b.candidate) first.0) (filter (is_equal relax b.candidate) first.0)))) (equal_itself relax b.candidate e)
       ∙ sym (ap (λ (xs : List Ranked). places (used_with limit relax xs)) first.1
       ∙ ap (λ (t : Bool). places (cond t (take limit (b ∷ filter (is_equal relax b.candidate) first.0)) (b ∷ []))) e)
+
+-- one candidate alone is chosen
+pub chosen_only : (c : Chosen) (limit : ℕ) (relax : Bool) → 0 < limit → 0 ∷ [] ≡ choose (c ∷ []) limit relax
+unfolding choose
+chosen_only c zero relax some = absurd (omega arith)
+chosen_only c (suc limit) relax some = on (is_external c) limit
+  where
+    only : Ranked
+    only = record { place = 0; candidate = c }
+
+    on : (b : Bool) (n : ℕ) → 0 ∷ [] ≡ map (λ (x : Ranked). x.place) (cond b (take (suc n) (only ∷ [])) (only ∷ []))
+    on true zero = refl
+    on true (suc n) = refl
+    on false n = refl
+
+pub only_one : (candidates : List Chosen) (limit : ℕ) (relax : Bool) → length candidates ≡ 1 → 0 < limit → 0 ∷ [] ≡ choose candidates limit relax
+only_one [] limit relax one some = absurd (omega arith)
+only_one (c ∷ []) limit relax one some = chosen_only c limit relax some
+only_one (c ∷ d ∷ candidates) limit relax one some = absurd (omega arith)

@@ -1,3 +1,4 @@
+pub mod Mapped
 pub mod Ranking
 pub mod Best
 pub mod Alike

@@ -1,10 +1,11 @@
 //! Which of two candidates is preferred, and which are as good as each other.
 
-ghost use Rattle.std.specs.Prelude.{◌≡◌, length};
+ghost use Rattle.std.specs.Prelude.{◌≡◌};
 ghost use Rattle.nc_tables.specs.Choice.{class_of, internal_rank, is_external, is_learnt};
 ghost use Rattle.nc_tables.specs.Choice.{is_equal_to, origin_rank, preference_cmp, same_path};
 
-use nc_tables::{BgpFrom, Chosen};
+use crate::candidate::Candidate;
+use nc_tables::BgpFrom;
 use nc_types::OriginCode;
 use std::cmp::Ordering;
 
@@ -40,43 +41,45 @@ fn internal_rank(internal: bool) -> u8
     if internal { 1 } else { 0 }
 }
 
-fn path_length(x: &Chosen) -> usize
-    ensures { result ≡ length x.now.route.path }
-{
-    x.route.path.numbers().len()
-}
-
 /// Which of two candidates of a prefix is preferred: `Less` where the first one is (Cisco IOS,
 /// BGP best path selection).
 ///
 /// By the first of these that differs: a network before an aggregate before what was learnt, the
 /// higher local preference, the shorter path, the origin IGP, the lower metric, what another
 /// autonomous system sent, the lower router id of the sender, its lower address.
-pub fn preference_cmp(a: &Chosen, b: &Chosen) -> Ordering
-    ensures { result ≡ preference_cmp a.now b.now }
+pub fn preference_cmp<C: Candidate>(a: &C, b: &C) -> Ordering
+    ensures { result ≡ preference_cmp (C.candidate_of a.now) (C.candidate_of b.now) }
 {
-    let class = class_of(a.from).cmp(&class_of(b.from));
-    let preference = b.route.preference.cmp(&a.route.preference);
-    let path = path_length(a).cmp(&path_length(b));
-    let origin = origin_rank(a.route.origin).cmp(&origin_rank(b.route.origin));
-    let metric = a.route.metric.cmp(&b.route.metric);
-    let internal = internal_rank(a.internal).cmp(&internal_rank(b.internal));
-    let sender = a.sender_id.cmp(&b.sender_id).then(a.sender.cmp(&b.sender));
+    let class = class_of(a.from()).cmp(&class_of(b.from()));
+    let preference = b.preference().cmp(&a.preference());
+    let path = a.path_length().cmp(&b.path_length());
+    let origin = origin_rank(a.origin()).cmp(&origin_rank(b.origin()));
+    let metric = a.metric().cmp(&b.metric());
+    let internal = internal_rank(a.is_internal()).cmp(&internal_rank(b.is_internal()));
+    let sender = a
+        .sender_id()
+        .cmp(&b.sender_id())
+        .then(a.sender().cmp(&b.sender()));
     class.then(preference.then(path.then(origin.then(metric.then(internal.then(sender))))))
 }
 
 /// Whether a candidate was learnt from another autonomous system.
-pub(crate) fn is_external(x: &Chosen) -> bool
-    ensures { result ≡ is_external x.now }
+pub(crate) fn is_external<C: Candidate>(x: &C) -> bool
+    ensures { result ≡ is_external (C.candidate_of x.now) }
 {
-    is_learnt(x.from) && !x.internal
+    is_learnt(x.from()) && !x.is_internal()
 }
 
-// Whether two paths are equal, or equally long where the process is relaxed.
-fn same_path(relax: bool, p: &[u32], q: &[u32]) -> bool
-    ensures { result ≡ same_path relax p.now q.now }
+// Whether the paths of two candidates are equal, or equally long where the process is relaxed.
+fn same_path<C: Candidate>(relax: bool, a: &C, b: &C) -> bool
+    ensures { result ≡ same_path relax (C.candidate_of a.now).route.path
+        (C.candidate_of b.now).route.path }
 {
-    if relax { p.len() == q.len() } else { p == q }
+    if relax {
+        a.path_length() == b.path_length()
+    } else {
+        a.has_same_path(b)
+    }
 }
 
 /// Whether a candidate is used beside the best one: it was learnt from another autonomous system,
@@ -84,12 +87,12 @@ fn same_path(relax: bool, p: &[u32], q: &[u32]) -> bool
 ///
 /// `relax` is whether paths that are equally long count as equal (`bestpath as-path
 /// multipath-relax`).
-pub fn is_equal_to(relax: bool, best: &Chosen, x: &Chosen) -> bool
-    ensures { result ≡ is_equal_to relax best.now x.now }
+pub fn is_equal_to<C: Candidate>(relax: bool, best: &C, x: &C) -> bool
+    ensures { result ≡ is_equal_to relax (C.candidate_of best.now) (C.candidate_of x.now) }
 {
     is_external(x)
-        && x.route.preference == best.route.preference
-        && origin_rank(x.route.origin) == origin_rank(best.route.origin)
-        && x.route.metric == best.route.metric
-        && same_path(relax, x.route.path.numbers(), best.route.path.numbers())
+        && x.preference() == best.preference()
+        && origin_rank(x.origin()) == origin_rank(best.origin())
+        && x.metric() == best.metric()
+        && same_path(relax, x, best)
 }

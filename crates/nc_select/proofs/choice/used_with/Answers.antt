@@ -9,10 +9,10 @@ use Rattle.nc_select.proofs.Choosing.{places_taken}
 use Rattle.nc_select.proofs.choice.used_with.Goals as goal
 
 pub returns : goal.returns
-returns c =
+returns g c =
     let relax = c.args.relax in
-    let best = c.args.best.now in
-    let candidates = c.args.candidates.now in
+    let best = g.C.Candidate.candidate_of c.args.best.now in
+    let candidates = map g.C.Candidate.candidate_of c.args.candidates.now in
     let sorted = c.sort_unstable.new.self.items in
     let moved : IsPermutation (senders_from relax best 0 candidates) sorted = subst (λ (l : List Sender). IsPermutation l sorted) c.in_ok-senders.ensures c.sort_unstable.ensures.permutation in
     let is : sorted ≡ map sender_of (filter (is_equal relax best) (by_preference candidates)) = sorted_is relax best candidates sorted moved c.sort_unstable.ensures.sorted in

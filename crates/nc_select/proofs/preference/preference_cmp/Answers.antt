@@ -4,4 +4,4 @@ use Rattle.nc_select.proofs.preference.preference_cmp.Goals as goal
 
 pub returns : goal.returns
 unfolding preference_cmp
-returns c = search rules
+returns g c = search rules
