@@ -2,3 +2,4 @@ pub mod Given
 pub mod Links
 pub mod Views
 pub mod Beginning
+pub mod Told

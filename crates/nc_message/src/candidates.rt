@@ -1,4 +1,4 @@
-//! All candidates of a prefix at a router.
+//! All candidates of a prefix at a router, told without their routes in memory.
 
 ghost use Rattle.std.specs.Prelude.{◌≡◌, ◌≢◌, ◌++◌, ◌+◌, ◌<◌, ◌^◌, [], ◌∷◌, All, length, position};
 ghost use Rattle.std.specs.Prelude.{IfOk, IfSome, OnOk, Some, slice_index_or};
@@ -11,35 +11,12 @@ ghost use Rattle.nc_tables.specs.Sessions.{process_of};
 ghost use Rattle.nc_message.specs.Beginning.{has_base_row, networks_of, aggregates_of};
 ghost use Rattle.nc_message.specs.Given.{AreGiven, IsOf};
 
-use crate::entries::entry;
 use crate::given::Given;
 use crate::rows::has_row;
-use nc_tables::{BgpFrom, BgpTable, Chosen, Path, Route};
-use nc_types::{
-    Addr, Communities, DEFAULT_PREFERENCE, Neighbor, OriginCode, Prefix, Process, RouterId,
-};
+use crate::told::{Told, told_at};
+use nc_tables::{BgpFrom, BgpTable};
+use nc_types::{Neighbor, Prefix, Process, RouterId};
 use std::alloc::{AllocError, Global};
-
-/// The candidate of a prefix that a router itself begins. Takes no memory.
-pub(crate) fn begun(alloc: Global, prefix: Prefix, from: BgpFrom) -> Chosen
-    ensures { result ≡ begun prefix from }
-{
-    Chosen {
-        route: Route {
-            prefix,
-            path: Path::new(Vec::new(alloc)),
-            next_hop: Addr(0),
-            preference: DEFAULT_PREFERENCE,
-            metric: 0,
-            origin: OriginCode::Igp,
-            communities: Communities::new(alloc),
-        },
-        from,
-        internal: false,
-        sender_id: Addr(0),
-        sender: Addr(0),
-    }
-}
 
 // The place of the network of a prefix, by the table of the router.
 fn network_of(
@@ -79,21 +56,19 @@ fn aggregate_of(
 
 // Adds a candidate that a router itself begins.
 fn add_begun(
-    alloc: Global,
-    candidates: &mut Vec<Chosen>,
+    candidates: &mut Vec<Told<'_>>,
     prefix: Prefix,
     from: BgpFrom,
 ) -> Result<(), AllocError>
     ensures { OnOk result (candidates.new.items ≡ candidates.old.items ++ begun prefix from ∷ []) }
 {
-    candidates.push(begun(alloc, prefix, from))?;
+    candidates.push(Told::begun(prefix, from))?;
     Ok(())
 }
 
 // Adds the network of a prefix, where the prefix has a row in the router's base table.
 fn add_network(
-    alloc: Global,
-    candidates: &mut Vec<Chosen>,
+    candidates: &mut Vec<Told<'_>>,
     given: &Given<'_>,
     router: RouterId,
     process: &Process,
@@ -115,14 +90,13 @@ fn add_network(
     if !has_row(given.base, router, prefix) {
         return Ok(());
     }
-    add_begun(alloc, candidates, prefix, BgpFrom::Origin(place as u32))?;
+    add_begun(candidates, prefix, BgpFrom::Origin(place as u32))?;
     Ok(())
 }
 
 // Adds the aggregate of a prefix, where it is active: a longer prefix inside has a chosen candidate.
 fn add_aggregate(
-    alloc: Global,
-    candidates: &mut Vec<Chosen>,
+    candidates: &mut Vec<Told<'_>>,
     given: &Given<'_>,
     table: &BgpTable,
     router: RouterId,
@@ -146,16 +120,15 @@ fn add_aggregate(
     if !table.has_longer(router, prefix) {
         return Ok(());
     }
-    add_begun(alloc, candidates, prefix, BgpFrom::Aggregate(place as u32))?;
+    add_begun(candidates, prefix, BgpFrom::Aggregate(place as u32))?;
     Ok(())
 }
 
 // Adds what a router learns of a prefix by its neighbor statements.
-fn add_entries(
-    alloc: Global,
-    candidates: &mut Vec<Chosen>,
-    given: &Given<'_>,
-    table: &BgpTable,
+fn add_entries<'a>(
+    candidates: &mut Vec<Told<'a>>,
+    given: &Given<'a>,
+    table: &'a BgpTable,
     router: RouterId,
     neighbors: &[Neighbor],
     prefix: Prefix,
@@ -170,22 +143,22 @@ fn add_entries(
         → OnOk result (All (IsOf prefix) candidates.new.items) }
 {
     'neighbors: for place in 0..neighbors.len() {
-        if let Some(learnt) = entry(alloc, given, table, router, place as u32, prefix)? {
-            candidates.push(learnt)?;
+        if let Some(told) = told_at(given, table, router, place as u32, prefix) {
+            candidates.push(told)?;
         }
     }
     Ok(())
 }
 
 /// All candidates of a prefix at a router: of its networks, of its aggregates, and what it learns.
-pub(crate) fn candidates(
+pub(crate) fn candidates<'a>(
     alloc: Global,
-    given: &Given<'_>,
-    table: &BgpTable,
+    given: &Given<'a>,
+    table: &'a BgpTable,
     router: RouterId,
     process: &Process,
     prefix: Prefix,
-) -> Result<Vec<Chosen>, AllocError>
+) -> Result<Vec<Told<'a>>, AllocError>
     requires given { AreGiven given.now }
     requires table { length table.now ≡ length given.now.network.now }
     requires router { router.0 < length given.now.network.now }
@@ -194,22 +167,15 @@ pub(crate) fn candidates(
     requires process { process_of given.now.network.now router.0
         ≡ Some (process_view process.now) }
     requires formed { IsProcess (process_view process.now) }
-    ensures candidates { IfOk result (λ made. made.items
+    ensures candidates { IfOk result (λ told. told.items
         ≡ candidates_at given.now.network.now given.now.base.now given.now.sessions.now table.now
         router.0 (process_view process.now) prefix) }
-    ensures own { IfOk result (λ made. All (IsOf prefix) made.items) }
+    ensures own { IfOk result (λ told. All (IsOf prefix) told.items) }
 {
-    let mut made = Vec::new(alloc);
-    add_network(alloc, &mut made, given, router, process, prefix)?;
-    add_aggregate(alloc, &mut made, given, table, router, process, prefix)?;
-    add_entries(
-        alloc,
-        &mut made,
-        given,
-        table,
-        router,
-        &process.neighbors,
-        prefix,
-    )?;
-    Ok(made)
+    let neighbors = &process.neighbors;
+    let mut told = Vec::with_capacity(alloc, neighbors.len())?;
+    add_network(&mut told, given, router, process, prefix)?;
+    add_aggregate(&mut told, given, table, router, process, prefix)?;
+    add_entries(&mut told, given, table, router, neighbors, prefix)?;
+    Ok(told)
 }

@@ -1,7 +1,7 @@
 //! What a router chooses of a prefix.
 
-ghost use Rattle.std.specs.Prelude.{◌≡◌, ◌+◌, ◌^◌, ◌<◌, ◌≤◌, All, length, nat_eq, slice_get, IfOk, Some};
-ghost use Rattle.std.specs.List.{filter_map, IsDistinct};
+ghost use Rattle.std.specs.Prelude.{◌≡◌, ◌+◌, ◌^◌, ◌<◌, ◌≤◌, All, length, slice_get, IfOk, Some};
+ghost use Rattle.std.specs.List.{filter_map};
 ghost use Rattle.nc_types.specs.Config.{process_view};
 ghost use Rattle.nc_types.specs.declared.TheConstants.{MULTIPATH_LIMIT};
 ghost use Rattle.nc_types.specs.WellFormed.{IsProcess};
@@ -9,35 +9,31 @@ ghost use Rattle.nc_tables.specs.Rounds.{candidates_at, chosen_anew, chosen_by};
 ghost use Rattle.nc_tables.specs.Sessions.{process_of};
 ghost use Rattle.nc_message.specs.Given.{AreGiven};
 
-use crate::candidates::{begun, candidates};
+use crate::candidates::candidates;
 use crate::given::Given;
+use crate::told::Told;
 use nc_select::choose;
-use nc_tables::{BgpFrom, BgpTable, Chosen};
+use nc_tables::{BgpTable, Chosen};
 use nc_types::{Prefix, Process, RouterId};
 use std::alloc::{AllocError, Global};
-use std::mem;
 
-// Those candidates of a prefix that stand at these places, in the places' order. They are moved out
-// from among the others.
-fn picked(
+// The candidates that stand at these places, in the places' order, made in memory.
+fn made_at(
     alloc: Global,
-    mut candidates: Vec<Chosen>,
+    candidates: &[Told<'_>],
     places: &[u32],
-    prefix: Prefix,
 ) -> Result<Vec<Chosen>, AllocError>
-    requires { IsDistinct nat_eq places.now }
     ensures { IfOk result
-        (λ picked. picked.items ≡ filter_map (slice_get candidates.items) places.now) }
+        (λ made. made.items ≡ filter_map (slice_get candidates.now) places.now) }
 {
-    let mut picked = Vec::with_capacity(alloc, places.len())?;
+    let mut made = Vec::with_capacity(alloc, places.len())?;
     'places: for place in places {
         let place = *place as usize;
         if place < candidates.len() {
-            let spare = begun(alloc, prefix, BgpFrom::Origin(0));
-            picked.push(mem::replace(&mut candidates[place], spare))?;
+            made.push(candidates[place].made(alloc)?)?;
         }
     }
-    Ok(picked)
+    Ok(made)
 }
 
 // What a process of a router chooses of a prefix.
@@ -63,9 +59,9 @@ fn chosen_by(
     ensures own { IfOk result (λ chosen. All (λ x. x.route.prefix ≡ prefix) chosen.items) }
     ensures few { IfOk result (λ chosen. length chosen.items ≤ MULTIPATH_LIMIT) }
 {
-    let made = candidates(alloc, given, table, router, process, prefix)?;
-    let places = choose(alloc, &made, process.max_paths, process.relax)?;
-    let chosen = picked(alloc, made, &places, prefix)?;
+    let told = candidates(alloc, given, table, router, process, prefix)?;
+    let places = choose(alloc, &told, process.max_paths, process.relax)?;
+    let chosen = made_at(alloc, &told, &places)?;
     Ok(chosen)
 }
 

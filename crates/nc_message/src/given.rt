@@ -3,9 +3,9 @@ ghost use Rattle.std.specs.Option.{option_map};
 ghost use Rattle.nc_tables.specs.Rounds.{link_at};
 ghost use Rattle.nc_sessions.specs.Views.{link_view};
 ghost use Rattle.nc_message.specs.Given.{AreGiven, IsBetween};
-ghost use Rattle.nc_message.specs.Links.{IsHeard};
+ghost use Rattle.nc_message.specs.Links.{IsHeard, IsSenderAt};
 
-use crate::links::{Heard, Links};
+use crate::links::{Heard, Links, Sender};
 use nc_policy::Policies;
 use nc_sessions::link_at;
 use nc_tables::{BaseTables, Sessions};
@@ -19,9 +19,21 @@ pub struct Given<'a> {
     pub base: &'a BaseTables,
     pub sessions: &'a Sessions,
     pub policies: &'a Policies,
-    /// What is known of the sessions, where it is asked again and again; without it the same is
-    /// found anew for each message.
-    pub links: Option<&'a Links<'a>>,
+    /// What is known of the senders of the sessions, where it is asked again and again; without it
+    /// the same is found anew for each message.
+    pub links: Option<&'a Links>,
+}
+
+// What is known of the sender to the neighbor statement at a place of a router, if anything is.
+fn known_of(given: &Given, router: RouterId, place: u32) -> Option<Sender>
+    requires { AreGiven given.now }
+    ensures { IsSenderAt given.now.network.now given.now.base.now given.now.sessions.now router.0
+        place result }
+{
+    match given.links {
+        Some(links) => links.get(router, place),
+        None => None,
+    }
 }
 
 /// Both ends of the session of the neighbor statement at a place of a router, and what is known of
@@ -34,9 +46,7 @@ pub(crate) fn link_of<'a>(given: &Given<'a>, router: RouterId, place: u32) -> Op
         (λ h. IsBetween given.now.network.now router.0 (link_view h.link)) }
     ensures sender { IfSome result (IsHeard given.now.base.now router.0) }
 {
-    if let Some(links) = given.links {
-        return links.get(router, place);
-    }
     let link = link_at(given.network, given.sessions, router, place)?;
-    Some(Heard { link, sender: None })
+    let sender = known_of(given, router, place);
+    Some(Heard { link, sender })
 }

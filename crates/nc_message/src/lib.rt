@@ -3,8 +3,8 @@
 //! Over a session its peer sends the best of what it has chosen, where its aggregates and its map
 //! let it; the router accepts what isn't its own, leads somewhere and passes its map. Both are told
 //! without memory by [`message_at`] and [`accepted_at`], as the clauses and entries that decided;
-//! [`chosen_anew`] makes the candidates of a prefix of it, with the router's own networks and
-//! active aggregates, and chooses among them. The crate stands on `nc_types` for the network, on
+//! [`chosen_anew`] chooses among what is told so, with the router's own networks and active
+//! aggregates, and makes in memory what is chosen alone. The crate stands on `nc_types` for the network, on
 //! `nc_tables` for the tables and the definitions, on `nc_sessions` for the ends of a session, on
 //! `nc_policy` and `nc_community` for maps and communities, on `nc_underlay` for where base tables
 //! lead, and on `nc_select` for the choice. Its contract promises exactly the message, the
@@ -16,9 +16,11 @@ mod candidates;
 mod choosing;
 mod entries;
 mod given;
+mod learnt;
 mod links;
 mod messages;
 mod rows;
+mod told;
 
 pub use accepting::{Taken, accepted_at, next_hop};
 pub use choosing::chosen_anew;

@@ -1,9 +1,9 @@
-//! What is known of each session before any message.
+//! What is known of the sender of each session before any message.
 
 ghost use Rattle.std.specs.Prelude.{◌≡◌, IfOk, length};
 ghost use Rattle.nc_sessions.specs.Views.{link_view};
 ghost use Rattle.nc_message.specs.Given.{IsBetween};
-ghost use Rattle.nc_message.specs.Links.{heard_in, AreHeard, AreLinks, IsHeardAt, IsSender};
+ghost use Rattle.nc_message.specs.Links.{sender_in, AreLinks, AreSenders, IsSender, IsSenderAt};
 
 use crate::rows::is_own;
 use nc_sessions::{Link, link_at, router_id, statements};
@@ -11,6 +11,7 @@ use nc_tables::{BaseTables, Sessions};
 use nc_types::{Addr, Network, RouterId};
 use nc_underlay::has_hit;
 use std::alloc::{AllocError, Global};
+use std::marker::Model;
 
 /// What is known of the sender of a session once for all its messages.
 #[derive(Clone, Copy)]
@@ -30,12 +31,20 @@ pub struct Heard<'a> {
     pub sender: Option<Sender>,
 }
 
-/// The sessions of a network, each with its ends and with what is known of its sender. They are
-/// made once, and by them a message from another system needs no look-up but that of the best
-/// candidate.
+/// What is known of the senders of a network's sessions. It is made once, and by it a message from
+/// another system needs no look-up but that of the session and that of the best candidate.
 #[derive(Drop)]
-pub struct Links<'a> {
-    routers: Vec<Vec<Option<Heard<'a>>>>,
+pub struct Links {
+    routers: Vec<Vec<Option<Sender>>>,
+}
+
+impl Model for Links {
+    ghost use Rattle.std.specs.Prelude.{List, Option, map};
+    ghost use Rattle.nc_message.specs.declared.links.Sender.{Sender};
+
+    ghost Value = { List (List (Option Sender)) };
+
+    ghost view = { λ l. map (λ row. row.items) l.routers.items };
 }
 
 // What is known of the sender of a session of a router.
@@ -51,72 +60,72 @@ fn sender_of(network: &Network, base: &BaseTables, router: RouterId, link: &Link
     }
 }
 
-// The session of the neighbor statement at a place of a router, with what is known of its sender.
-fn heard_at<'a>(
-    network: &'a Network,
+// What is known of the sender to the neighbor statement at a place of a router.
+fn sender_at(
+    network: &Network,
     base: &BaseTables,
     sessions: &Sessions,
     router: RouterId,
     place: u32,
-) -> Option<Heard<'a>>
+) -> Option<Sender>
     requires tables { length base.now ≡ length network.now }
     requires sessions { length sessions.now ≡ length network.now }
-    ensures { IsHeardAt network.now base.now sessions.now router.0 place result }
+    ensures { IsSenderAt network.now base.now sessions.now router.0 place result }
 {
     let link = link_at(network, sessions, router, place)?;
-    let sender = Some(sender_of(network, base, router, &link));
-    Some(Heard { link, sender })
+    Some(sender_of(network, base, router, &link))
 }
 
-// The sessions of a router, one for each of its neighbor statements that has one.
-fn heard_of<'a>(
+// What is known of the senders to a router, one for each of its neighbor statements.
+fn senders_to(
     alloc: Global,
-    network: &'a Network,
+    network: &Network,
     base: &BaseTables,
     sessions: &Sessions,
     router: RouterId,
-) -> Result<Vec<Option<Heard<'a>>>, AllocError>
+) -> Result<Vec<Option<Sender>>, AllocError>
     requires tables { length base.now ≡ length network.now }
     requires sessions { length sessions.now ≡ length network.now }
-    ensures { IfOk result (λ row. AreHeard network.now base.now sessions.now router.0 row.items) }
+    ensures { IfOk result (λ row. AreSenders network.now base.now sessions.now router.0 row.items) }
 {
     let count = statements(network, router).len();
     let mut row = Vec::with_capacity(alloc, count)?;
     'places: for place in 0..count {
-        row.push(heard_at(network, base, sessions, router, place as u32))?;
+        row.push(sender_at(network, base, sessions, router, place as u32))?;
     }
     Ok(row)
 }
 
-impl<'a> Links<'a> {
-    /// The sessions of a network, which has a base table and a list of sessions for each router.
+impl Links {
+    /// What is known of the senders of the sessions of a network, which has a base table and a list
+    /// of sessions for each router.
     ///
     /// # Errors
     ///
     /// Memory that runs out.
     pub fn new(
         alloc: Global,
-        network: &'a Network,
+        network: &Network,
         base: &BaseTables,
         sessions: &Sessions,
-    ) -> Result<Links<'a>, AllocError>
+    ) -> Result<Links, AllocError>
         requires tables { length base.now ≡ length network.now }
         requires sessions { length sessions.now ≡ length network.now }
-        ensures { IfOk result (AreLinks network.now base.now sessions.now) }
+        ensures { IfOk result (λ links. AreLinks network.now base.now sessions.now links) }
     {
         let count = network.routers().len();
         let mut routers = Vec::with_capacity(alloc, count)?;
         'routers: for router in 0..count {
             let router = RouterId(router as u32);
-            routers.push(heard_of(alloc, network, base, sessions, router)?)?;
+            routers.push(senders_to(alloc, network, base, sessions, router)?)?;
         }
         Ok(Links { routers })
     }
 
-    /// The session of the neighbor statement at a place of a router; `None` where the statement has
-    /// none, and where there is no such statement or router.
-    pub(crate) fn get(&self, router: RouterId, place: u32) -> Option<Heard<'a>>
-        ensures { result ≡ heard_in self.now router.0 place }
+    /// What is known of the sender to the neighbor statement at a place of a router; `None` where
+    /// there is no such statement or router.
+    pub(crate) fn get(&self, router: RouterId, place: u32) -> Option<Sender>
+        ensures { result ≡ sender_in self.now router.0 place }
     {
         let row = self.routers.get(router.0 as usize)?;
         *row.get(place as usize)?

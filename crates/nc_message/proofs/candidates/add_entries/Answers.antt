@@ -19,19 +19,19 @@ neighbors-preserved c =
     let read = read_within all place lt in
     let items = c.neighbors.candidates.items in
     let total = c.args.candidates.now.items ++ made_from make 0 all in
-    elim c.match-branch-2.branch [
+    elim c.match-told_at.branch [
       | in-Some+in_ok-push w ↦
-          let x = w.in-Some.learnt in
-          let pushed : c.match-branch-2.candidates.items ≡ items ++ x ∷ [] = ap (λ (v : Vec Chosen). v.items) w.candidates-is ∙ w.in_ok-push.ensures.items in
-          let own : IsOf p x = subst (λ (o : Option Chosen). IfSome o (IsOf p)) w.in-Some.is c.in_ok-learnt.ensures.own in
+          let x = w.in-Some.told in
+          let pushed : c.match-told_at.candidates.items ≡ items ++ x ∷ [] = ap (λ (v : Vec Chosen). v.items) w.candidates-is ∙ w.in_ok-push.ensures.items in
+          let own : IsOf p x = subst (λ (o : Option Chosen). IfSome o (IsOf p)) w.in-Some.is c.told_at.ensures.own in
           record {
-            made = makes_one make all place read.0 read.1 lt items total c.neighbors.invariant.made x c.match-branch-2.candidates.items (sym c.in_ok-learnt.ensures.entry ∙ w.in-Some.is) pushed;
+            made = makes_one make all place read.0 read.1 lt items total c.neighbors.invariant.made x c.match-told_at.candidates.items (sym c.told_at.ensures.told ∙ w.in-Some.is) pushed;
             own = λ before. subst (All (IsOf p)) (sym pushed) (All-push (IsOf p) items x (c.neighbors.invariant.own before) own);
           }
       | in_default w ↦
           record {
             made = ap (λ (v : Vec Chosen). v.items ++ made_from make (place + 1) (drop (place + 1) all)) w.candidates-is
-                ∙ makes_none make all place read.0 read.1 lt items total c.neighbors.invariant.made (sym c.in_ok-learnt.ensures.entry ∙ w.in_default.is);
+                ∙ makes_none make all place read.0 read.1 lt items total c.neighbors.invariant.made (sym c.told_at.ensures.told ∙ w.in_default.is);
             own = λ before. subst (λ (v : Vec Chosen). All (IsOf p) v.items) (sym w.candidates-is) (c.neighbors.invariant.own before);
           }
     ]

@@ -36,9 +36,9 @@ returns-clause-candidates c =
     let make : ℕ → Neighbor → Option Chosen = λ place n. entry_at c.args.given.now.network.now c.args.given.now.base.now c.args.given.now.sessions.now c.args.table.now c.args.router.0 place p in
     let holds = has_base_row c.args.given.now.base.now c.args.router.0 p in
     let longer = has_longer rows p in
-    joined c.new-made.result.items (networks_of holds p process.networks.items) (aggregates_of longer p process.aggregates.items) (made_from make 0 c.deref.result.now)
+    joined c.in_ok-told.told.items (networks_of holds p process.networks.items) (aggregates_of longer p process.aggregates.items) (made_from make 0 c.deref.result.now)
     c.add_network.new.candidates.items c.add_aggregate.new.candidates.items c.add_entries.new.candidates.items
-    c.new-made.ensures.items c.in_ok-add_network.ensures c.in_ok-add_aggregate.ensures c.in_ok-add_entries.ensures.made
+    c.in_ok-told.ensures.items c.in_ok-add_network.ensures c.in_ok-add_aggregate.ensures c.in_ok-add_entries.ensures.made
     ∙ ap (λ (l : List Neighbor). networks_of holds p process.networks.items ++ (aggregates_of longer p process.aggregates.items ++ made_from make 0 l)) c.deref.ensures.value
     ∙ ap (λ (l : List Chosen). networks_of holds p process.networks.items ++ (l ++ made_from make 0 process.neighbors.items))
     (made_alike (λ place a. cond (same_prefix a.prefix p && has_longer rows p) (Some (begun p (Aggregate place))) None)
@@ -49,10 +49,10 @@ returns-clause-own c =
     let p = c.args.prefix in
     let holds = has_base_row c.args.given.now.base.now c.args.router.0 p in
     let longer = has_longer (slice_index_or c.args.table.now c.args.router.0 []) p in
-    let none : All (IsOf p) c.new-made.result.items = subst (All (IsOf p)) (sym c.new-made.ensures.items) (All-nil (IsOf p)) in
+    let none : All (IsOf p) c.in_ok-told.told.items = subst (All (IsOf p)) (sym c.in_ok-told.ensures.items) (All-nil (IsOf p)) in
     let first : All (IsOf p) (networks_of holds p c.args.process.now.networks.items) = kept_all (IsOf p) (λ (n : NetworkStatement). same_prefix n.prefix p) holds (λ (k : ℕ). begun p (Origin k)) (λ k. refl) c.args.process.now.networks.items in
     let second : All (IsOf p) (aggregates_of longer p c.args.process.now.aggregates.items) = kept_all (IsOf p) (λ (a : AggregateStatement). same_prefix a.prefix p) longer (λ (k : ℕ). begun p (Aggregate k)) (λ k. refl) c.args.process.now.aggregates.items in
-    let one : All (IsOf p) c.add_network.new.candidates.items = subst (All (IsOf p)) (sym c.in_ok-add_network.ensures) (All-append (IsOf p) c.new-made.result.items (networks_of holds p c.args.process.now.networks.items) none first) in
+    let one : All (IsOf p) c.add_network.new.candidates.items = subst (All (IsOf p)) (sym c.in_ok-add_network.ensures) (All-append (IsOf p) c.in_ok-told.told.items (networks_of holds p c.args.process.now.networks.items) none first) in
     let two : All (IsOf p) c.add_aggregate.new.candidates.items =
     subst (All (IsOf p)) (sym c.in_ok-add_aggregate.ensures) (All-append (IsOf p) c.add_network.new.candidates.items (aggregates_of longer p c.args.process.now.aggregates.items) one second) in
     c.in_ok-add_entries.ensures.own two

@@ -1,6 +1,6 @@
-use Rattle.std.proofs.Common.{◌+◌, ◌++◌, ◌≤◌, ℕ, List, Option, All, length, nat_eq, sym, ap, subst, ◌∙◌, arith}
-use Rattle.std.specs.List.{filter_map, slice_get, IsDistinct}
-use Rattle.std.proofs.lemmas.List.{length-append}
+use Rattle.std.proofs.Common.{◌+◌, ◌++◌, ◌≤◌, ℕ, List, Option, All, length, sym, ap, subst, ◌∙◌, arith}
+use Rattle.std.specs.List.{filter_map, slice_get}
+use Rattle.std.proofs.lemmas.List.{length-append, map-id}
 use Rattle.nc_types.specs.Cidr.{Cidr}
 use Rattle.nc_types.specs.Config.{ConfigView, ProcessView, process_view}
 use Rattle.nc_types.specs.declared.TheConstants.{MULTIPATH_LIMIT}
@@ -12,8 +12,9 @@ use Rattle.nc_tables.specs.declared.base.BaseRow.{BaseRow}
 use Rattle.nc_tables.specs.declared.bgp.Chosen.{Chosen}
 use Rattle.nc_tables.specs.declared.bgp.SessionRow.{SessionRow}
 use Rattle.nc_tables.specs.Rounds.{BgpRowView, aggregate_at, candidates_at, entry_at, made_from, origin_at}
+use Rattle.nc_tables.specs.Choice.{choose}
 use Rattle.nc_message.specs.Given.{IsOf}
-use Rattle.nc_message.proofs.Distinct.{choose_distinct, choose_few, made_few}
+use Rattle.nc_message.proofs.Distinct.{choose_few, made_few}
 use Rattle.nc_message.proofs.Making.{made_fewer}
 use Rattle.nc_message.proofs.choosing.chosen_by.Goals as goal
 
@@ -40,28 +41,35 @@ choose-requires c =
     omega (
       arith,
       ap (length {A = Chosen}) c.deref.ensures.value,
-      ap (length {A = Chosen}) c.in_ok-made.ensures.candidates,
+      ap (length {A = Chosen}) c.in_ok-told.ensures.candidates,
       few_candidates c.args.given.now.network.now c.args.given.now.base.now c.args.given.now.sessions.now c.args.table.now c.args.router.0 (process_view c.args.process.now) c.args.prefix,
       c.requires.few,
     )
 
-pub picked-requires : goal.picked-requires
-picked-requires c = subst (IsDistinct nat_eq) (sym (c.deref-2.ensures.value ∙ c.in_ok-places.ensures)) (choose_distinct c.deref.result.now c.args.process.now.max_paths c.args.process.now.relax)
+pub returns-clause-chosen : goal.returns-clause-chosen
+returns-clause-chosen c =
+    let all = candidates_at c.args.given.now.network.now c.args.given.now.base.now c.args.given.now.sessions.now c.args.table.now c.args.router.0 (process_view c.args.process.now) c.args.prefix in
+    c.in_ok-chosen.ensures
+    ∙ ap (λ (l : List Chosen). filter_map (slice_get l) c.deref-3.result.now) (c.deref-2.ensures.value ∙ c.in_ok-told.ensures.candidates)
+    ∙ ap (filter_map (slice_get all))
+    (c.deref-3.ensures.value ∙ c.in_ok-places.ensures
+    ∙ ap (λ (l : List Chosen). choose l c.args.process.now.max_paths c.args.process.now.relax) (map-id c.deref.result.now ∙ c.deref.ensures.value ∙ c.in_ok-told.ensures.candidates))
 
 pub returns-clause-own : goal.returns-clause-own
 returns-clause-own c =
     let p = c.args.prefix in
-    let made = c.in_ok-made.made.items in
-    let places = c.deref-2.result.now in
-    let each : All (IsOf p) (filter_map (slice_get made) places) =
-    all_by_in (IsOf p) (filter_map (slice_get made) places) (λ z i. let from = in_by_filter_map (slice_get made) places z i in all_in (IsOf p) made c.in_ok-made.ensures.own z (in_by_get made from.0 z from.2)) in
+    let told = c.deref-2.result.now in
+    let places = c.deref-3.result.now in
+    let own : All (IsOf p) told = subst (All (IsOf p)) (sym c.deref-2.ensures.value) c.in_ok-told.ensures.own in
+    let each : All (IsOf p) (filter_map (slice_get told) places) =
+    all_by_in (IsOf p) (filter_map (slice_get told) places) (λ z i. let from = in_by_filter_map (slice_get told) places z i in all_in (IsOf p) told own z (in_by_get told from.0 z from.2)) in
     subst (All (IsOf p)) (sym c.in_ok-chosen.ensures) each
 
 pub returns-clause-few : goal.returns-clause-few
 returns-clause-few c =
-    let made = c.in_ok-made.made.items in
-    let places = c.deref-2.result.now in
+    let told = c.deref-2.result.now in
+    let places = c.deref-3.result.now in
     let some : length places ≤ MULTIPATH_LIMIT =
-    subst (λ (l : List ℕ). length l ≤ MULTIPATH_LIMIT) (sym (c.deref-2.ensures.value ∙ c.in_ok-places.ensures))
-    (choose_few c.deref.result.now c.args.process.now.max_paths MULTIPATH_LIMIT c.args.process.now.relax c.requires.formed.paths.1 (omega arith)) in
-    omega (arith, ap (length {A = Chosen}) c.in_ok-chosen.ensures, made_few (slice_get made) places, some)
+    subst (λ (l : List ℕ). length l ≤ MULTIPATH_LIMIT) (sym (c.deref-3.ensures.value ∙ c.in_ok-places.ensures))
+    (choose_few _ c.args.process.now.max_paths MULTIPATH_LIMIT c.args.process.now.relax c.requires.formed.paths.1 (omega arith)) in
+    omega (arith, ap (length {A = Chosen}) c.in_ok-chosen.ensures, made_few (slice_get told) places, some)

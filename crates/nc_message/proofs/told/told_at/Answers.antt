@@ -7,19 +7,19 @@ use Rattle.nc_sessions.specs.Views.{link_view}
 use Rattle.nc_message.specs.Links.{IsSender}
 use Rattle.nc_message.specs.declared.links.Sender.{Sender}
 use Rattle.nc_message.proofs.Sending.{message_is}
-use Rattle.nc_message.proofs.entries.entry.Goals as goal
+use Rattle.nc_message.proofs.told.told_at.Goals as goal
 
 -- of what is known of a sender, its router id
 id_of : (tables : List (List BaseRow)) (router : ℕ) (k : Link) (o : Option Sender) → IfSome o (IsSender tables router k) → IfSome o (λ d. d.id.0 ≡ router_id k.sender.config)
 id_of tables router k None known = tt
 id_of tables router k (Some d) known = known.id
 
-pub learnt_from-requires-clause-sender : goal.learnt_from-requires-clause-sender
-learnt_from-requires-clause-sender c =
-    let s = c.in-Some.taken.sent in
-    id_of c.args.given.now.base.now c.args.router.0 (link_view s.link) s.sender c.in-Some.ensures.known
+pub learnt-requires-clause-sender : goal.learnt-requires-clause-sender
+learnt-requires-clause-sender c =
+    let s = c.in_ok-taken.taken.sent in
+    id_of c.args.given.now.base.now c.args.router.0 (link_view s.link) s.sender c.in_ok-taken.ensures.known
 
-pub returns-in_ok-learnt_from-in-Some-clause-own : goal.returns-in_ok-learnt_from-in-Some-clause-own
-returns-in_ok-learnt_from-in-Some-clause-own c =
-    let s = c.in-Some.taken.sent in
-    ap (λ (x : Chosen). x.route.prefix) c.in_ok-learnt_from-in-Some.ensures ∙ (message_is (link_view s.link) s.best.now s.out).prefix ∙ c.in-Some.ensures.own
+pub returns-clause-own : goal.returns-clause-own
+returns-clause-own c =
+    let s = c.in_ok-taken.taken.sent in
+    ap (λ (x : Chosen). x.route.prefix) c.learnt.ensures ∙ (message_is (link_view s.link) s.best.now s.out).prefix ∙ c.in_ok-taken.ensures.own

@@ -1,0 +1,216 @@
+//! A candidate of a prefix, told without its route in memory.
+
+ghost use Rattle.std.specs.Prelude.{◌≡◌, ◌<◌, length, slice_index_or, IfOk, IfSome};
+ghost use Rattle.std.specs.Str.{bytes_eq};
+ghost use Rattle.nc_tables.specs.Rounds.{begun, entry_at, learnt_from};
+ghost use Rattle.nc_message.specs.Given.{AreGiven};
+ghost use Rattle.nc_message.specs.Views.{taken_view, HasId, IsTaken};
+
+use crate::accepting::{Taken, accepted_at};
+use crate::given::Given;
+use crate::learnt::{
+    learnt_from, length_of, metric_of, number_of, origin_of, preference_of, sender_id,
+};
+use nc_select::Candidate;
+use nc_tables::{BgpFrom, BgpTable, Chosen, Path, Route};
+use nc_types::{Addr, Communities, DEFAULT_PREFERENCE, OriginCode, Prefix, RouterId};
+use std::alloc::{AllocError, Global};
+use std::marker::Model;
+
+// How a candidate came to be.
+#[derive(Clone, Copy)]
+enum Way<'a> {
+    // The router begins the prefix, by a network or an aggregate.
+    Begun(Prefix, BgpFrom),
+    // It was accepted over the neighbor statement at a place.
+    Learnt(u32, Taken<'a>),
+}
+
+/// A candidate of a prefix: a network or an aggregate of the router, or what was accepted over a
+/// neighbor statement. It stands for the candidate that [`Told::made`] makes of it in memory.
+#[derive(Drop)]
+pub(crate) struct Told<'a> {
+    way: Way<'a>,
+}
+
+impl<'a> Model for Told<'a> {
+    ghost use Rattle.nc_tables.specs.declared.bgp.Chosen.{Chosen};
+
+    ghost Value = { Chosen };
+
+    ghost use Rattle.nc_message.specs.Told.{way_view, IsSound};
+
+    ghost view = { λ t. way_view t.way };
+
+    ghost invariant = { λ t. IsSound t.way };
+}
+
+// The candidate of a prefix that a router itself begins. Takes no memory.
+fn begun(alloc: Global, prefix: Prefix, from: BgpFrom) -> Chosen
+    ensures { result ≡ begun prefix from }
+{
+    Chosen {
+        route: Route {
+            prefix,
+            path: Path::new(Vec::new(alloc)),
+            next_hop: Addr(0),
+            preference: DEFAULT_PREFERENCE,
+            metric: 0,
+            origin: OriginCode::Igp,
+            communities: Communities::new(alloc),
+        },
+        from,
+        internal: false,
+        sender_id: Addr(0),
+        sender: Addr(0),
+    }
+}
+
+impl<'a> Told<'a> {
+    /// The candidate of a prefix that a router itself begins.
+    pub(crate) fn begun(prefix: Prefix, from: BgpFrom) -> Told<'a>
+        ensures { result ≡ begun prefix from }
+    {
+        Told {
+            way: Way::Begun(prefix, from),
+        }
+    }
+
+    /// The candidate that is learnt by what was accepted over the neighbor statement at a place.
+    pub(crate) fn learnt(place: u32, taken: Taken<'a>) -> Told<'a>
+        requires taken { IsTaken taken }
+        requires sender { HasId taken.sent }
+        ensures { result ≡ learnt_from place (taken_view taken.entry) }
+    {
+        Told {
+            way: Way::Learnt(place, taken),
+        }
+    }
+
+    /// The candidate in memory.
+    ///
+    /// # Errors
+    ///
+    /// Memory that runs out.
+    pub(crate) fn made(&self, alloc: Global) -> Result<Chosen, AllocError>
+        ensures { IfOk result (λ made. made ≡ self.now) }
+    {
+        match &self.way {
+            Way::Begun(prefix, from) => Ok(begun(alloc, *prefix, *from)),
+            Way::Learnt(place, taken) => Ok(learnt_from(alloc, *place, taken)?),
+        }
+    }
+
+    // The number at a place of its path.
+    fn number(&self, place: usize) -> u32
+        requires { place < length self.now.route.path }
+        ensures { result ≡ slice_index_or self.now.route.path place 0 }
+    {
+        match &self.way {
+            Way::Begun(_, _) => 0,
+            Way::Learnt(_, taken) => number_of(taken, place),
+        }
+    }
+}
+
+// Whether two candidates whose paths have so many numbers have the same there, in their order.
+fn has_same_numbers(a: &Told, b: &Told, count: usize) -> bool
+    requires a { length a.now.route.path ≡ count }
+    requires b { length b.now.route.path ≡ count }
+    ensures { result ≡ bytes_eq a.now.route.path b.now.route.path }
+{
+    'numbers: for place in 0..count {
+        if a.number(place) != b.number(place) {
+            return false;
+        }
+    }
+    true
+}
+
+impl<'a> Candidate for Told<'a> {
+    ghost candidate_of = { λ x. x };
+
+    fn from(&self) -> BgpFrom {
+        match &self.way {
+            Way::Begun(_, from) => *from,
+            Way::Learnt(place, _) => BgpFrom::Entry(*place),
+        }
+    }
+
+    fn preference(&self) -> u32 {
+        match &self.way {
+            Way::Begun(_, _) => DEFAULT_PREFERENCE,
+            Way::Learnt(_, taken) => preference_of(taken),
+        }
+    }
+
+    fn path_length(&self) -> usize {
+        match &self.way {
+            Way::Begun(_, _) => 0,
+            Way::Learnt(_, taken) => length_of(taken),
+        }
+    }
+
+    fn origin(&self) -> OriginCode {
+        match &self.way {
+            Way::Begun(_, _) => OriginCode::Igp,
+            Way::Learnt(_, taken) => origin_of(taken),
+        }
+    }
+
+    fn metric(&self) -> u32 {
+        match &self.way {
+            Way::Begun(_, _) => 0,
+            Way::Learnt(_, taken) => metric_of(taken),
+        }
+    }
+
+    fn is_internal(&self) -> bool {
+        match &self.way {
+            Way::Begun(_, _) => false,
+            Way::Learnt(_, taken) => taken.sent.link.session.internal,
+        }
+    }
+
+    fn sender_id(&self) -> Addr {
+        match &self.way {
+            Way::Begun(_, _) => Addr(0),
+            Way::Learnt(_, taken) => sender_id(&taken.sent),
+        }
+    }
+
+    fn sender(&self) -> Addr {
+        match &self.way {
+            Way::Begun(_, _) => Addr(0),
+            Way::Learnt(_, taken) => taken.sent.link.receiver.statement.addr,
+        }
+    }
+
+    fn has_same_path(&self, other: &Self) -> bool {
+        let count = self.path_length();
+        if other.path_length() != count {
+            return false;
+        }
+        has_same_numbers(self, other, count)
+    }
+}
+
+/// The candidate of a prefix that a router learns by the neighbor statement at a place, given the
+/// table of what is chosen now, which has a list for each router; `None` where nothing is accepted,
+/// as [`accepted_at`] tells it. Takes no memory.
+pub(crate) fn told_at<'a>(
+    given: &Given<'a>,
+    table: &'a BgpTable,
+    router: RouterId,
+    place: u32,
+    prefix: Prefix,
+) -> Option<Told<'a>>
+    requires given { AreGiven given.now }
+    requires table { length table.now ≡ length given.now.network.now }
+    ensures told { result ≡ entry_at given.now.network.now given.now.base.now
+        given.now.sessions.now table.now router.0 place prefix }
+    ensures own { IfSome result (λ x. x.route.prefix ≡ prefix) }
+{
+    let taken = accepted_at(given, table, router, place, prefix)?;
+    Some(Told::learnt(place, taken))
+}
