@@ -1,13 +1,10 @@
 -- The rows after any number of rounds, of routers that are well formed: in order, each of a prefix without host bits, with a candidate and
 -- no more than may be used at once, each of the row's prefix.
-use Rattle.std.proofs.Common.{◌≡◌, ℕ, zero, suc, ◌<◌, ◌≤◌, Bool, true, false, cond, ◌&&◌, ◌++◌, List, [], ◌∷◌, length, map, get_or, All, IfSome, Option, Some, None, refl, sym, ap, subst, ◌∙◌, arith, inl, inr, ◌⊎◌}
-use Rattle.std.specs.List.{flat_map, list_any, position_or_len, slice_get, slice_index_or}
+use Rattle.std.proofs.Common.{◌≡◌, ℕ, zero, suc, ◌<◌, ◌≤◌, Bool, true, false, cond, ◌&&◌, ◌++◌, List, [], ◌∷◌, length, map, get_or, All, IfSome, Option, Some, None, refl, sym, subst, ◌∙◌, arith, inl, inr, ◌⊎◌}
+use Rattle.std.specs.List.{flat_map, list_any, slice_get, slice_index_or}
 use Rattle.std.specs.Option.{option_and_then, option_map, option_map_or}
 use Rattle.std.proofs.lemmas.List.{get_or_default}
 use Rattle.std.proofs.lemmas.List.Elements.{All-nil, All-append, All-head, All-map}
-use Rattle.std.proofs.lemmas.List.Folds.{find_at}
-use Rattle.std.proofs.lemmas.List.Sums.{passes_at_first}
-use Rattle.std.proofs.lemmas.Option.{slice_get_cases}
 use Rattle.nc_types.specs.declared.TheConstants.{MULTIPATH_LIMIT}
 use Rattle.nc_types.specs.declared.config.AggregateStatement.{AggregateStatement}
 use Rattle.nc_types.specs.declared.config.NetworkStatement.{NetworkStatement}
@@ -15,7 +12,6 @@ use Rattle.nc_types.specs.Cidr.{Cidr, IsCidr, same_prefix}
 use Rattle.nc_types.specs.Config.{ConfigView, ProcessView}
 use Rattle.nc_types.specs.WellFormed.{IsProcess, IsWellFormed}
 use Rattle.nc_types.proofs.Members.{In, all_in, all_by_in, in_by_get, in_by_map, in_by_flat_map, in_either}
-use Rattle.nc_types.proofs.Sameness.{same_prefix_is}
 use Rattle.nc_tables.specs.declared.base.BaseRow.{BaseRow}
 use Rattle.nc_tables.specs.declared.bgp.SessionRow.{SessionRow}
 use Rattle.nc_tables.specs.declared.bgp.Chosen.{Chosen}
@@ -23,10 +19,11 @@ use Rattle.nc_tables.specs.declared.bgp.BgpFrom.TheVariants.{Origin, Aggregate}
 use Rattle.nc_tables.specs.Choice.{choose}
 use Rattle.nc_tables.specs.Reach.{rows_of}
 use Rattle.nc_tables.specs.Sessions.{first_of, process_of}
-use Rattle.nc_tables.specs.Rounds.{BgpRowView, AreBgpRows, Link, Message, Accepted, chosen_in, chosen_at, is_active, link_at, message_of, message_at, accepted_of, accepted_at, learnt_from, entry_at, begun, aggregate_at, candidates_at, chosen_by, chosen_anew, prefixes_in, prefixes, row_of, row_at, rows_anew, round, after}
+use Rattle.nc_tables.specs.Rounds.{BgpRowView, AreBgpRows, Link, Message, Accepted, chosen_at, is_active, link_at, message_of, message_at, accepted_of, accepted_at, learnt_from, entry_at, begun, aggregate_at, candidates_at, chosen_by, chosen_anew, prefixes_in, prefixes, row_of, row_at, rows_anew, round, after}
 use Rattle.nc_main_rib.proofs.Ascending.{of_distinct}
 use Rattle.nc_message.specs.Given.{IsOf}
 use Rattle.nc_message.proofs.Distinct.{choose_few, made_few}
+use Rattle.nc_message.proofs.Own.{AreOwn, row_own}
 use Rattle.nc_message.proofs.Making.{made_all, kept_all}
 use Rattle.nc_message.proofs.Processes.{has_config}
 use Rattle.nc_round.proofs.KeptPrefixes.{then_some, message_keeps, accepted_keeps}
@@ -50,25 +47,6 @@ of_router None is q i = absurd i
 of_router (Some p) is q i = of_process p is q i
 
 -- ---- what is chosen of a prefix is of it
-
-abbrev AreOwn : BgpRowView → Type 0
-AreOwn row = All (λ x. x.route.prefix ≡ row.prefix) row.chosen
-
-module _ (p : Cidr) (rows : List BgpRowView) (own : All AreOwn rows) where
-  abbrev has : BgpRowView → Bool
-  has row = same_prefix row.prefix p
-
-  abbrev Own : Option BgpRowView → Type 0
-  Own o = All (IsOf p) (option_map_or (λ row. row.chosen) o [])
-
-  found_own : All (IsOf p) (chosen_in rows p)
-  found_own = subst Own (sym (find_at has rows)) (elim (slice_get_cases rows (position_or_len has rows)).1 [
-    | inl r ↦
-        let is : same_prefix r.0.prefix p ≡ true = ap has (sym r.3) ∙ passes_at_first has rows r.0 r.1 in
-        let same : r.0.prefix ≡ p = same_prefix_is r.0.prefix p is in
-        subst Own (sym r.2) (λ k d lt. all_in AreOwn rows own r.0 (in_by_get rows (position_or_len has rows) r.0 r.2) k d lt ∙ same)
-    | inr r ↦ subst Own (sym r.1) (All-nil (IsOf p))
-  ])
 
 first_own : (p : Cidr) (xs : List Chosen) → All (IsOf p) xs → IfSome (first_of xs) (IsOf p)
 first_own p [] own = tt
@@ -118,7 +96,7 @@ module _ (routers : List ConfigView) (formed : All IsWellFormed routers) where
   module _ (tables : List (List BaseRow)) (sessions : List (List SessionRow)) where
     module _ (table : List (List BgpRowView)) (before : All AreBgpRows table) (router : ℕ) where
       at_own : (peer : ℕ) (q : Cidr) → All (IsOf q) (chosen_at table peer q)
-      at_own peer q = found_own q (slice_index_or table peer []) (all_at AreBgpRows no_rows table before peer).own
+      at_own peer q = row_own q (slice_index_or table peer []) (all_at AreBgpRows no_rows table before peer).own
 
       entry_own : (place : ℕ) (q : Cidr) → IfSome (entry_at routers tables sessions table router place q) (IsOf q)
       unfolding message_at accepted_at

@@ -6,7 +6,7 @@ use Rattle.nc_types.specs.declared.config.AggregateStatement.{AggregateStatement
 use Rattle.nc_tables.specs.declared.base.BaseRow.{BaseRow}
 use Rattle.nc_tables.specs.declared.bgp.SessionRow.{SessionRow}
 use Rattle.nc_tables.specs.Rounds.{BgpRowView, chosen_at, is_longer_in, round, session_by}
-use Rattle.nc_round.specs.Hearing.{aggregates_of}
+use Rattle.nc_round.specs.Waking.{aggregates_of}
 use Rattle.nc_round.specs.Keys.{Key, key, AreInOrder}
 
 -- exactly the rows in which two tables differ, in order

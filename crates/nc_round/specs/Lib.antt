@@ -1,5 +1,5 @@
 pub mod Keys
 pub mod Given
-pub mod Hearing
+pub mod Waking
 pub mod Changes
 pub mod Renewing

@@ -1,12 +1,10 @@
 ghost use Rattle.std.specs.Prelude.{◌≡◌, List, IfOk, length};
 ghost use Rattle.nc_tables.specs.Rounds.{BgpRowView, no_routes};
-ghost use Rattle.nc_round.specs.Hearing.{AreHearers};
 ghost use Rattle.nc_message.specs.Given.{AreGiven};
 ghost use Rattle.nc_round.specs.Given.{next};
 ghost use Rattle.nc_round.specs.Changes.{IsDifference, IsRoundOf};
 
 use crate::changed::Changed;
-use crate::hearers::Hearers;
 use crate::renewal::renew;
 use crate::waking::{begun_in_order, woken_in_order};
 use nc_message::Given;
@@ -41,12 +39,10 @@ pub fn first_round(alloc: Global, given: Given<'_>) -> Result<(BgpTable, Changed
 pub fn round_changed(
     alloc: Global,
     given: Given<'_>,
-    hearers: &Hearers,
     old: BgpTable,
     changed: Changed,
 ) -> Result<(BgpTable, Changed), AllocError>
     requires given { AreGiven given }
-    requires hearers { AreHearers given.sessions.now hearers.now }
     requires made { (before : List (List BgpRowView))
         × IsRoundOf given.network.now given.base.now given.sessions.now before old
         changed.rows.items }
@@ -54,7 +50,7 @@ pub fn round_changed(
     ensures changed { IfOk result (λ r. IsDifference old r.0 r.1.rows.items) }
 {
     let _count = old.count();
-    let keys = woken_in_order(alloc, given.network, hearers, &changed.rows)?;
+    let keys = woken_in_order(alloc, given.network, given.sessions, &changed.rows)?;
     let made = renew(alloc, given, old, &keys)?;
     Ok(made)
 }

@@ -2,7 +2,6 @@ ghost use Rattle.std.specs.Prelude.{IfOk, MatchOption};
 ghost use Rattle.nc_tables.specs.Rounds.{IsStable, IsUnstable};
 ghost use Rattle.nc_message.specs.Given.{AreGiven};
 
-use crate::hearers::Hearers;
 use crate::rounds::{first_round, round_changed};
 use nc_message::Given;
 use nc_tables::BgpTable;
@@ -27,13 +26,12 @@ pub fn settle_table(
     if rounds == 0 {
         return Ok(None);
     }
-    let hearers = Hearers::new(alloc, given)?;
     let (mut table, mut changed) = first_round(alloc, given)?;
     'rounds: for _more in 0..rounds - 1 {
         if changed.rows.is_empty() {
             return Ok(Some(table));
         }
-        let next = round_changed(alloc, given, &hearers, table, changed)?;
+        let next = round_changed(alloc, given, table, changed)?;
         (table, changed) = next;
     }
     if changed.rows.is_empty() {

@@ -1,14 +1,15 @@
-//! Which rows are woken by those that changed.
+//! Which rows may come from rows that changed, so that they are woken.
 
-ghost use Rattle.std.specs.Prelude.{◌≡◌, ◌↔◌, ◌<◌, ◌++◌, [], All, Contains, filter, length, map, IfOk, OnOk, slice_index_or};
-ghost use Rattle.std.specs.List.{flat_map};
+ghost use Rattle.std.specs.Prelude.{◌≡◌, ◌↔◌, ◌<◌, ◌++◌, ℕ, [], All, Contains, filter, length, map, IfOk, OnOk, slice_index_or};
+ghost use Rattle.std.specs.List.{flat_map, list_any};
+ghost use Rattle.nc_types.specs.Cidr.{Cidr};
 ghost use Rattle.nc_types.specs.Config.{config_view};
 ghost use Rattle.nc_tables.specs.Rounds.{is_longer_in, prefixes_in};
-ghost use Rattle.nc_round.specs.Hearing.{aggregates_of, begun_from, woken_by};
-ghost use Rattle.nc_round.specs.Keys.{Key, AreInOrder};
+ghost use Rattle.nc_round.specs.Keys.{Key, key, AreInOrder};
+ghost use Rattle.nc_round.specs.Waking.{aggregates_of, begun_from, woken_at, IsWoken};
 
-use crate::hearers::Hearers;
-use nc_tables::is_longer_in;
+use crate::by_router::{by_router, changed_at};
+use nc_tables::{SessionRow, Sessions, is_longer_in};
 use nc_types::{AggregateStatement, Network, NetworkStatement, Prefix, RouterConfig, RouterId};
 use std::alloc::{AllocError, Global};
 
@@ -23,58 +24,119 @@ fn aggregates_of(network: &Network, router: RouterId) -> &[AggregateStatement]
     }
 }
 
-// Wakes the rows of a prefix where a change of it is heard.
-fn wake_hearers(
-    woken: &mut Vec<(RouterId, Prefix)>,
-    hearers: &[RouterId],
-    prefix: Prefix,
+// Adds the prefixes that changed at the peers of a router's sessions.
+fn add_heard(
+    prefixes: &mut Vec<Prefix>,
+    rows: &[SessionRow],
+    lists: &[Vec<Prefix>],
 ) -> Result<(), AllocError>
-    ensures { OnOk result (woken.new.items
-        ≡ woken.old.items ++ map (λ r. (r, prefix)) hearers.now) }
+    ensures { OnOk result (prefixes.new.items ≡ prefixes.old.items
+        ++ flat_map (λ s. slice_index_or (map (λ l. l.items) lists.now) s.peer.0 []) rows.now) }
 {
-    'hearers: for router in hearers {
-        woken.push((*router, prefix))?;
+    'rows: for row in rows {
+        prefixes.extend_from_slice(changed_at(lists, row.peer))?;
     }
     Ok(())
 }
 
-// Wakes the rows of aggregates around a prefix that changed.
-fn wake_aggregates(
-    woken: &mut Vec<(RouterId, Prefix)>,
+// Whether one of some prefixes is a longer one inside another.
+fn has_inside(prefixes: &[Prefix], outer: Prefix) -> bool
+    ensures { result ≡ list_any (λ q. is_longer_in q outer) prefixes.now }
+{
+    prefixes.iter().any(|prefix| is_longer_in(*prefix, outer))
+}
+
+// Adds the prefixes of the aggregates around what changed at a router itself.
+fn add_around(
+    prefixes: &mut Vec<Prefix>,
     aggregates: &[AggregateStatement],
-    router: RouterId,
-    prefix: Prefix,
+    changed: &[Prefix],
 ) -> Result<(), AllocError>
-    ensures { OnOk result (woken.new.items ≡ woken.old.items ++ map (λ a. (router, a.prefix))
-        (filter (λ a. is_longer_in prefix a.prefix) aggregates.now)) }
+    ensures { OnOk result (prefixes.new.items ≡ prefixes.old.items ++ map (λ a. a.prefix)
+        (filter (λ a. list_any (λ q. is_longer_in q a.prefix) changed.now) aggregates.now)) }
 {
     'aggregates: for aggregate in aggregates {
-        if is_longer_in(prefix, aggregate.prefix) {
-            woken.push((router, aggregate.prefix))?;
+        if has_inside(changed, aggregate.prefix) {
+            prefixes.push(aggregate.prefix)?;
         }
     }
     Ok(())
 }
 
-// All that rows which changed wake.
+// Takes out what stands twice.
+fn keep_once(prefixes: &mut Vec<Prefix>)
+    ensures { (p : Cidr) → Contains prefixes.old.items p → Contains prefixes.new.items p }
+{
+    prefixes.sort_unstable();
+    prefixes.dedup();
+}
+
+// Wakes the rows of prefixes at a router.
+fn wake_each(
+    woken: &mut Vec<(RouterId, Prefix)>,
+    router: RouterId,
+    prefixes: &[Prefix],
+) -> Result<(), AllocError>
+    ensures { OnOk result (woken.new.items
+        ≡ woken.old.items ++ map (λ p. (router, p)) prefixes.now) }
+{
+    'prefixes: for prefix in prefixes {
+        woken.push((router, *prefix))?;
+    }
+    Ok(())
+}
+
+// Wakes the rows of a router that may come from rows that changed, given the prefixes of these at
+// each router. What is noted on the way is used again for the next router.
+fn wake(
+    woken: &mut Vec<(RouterId, Prefix)>,
+    noted: &mut Vec<Prefix>,
+    network: &Network,
+    sessions: &Sessions,
+    lists: &[Vec<Prefix>],
+    router: RouterId,
+) -> Result<(), AllocError>
+    requires sessions { length sessions.now ≡ length network.now }
+    requires router { router.0 < length network.now }
+    ensures kept { OnOk result ((k : Key) → Contains woken.old.items k
+        → Contains woken.new.items k) }
+    ensures woken { OnOk result ((p : Cidr) → Contains (woken_at network.now sessions.now
+        (map (λ l. l.items) lists.now) router.0) p → Contains woken.new.items (router, p)) }
+    ensures within { OnOk result ((n : ℕ) → router.0 < n
+        → All (λ k. k.0.0 < n) woken.old.items → All (λ k. k.0.0 < n) woken.new.items) }
+{
+    noted.clear();
+    add_heard(noted, sessions.rows(router), lists)?;
+    add_around(
+        noted,
+        aggregates_of(network, router),
+        changed_at(lists, router),
+    )?;
+    keep_once(noted);
+    wake_each(woken, router, noted)?;
+    Ok(())
+}
+
+// All rows that may come from rows that changed, given the prefixes of these at each router.
 fn woken(
     alloc: Global,
     network: &Network,
-    hearers: &Hearers,
-    changed: &[(RouterId, Prefix)],
+    sessions: &Sessions,
+    lists: &[Vec<Prefix>],
 ) -> Result<Vec<(RouterId, Prefix)>, AllocError>
-    requires hearers { length hearers.now ≡ length network.now }
-    requires changed { All (λ k. k.0.0 < length network.now) changed.now }
-    ensures { IfOk result (λ woken. woken.items
-        ≡ flat_map (woken_by network.now hearers.now) changed.now) }
+    requires sessions { length sessions.now ≡ length network.now }
+    ensures woken { IfOk result (λ keys. (router : ℕ) (p : Cidr) → router < length network.now
+        → Contains (woken_at network.now sessions.now (map (λ l. l.items) lists.now) router) p
+        → Contains keys.items (key router p)) }
+    ensures within { IfOk result (λ keys. All (λ k. k.0.0 < length network.now) keys.items) }
 {
-    let mut woken = Vec::new(alloc);
-    'changed: for (router, prefix) in changed {
-        wake_hearers(&mut woken, hearers.of(*router), *prefix)?;
-        let aggregates = aggregates_of(network, *router);
-        wake_aggregates(&mut woken, aggregates, *router, *prefix)?;
+    let mut keys = Vec::new(alloc);
+    let mut noted = Vec::new(alloc);
+    'routers: for router in 0..network.routers().len() {
+        let router = RouterId(router as u32);
+        wake(&mut keys, &mut noted, network, sessions, lists, router)?;
     }
-    Ok(woken)
+    Ok(keys)
 }
 
 // Rows in order, each once.
@@ -87,20 +149,23 @@ fn in_order(mut keys: Vec<(RouterId, Prefix)>) -> Vec<(RouterId, Prefix)>
     keys
 }
 
-/// The rows that are woken by those that changed, in order, each once.
+/// The rows that may come from rows that changed, in order, each once.
 pub(crate) fn woken_in_order(
     alloc: Global,
     network: &Network,
-    hearers: &Hearers,
+    sessions: &Sessions,
     changed: &[(RouterId, Prefix)],
 ) -> Result<Vec<(RouterId, Prefix)>, AllocError>
-    requires hearers { length hearers.now ≡ length network.now }
-    requires changed { All (λ k. k.0.0 < length network.now) changed.now }
+    requires sessions { length sessions.now ≡ length network.now }
     ensures ordered { IfOk result (λ keys. AreInOrder keys.items) }
-    ensures same { IfOk result (λ keys. (k : Key) → Contains keys.items k
-        ↔ Contains (flat_map (woken_by network.now hearers.now) changed.now) k) }
+    ensures woken { IfOk result (λ keys. (router : ℕ) (p : Cidr) → router < length network.now
+        → (All (λ k. k.0.0 < length network.now) changed.now)
+        → IsWoken network.now sessions.now changed.now router p
+        → Contains keys.items (key router p)) }
+    ensures within { IfOk result (λ keys. All (λ k. k.0.0 < length network.now) keys.items) }
 {
-    let keys = woken(alloc, network, hearers, changed)?;
+    let lists = by_router(alloc, network.routers().len(), changed)?;
+    let keys = woken(alloc, network, sessions, &lists)?;
     Ok(in_order(keys))
 }
 

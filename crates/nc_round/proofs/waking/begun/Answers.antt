@@ -2,7 +2,7 @@ use Rattle.std.proofs.Common.{◌≡◌, ℕ, suc, ◌+◌, ◌++◌, ◌∷◌,
 use Rattle.nc_types.proofs.Walks.{drop_view}
 use Rattle.nc_types.specs.Config.{ConfigView, config_view}
 use Rattle.nc_tables.specs.Rounds.{prefixes_in}
-use Rattle.nc_round.specs.Hearing.{begun_from}
+use Rattle.nc_round.specs.Waking.{begun_from}
 use Rattle.nc_round.specs.Keys.{Key, key}
 use Rattle.nc_round.proofs.waking.begun.Goals as goal
 

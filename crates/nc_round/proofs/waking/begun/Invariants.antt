@@ -1,5 +1,5 @@
 use Rattle.std.proofs.Common.{◌≡◌, ◌++◌, drop}
-use Rattle.nc_round.specs.Hearing.{begun_from}
+use Rattle.nc_round.specs.Waking.{begun_from}
 use Rattle.nc_round.proofs.waking.begun.Given as goal
 
 -- what is woken so far and what the routers that are left begin are all

@@ -1,8 +1,12 @@
-use Rattle.std.proofs.Common.{◌≡◌, ◌++◌, drop}
-use Rattle.std.specs.List.{flat_map}
-use Rattle.nc_round.specs.Hearing.{woken_by}
+use Rattle.std.proofs.Common.{◌<◌, ℕ, All, Contains, length, map}
+use Rattle.nc_types.specs.Cidr.{Cidr}
+use Rattle.nc_round.specs.Keys.{key}
+use Rattle.nc_round.specs.Waking.{woken_at}
 use Rattle.nc_round.proofs.waking.woken.Given as goal
 
--- what is woken so far and what the rows that are left wake are all
-abbrev pub invariant-changed : goal.invariant-changed
-invariant-changed l = l.woken.items ++ flat_map (woken_by l.network l.hearers) (drop l.router-index l.changed) ≡ flat_map (woken_by l.network l.hearers) l.changed
+abbrev pub invariant-routers : goal.invariant-routers
+invariant-routers l = record {
+  -- the rows of the routers so far are woken
+  woken : (router : ℕ) (p : Cidr) → router < l.router → Contains (woken_at l.network l.sessions (map (λ list. list.items) l.lists) router) p → Contains l.keys.items (key router p);
+  within : All (λ k. k.0.0 < length l.network) l.keys.items;
+}

@@ -1,5 +1,5 @@
 use Rattle.std.proofs.Common.{◌≡◌, [], All, length}
-use Rattle.nc_round.proofs.hearers.no_hearers.Given as goal
+use Rattle.nc_round.proofs.by_router.no_lists.Given as goal
 
 abbrev pub invariant-lists : goal.invariant-lists
 invariant-lists l = record {
