@@ -2,6 +2,7 @@
 
 ghost use Rattle.std.specs.Prelude.{◌≡◌, None, Some, IfOk, IsErrOf};
 ghost use Rattle.nc_policy.specs.Indexes.{ArePolicies};
+ghost use Rattle.nc_message.specs.Links.{AreLinks};
 ghost use Rattle.nc_tables.specs.Base.{base_tables};
 ghost use Rattle.nc_tables.specs.Rounds.{IsStable, IsUnstable};
 ghost use Rattle.nc_tables.specs.Sessions.{sessions};
@@ -11,6 +12,7 @@ use crate::fault::SettleFault;
 use crate::settled_network::SettledNetwork;
 use nc_base_rib::base_tables;
 use nc_main_rib::main_tables;
+use nc_message::Links;
 use nc_policy::Policies;
 use nc_round::{Given, settle_table};
 use nc_sessions::sessions;
@@ -19,17 +21,19 @@ use nc_types::Network;
 use std::alloc::Global;
 
 // The first BGP table that no round changes, if no more than so many rounds show it.
-fn stable_table(
+fn stable_table<'a>(
     alloc: Global,
-    network: &Network,
-    base: &BaseTables,
-    established: &Sessions,
-    policies: &Policies,
+    network: &'a Network,
+    base: &'a BaseTables,
+    established: &'a Sessions,
+    policies: &'a Policies,
+    links: &'a Links,
     rounds: u32,
 ) -> Result<BgpTable, SettleFault>
     requires base { base.now ≡ base_tables network.now }
     requires sessions { established.now ≡ sessions network.now base.now }
     requires policies { ArePolicies network.now policies.now }
+    requires links { AreLinks network.now base.now established.now links.now }
     ensures stable { IfOk result (IsStable network.now base.now established.now rounds) }
     ensures unstable { IsErrOf result SettleFault.Unstable
         → IsUnstable network.now base.now established.now rounds }
@@ -39,7 +43,7 @@ fn stable_table(
         base,
         sessions: established,
         policies,
-        links: None,
+        links: Some(links),
     };
     let table = settle_table(alloc, given, rounds)?;
     match table {
@@ -69,7 +73,8 @@ pub fn settle_network(
     let base = base_tables(alloc, &network)?;
     let sessions = sessions(alloc, &network, &base)?;
     let policies = Policies::new(alloc, &network)?;
-    let bgp = stable_table(alloc, &network, &base, &sessions, &policies, rounds)?;
+    let links = Links::new(alloc, &network, &base, &sessions)?;
+    let bgp = stable_table(alloc, &network, &base, &sessions, &policies, &links, rounds)?;
     let _routers = network.routers();
     let _elements = network.element_count();
     let _count = bgp.count();

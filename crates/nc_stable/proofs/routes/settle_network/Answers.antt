@@ -1,5 +1,6 @@
 use Rattle.std.proofs.Common.{◌≡◌, ◌<◌, ◌^◌, Result, Err, List, All, Some, length, sym, ap, subst, ◌∙◌}
 use Rattle.std.specs.Result.{IsErrOf}
+use Rattle.std.proofs.lemmas.List.FromFn.{length-map-range_with_len}
 use Rattle.std.proofs.lemmas.Result.{err_from_is_err_and}
 use Rattle.nc_stable.specs.declared.fault.SettleFault.{SettleFault}
 use Rattle.nc_stable.specs.declared.fault.SettleFault.TheVariants.{Unstable}
@@ -12,6 +13,9 @@ use Rattle.nc_round.proofs.Settled.{after_count}
 use Rattle.nc_stable.proofs.Bounds.{main_few}
 use Rattle.nc_stable.proofs.Found.{state_is, state_found, nothing_found}
 use Rattle.nc_stable.proofs.routes.settle_network.Goals as goal
+
+pub new-requires-2-clause-sessions : goal.new-requires-2-clause-sessions
+new-requires-2-clause-sessions c = ap length c.in_ok-sessions.ensures ∙ length-map-range_with_len _ 0 (length c.args.network)
 
 fault_is : {A : Type 0} (r : Result A SettleFault) (x y : SettleFault) → r ≡ Err x → r ≡ Err y → x ≡ y
 fault_is r x y e f = cc

@@ -10,6 +10,6 @@ settle_table-requires c = record {
     base = ap length c.requires.base ∙ length-map c.args.network.now base_table;
     sessions = ap length c.requires.sessions ∙ length-map-range_with_len _ 0 (length c.args.network.now);
     policies = c.requires.policies;
-    links = tt;
+    links = c.requires.links;
   };
 }
