@@ -1,11 +1,8 @@
 -- Tests over places that follow one another.
-use Rattle.std.proofs.Common.{◌≡◌, ℕ, suc, ◌+◌, ◌-◌, ◌<◌, ◌≤◌, Bool, true, false, cond, ◌&&◌, ◌||◌, nat_eq, nat_lt, nat_le, ◌⊎◌, List, [], ◌∷◌, length, filter, refl, sym, ap, ◌∙◌, arith, inl, inr}
+use Rattle.std.proofs.Common.{◌≡◌, ℕ, ◌-◌, ◌<◌, ◌≤◌, Bool, true, false, ◌&&◌, nat_eq, nat_le, ◌⊎◌, List, filter, refl, sym, ap, arith, inl, inr}
 use Rattle.std.specs.List.{list_any, range_with_len}
-use Rattle.std.proofs.lemmas.Bool.{eqb-true, eq-eqb, ltb-true, lt-ltb, leb-true}
-use Rattle.std.proofs.lemmas.List.FromFn.{length-range_with_len}
+use Rattle.std.proofs.lemmas.Bool.{eqb-true, eq-eqb, leb-true}
 use Rattle.std.proofs.lemmas.Map.Views.{any-filter_same}
-use Rattle.nc_tables.specs.Longest.{places_from}
-use Rattle.nc_types.proofs.Truth.{same_truth}
 use Rattle.nc_underlay.proofs.Flagging.{not_true, any_in, any_out}
 
 -- a number is in a range that begins no later and ends behind it, and in no other

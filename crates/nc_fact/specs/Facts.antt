@@ -11,12 +11,13 @@ use Rattle.nc_tables.specs.declared.base.BaseRow.{BaseRow}
 use Rattle.nc_tables.specs.declared.bgp.Chosen.{Chosen as ChosenRoute}
 use Rattle.nc_tables.specs.declared.bgp.MainRow.{MainRow}
 use Rattle.nc_tables.specs.Base.{same_prefix, static_at}
+use Rattle.nc_tables.specs.Forwarding.{traces, all_trace, step_at, all_step_at}
 use Rattle.nc_tables.specs.Reach.{hits, leads_to, reaches}
 use Rattle.nc_tables.specs.Rounds.{Message as SentMessage, Accepted, chosen_at, is_active, session_by, message_at, accepted_at}
 use Rattle.nc_tables.specs.Sessions.{process_of}
 use Rattle.nc_tables.specs.State.{StateView}
 use Rattle.nc_fact.specs.declared.fact.Fact.{Fact}
-use Rattle.nc_fact.specs.declared.fact.Fact.TheVariants.{Element, Connected, Static, Base, Resolve, NetSource, Reach, Hop, Session, Origin, Contrib, Aggregate, Message, Entry, Chosen, Main}
+use Rattle.nc_fact.specs.declared.fact.Fact.TheVariants.{Element, Connected, Static, Base, Resolve, NetSource, Reach, Hop, Session, Origin, Contrib, Aggregate, Message, Entry, Chosen, Main, Step, Trace, AllStep, AllTrace}
 
 -- ---- ranks of routes
 
@@ -104,6 +105,10 @@ module _ (s : StateView) where
   holds (Entry router place prefix) = is_some (accepted_of router.0 place prefix)
   holds (Chosen router prefix place) = is_some (chosen_of router.0 prefix place)
   holds (Main router row) = nat_lt row (length (main_rows router.0))
+  holds (Step router addr way hops) = step_at s.routers s.base s.bgp s.main router.0 addr.0 way hops
+  holds (Trace router addr hops) = nat_le hops HOP_LIMIT && traces s.routers s.base s.bgp s.main hops router.0 addr.0
+  holds (AllStep router addr way hops) = all_step_at s.routers s.base s.bgp s.main router.0 addr.0 way hops
+  holds (AllTrace router addr hops) = nat_le hops HOP_LIMIT && all_trace s.routers s.base s.bgp s.main hops router.0 addr.0
 
   -- the rank of a fact, which is above that of each fact from which it follows: that of a route's fact by its prefix and its path, 0 where
   -- there is no such route. The gaps are for the kinds of facts that are to come
@@ -124,3 +129,7 @@ module _ (s : StateView) where
   rank (Entry router place prefix) = option_map_or (rank_of_accepted prefix) (accepted_of router.0 place prefix) 0
   rank (Chosen router prefix place) = option_map_or (rank_of_chosen prefix) (chosen_of router.0 prefix place) 0
   rank (Main router row) = 140000
+  rank (Step router addr way hops) = 150000 + 2 * hops
+  rank (Trace router addr hops) = 150001 + 2 * hops
+  rank (AllStep router addr way hops) = 150000 + 2 * hops
+  rank (AllTrace router addr hops) = 150001 + 2 * hops

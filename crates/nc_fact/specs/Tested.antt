@@ -2,7 +2,8 @@
 use Rattle.std.specs.Prelude.{ℕ, Bool, true, false, ◌&&◌, ◌==◌, List, [], ◌∷◌, length, map, filter, Option, Some, None, slice_get}
 use Rattle.std.specs.List.{range_with_len}
 use Rattle.std.specs.Option.{option_map, option_map_or}
-use Rattle.nc_types.specs.Network.{router_named}
+use Rattle.nc_types.specs.declared.TheConstants.{HOP_LIMIT}
+use Rattle.nc_types.specs.Network.{router_named, owner_at}
 use Rattle.nc_types.specs.Cidr.{Cidr}
 use Rattle.nc_types.specs.declared.addr.Addr.{Addr}
 use Rattle.nc_types.specs.declared.command.TestCommand.{TestCommand}
@@ -64,14 +65,18 @@ module _ (s : StateView) where
   abbrev pub asked_session : ℕ → Addr → List Fact
   asked_session router addr = option_map_or (λ place. fact.Session (record { 0 = router }) place ∷ []) (place_for s.routers router addr.0) []
 
-  -- what a test names; of tests of packets and of elements there are no facts yet
+  -- the element that has a line of a router, which a test of an element tests
+  abbrev pub asked_element : ℕ → ℕ → List Fact
+  asked_element router line = option_map_or (λ element. fact.Element (record { 0 = element }) ∷ []) (owner_at s.routers router line) []
+
+  -- what a test names; of a packet, that it arrives by some way, or by each, over as many hops as there may be
   abbrev pub named_facts : TestCommand → List Fact
   named_facts (Rib name prefix via) = option_map_or (λ router. asked_rows router prefix via) (router_named s.routers name) []
   named_facts (Bgp name prefix from) = option_map_or (λ router. asked_of_bgp router prefix from) (router_named s.routers name) []
   named_facts (Session name addr) = option_map_or (λ router. asked_session router addr) (router_named s.routers name) []
-  named_facts (Reach name addr) = []
-  named_facts (Every name addr) = []
-  named_facts (Element name line) = []
+  named_facts (Reach name addr) = option_map_or (λ router. fact.Trace (record { 0 = router }) addr HOP_LIMIT ∷ []) (router_named s.routers name) []
+  named_facts (Every name addr) = option_map_or (λ router. fact.AllTrace (record { 0 = router }) addr HOP_LIMIT ∷ []) (router_named s.routers name) []
+  named_facts (Element name line) = option_map_or (λ router. asked_element router line) (router_named s.routers name) []
 
   -- the facts that a test tests: those that it names and that hold
   unfoldable pub tested_facts : TestCommand → List Fact

@@ -37,4 +37,14 @@ pub enum Fact {
     Chosen(RouterId, Prefix, u32),
     /// The row at a place of the main table.
     Main(RouterId, u32),
+    /// That a packet for an address arrives by the alternative at a place of the main table, the first at 0,
+    /// over at most so many hops, the one by it counted: it is delivered there, or arrives by some way from
+    /// where it goes.
+    Step(RouterId, Addr, u32, u8),
+    /// That it arrives by some alternative, or the router owns the address.
+    Trace(RouterId, Addr, u8),
+    /// The same of one alternative where each way has to lead on from there.
+    AllStep(RouterId, Addr, u32, u8),
+    /// That there is an alternative and it arrives by each, or the router owns the address.
+    AllTrace(RouterId, Addr, u8),
 }

@@ -2,14 +2,14 @@
 //!
 //! The crate stands on `nc_types` for the network, on `nc_tables` for the state in which it settles and for the
 //! definitions of where its tables lead, on `nc_base_rib` for which static routes can be used, on `nc_underlay`
-//! for where rows lead and how far a packet comes, and on `nc_message` and `nc_policy` for what routers send each
-//! other and accept. Its contract promises that [`holds`] answers by the definition in `specs/Facts`, without
-//! memory and whatever numbers a fact names, that [`rank`] is the rank defined there, and that [`facts_of`] gives
-//! exactly the facts of `specs/Tested`, in order, each of which holds. All three take the tables of the routers'
-//! maps beside the state, which are made once. What facts rest on is offered to the crates that say from which
-//! facts each follows: the rows of a prefix and of an address, where a row leads, the row of a static route, and
-//! the messages, accepted and chosen routes of BGP. None of these takes memory, and of a router, a row or a route
-//! that doesn't exist they say that there is nothing.
+//! for where rows lead and how far a packet comes, on `nc_trace` for the ways that packets take, and on
+//! `nc_message` and `nc_policy` for what routers send each other and accept. Its contract promises that [`holds`]
+//! answers by the definition in `specs/Facts`, without memory and whatever numbers a fact names, that [`rank`] is
+//! the rank defined there, and that [`facts_of`] gives exactly the facts of `specs/Tested`, in order, each of which
+//! holds. All three take the tables of the routers' maps beside the state, which are made once. What facts rest on
+//! is offered to the crates that say from which facts each follows: the rows of a prefix and of an address, where a
+//! row leads, the row of a static route, and the messages, accepted and chosen routes of BGP. None of these takes
+//! memory, and of a router, a row or a route that doesn't exist they say that there is nothing.
 #![tactic(auto)]
 
 mod bgp;

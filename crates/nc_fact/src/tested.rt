@@ -1,12 +1,14 @@
 //! The facts that a test tests.
 
-ghost use Rattle.std.specs.Prelude.{◌≡◌, ◌&&◌, [], true, filter, slice_get, All, IfOk, None};
+ghost use Rattle.std.specs.Prelude.{◌≡◌, ◌&&◌, [], ◌∷◌, true, filter, slice_get, All, IfOk, None};
 ghost use Rattle.std.specs.Option.{option_map, option_map_or};
+ghost use Rattle.nc_types.specs.declared.TheConstants.{HOP_LIMIT};
 ghost use Rattle.nc_types.specs.Network.{router_named};
 ghost use Rattle.nc_policy.specs.Indexes.{ArePolicies};
+ghost use Rattle.nc_fact.specs.declared.fact.Fact.TheVariants as fact;
 ghost use Rattle.nc_fact.specs.Facts.{base_rows, holds};
 ghost use Rattle.nc_fact.specs.Tested.{hop_from, main_hop, has_hop, asked_rows, asked_routes};
-ghost use Rattle.nc_fact.specs.Tested.{asked_entry, asked_of_bgp, asked_session, tested_facts};
+ghost use Rattle.nc_fact.specs.Tested.{asked_entry, asked_of_bgp, asked_session, asked_element, tested_facts};
 
 use crate::bgp::{chosen_at, chosen_of};
 use crate::exits::next_hop;
@@ -16,7 +18,7 @@ use crate::truth::holds;
 use nc_policy::Policies;
 use nc_sessions::place_for;
 use nc_tables::{BaseFrom, MainFrom, MainRow, Stable};
-use nc_types::{Addr, Prefix, RouterId, TestCommand, Text};
+use nc_types::{Addr, HOP_LIMIT, Prefix, RouterId, TestCommand, Text};
 use std::alloc::{AllocError, Global};
 
 // The next hop of a base row, which the row of a static route has.
@@ -129,6 +131,23 @@ fn asked_routes(
     Ok(facts)
 }
 
+// A fact, where it holds.
+fn held(
+    alloc: Global,
+    state: &Stable,
+    policies: &Policies,
+    fact: Fact,
+) -> Result<Vec<Fact>, AllocError>
+    requires policies { ArePolicies state.now.routers policies.now }
+    ensures { IfOk result (λ facts. facts.items ≡ filter (holds state.now) (fact ∷ [])) }
+{
+    let mut facts = Vec::new(alloc);
+    if holds(state, policies, &fact) {
+        facts.push(fact)?;
+    }
+    Ok(facts)
+}
+
 // The fact of what is accepted of a neighbor, by a router's neighbor statement for its address.
 fn asked_entry(
     alloc: Global,
@@ -142,14 +161,10 @@ fn asked_entry(
     ensures { IfOk result (λ facts. facts.items
         ≡ filter (holds state.now) (asked_entry state.now router.0 prefix addr)) }
 {
-    let mut facts = Vec::new(alloc);
-    if let Some(place) = place_for(state.network(), router, addr) {
-        let entry = Fact::Entry(router, place, prefix);
-        if holds(state, policies, &entry) {
-            facts.push(entry)?;
-        }
+    match place_for(state.network(), router, addr) {
+        Some(place) => held(alloc, state, policies, Fact::Entry(router, place, prefix)),
+        None => Ok(Vec::new(alloc)),
     }
-    Ok(facts)
 }
 
 // The facts of the routes that are chosen, or of what is accepted where a neighbor is named.
@@ -183,14 +198,28 @@ fn asked_session(
     ensures { IfOk result (λ facts. facts.items
         ≡ filter (holds state.now) (asked_session state.now router.0 addr)) }
 {
-    let mut facts = Vec::new(alloc);
-    if let Some(place) = place_for(state.network(), router, addr) {
-        let session = Fact::Session(router, place);
-        if holds(state, policies, &session) {
-            facts.push(session)?;
-        }
+    match place_for(state.network(), router, addr) {
+        Some(place) => held(alloc, state, policies, Fact::Session(router, place)),
+        None => Ok(Vec::new(alloc)),
     }
-    Ok(facts)
+}
+
+// The fact of the element that has a line of a router.
+fn asked_element(
+    alloc: Global,
+    state: &Stable,
+    policies: &Policies,
+    router: RouterId,
+    line: u32,
+) -> Result<Vec<Fact>, AllocError>
+    requires policies { ArePolicies state.now.routers policies.now }
+    ensures { IfOk result (λ facts. facts.items
+        ≡ filter (holds state.now) (asked_element state.now router.0 line)) }
+{
+    match state.network().owner(router, line) {
+        Some(element) => held(alloc, state, policies, Fact::Element(element)),
+        None => Ok(Vec::new(alloc)),
+    }
 }
 
 // The facts of a test of routes.
@@ -252,6 +281,68 @@ fn facts_of_session(
     }
 }
 
+// The facts of a test of a packet by some way.
+fn facts_of_reach(
+    alloc: Global,
+    state: &Stable,
+    policies: &Policies,
+    name: &Text,
+    addr: Addr,
+) -> Result<Vec<Fact>, AllocError>
+    requires policies { ArePolicies state.now.routers policies.now }
+    ensures { IfOk result (λ facts. facts.items ≡ filter (holds state.now)
+        (option_map_or (λ router. fact.Trace (record { 0 = router }) addr HOP_LIMIT ∷ [])
+        (router_named state.now.routers name.now) [])) }
+{
+    match state.network().router_named(name.bytes()) {
+        Some(router) => held(alloc, state, policies, Fact::Trace(router, addr, HOP_LIMIT)),
+        None => Ok(Vec::new(alloc)),
+    }
+}
+
+// The facts of a test of a packet by every way.
+fn facts_of_every(
+    alloc: Global,
+    state: &Stable,
+    policies: &Policies,
+    name: &Text,
+    addr: Addr,
+) -> Result<Vec<Fact>, AllocError>
+    requires policies { ArePolicies state.now.routers policies.now }
+    ensures { IfOk result (λ facts. facts.items ≡ filter (holds state.now)
+        (option_map_or (λ router. fact.AllTrace (record { 0 = router }) addr HOP_LIMIT ∷ [])
+        (router_named state.now.routers name.now) [])) }
+{
+    match state.network().router_named(name.bytes()) {
+        Some(router) => held(
+            alloc,
+            state,
+            policies,
+            Fact::AllTrace(router, addr, HOP_LIMIT),
+        ),
+        None => Ok(Vec::new(alloc)),
+    }
+}
+
+// The facts of a test of an element.
+fn facts_of_element(
+    alloc: Global,
+    state: &Stable,
+    policies: &Policies,
+    name: &Text,
+    line: u32,
+) -> Result<Vec<Fact>, AllocError>
+    requires policies { ArePolicies state.now.routers policies.now }
+    ensures { IfOk result (λ facts. facts.items ≡ filter (holds state.now)
+        (option_map_or (λ router. asked_element state.now router line)
+        (router_named state.now.routers name.now) [])) }
+{
+    match state.network().router_named(name.bytes()) {
+        Some(router) => asked_element(alloc, state, policies, router, line),
+        None => Ok(Vec::new(alloc)),
+    }
+}
+
 // The facts that a test names and that hold.
 #[tactic(auto, unfolding(crate::specs::Tested::tested_facts))]
 fn named_facts(
@@ -271,15 +362,15 @@ fn named_facts(
             facts_of_bgp(alloc, state, policies, name, *prefix, *from)
         }
         TestCommand::Session(name, addr) => facts_of_session(alloc, state, policies, name, *addr),
-        TestCommand::Reach(_, _) | TestCommand::Every(_, _) | TestCommand::Element(_, _) => Ok(
-            Vec::new(alloc),
-        ),
+        TestCommand::Reach(name, addr) => facts_of_reach(alloc, state, policies, name, *addr),
+        TestCommand::Every(name, addr) => facts_of_every(alloc, state, policies, name, *addr),
+        TestCommand::Element(name, line) => facts_of_element(alloc, state, policies, name, *line),
     }
 }
 
-/// The facts that a test tests, in order: those that it names and that hold. Of tests of packets and of elements
-/// there are no facts yet; a test of a router that doesn't exist has none, nor has one of a session or a neighbor
-/// of a router without a neighbor statement for the address. The policies are those of the state's routers.
+/// The facts that a test tests, in order: those that it names and that hold. A test of a router that doesn't exist
+/// has none, nor has one of a session or a neighbor of a router without a neighbor statement for the address, nor one
+/// of an element by a line that no element has. The policies are those of the state's routers.
 ///
 /// # Errors
 ///

@@ -2,6 +2,7 @@
 
 ghost use Rattle.std.specs.Prelude.{◌≡◌, ◌&&◌, is_some, nat_le};
 ghost use Rattle.nc_types.specs.declared.TheConstants.{HOP_LIMIT};
+ghost use Rattle.nc_tables.specs.Forwarding.{traces, all_trace};
 ghost use Rattle.nc_tables.specs.Reach.{reaches};
 ghost use Rattle.nc_tables.specs.Rounds.{session_by};
 ghost use Rattle.nc_policy.specs.Indexes.{ArePolicies};
@@ -16,6 +17,7 @@ use crate::ranks::{
 use crate::rows::{base_rows, has_router, main_rows, static_row};
 use nc_policy::Policies;
 use nc_tables::Stable;
+use nc_trace::{all_arrive, all_step_at, arrives, step_at};
 use nc_types::{Addr, HOP_LIMIT, RouterId};
 
 // Whether a packet comes from a router to the owner of an address over at most so many hops.
@@ -42,6 +44,28 @@ fn hops_by(state: &Stable, router: RouterId, addr: Addr, row: u32, hops: u8) -> 
     }
 }
 
+// Whether a packet arrives from a router by some way, over at most so many hops.
+fn traces(state: &Stable, router: RouterId, addr: Addr, hops: u8) -> bool
+    ensures { result ≡ (nat_le hops HOP_LIMIT
+        && traces state.now.routers state.now.base state.now.bgp state.now.main hops router.0 addr.0) }
+{
+    if HOP_LIMIT < hops {
+        return false;
+    }
+    arrives(state, router, addr, hops)
+}
+
+// Whether there is a way, and it arrives by each.
+fn all_trace(state: &Stable, router: RouterId, addr: Addr, hops: u8) -> bool
+    ensures { result ≡ (nat_le hops HOP_LIMIT
+        && all_trace state.now.routers state.now.base state.now.bgp state.now.main hops router.0 addr.0) }
+{
+    if HOP_LIMIT < hops {
+        return false;
+    }
+    all_arrive(state, router, addr, hops)
+}
+
 // Whether the session of the neighbor statement at a place of a router is established.
 fn has_session(state: &Stable, router: RouterId, place: u32) -> bool
     ensures { result ≡ is_some (session_by state.now.sessions router.0 place) }
@@ -52,8 +76,9 @@ fn has_session(state: &Stable, router: RouterId, place: u32) -> bool
     state.sessions().get(router, place).is_some()
 }
 
-/// Whether a fact holds. A fact of a router, an interface, an element, a statement or a row that doesn't
-/// exist doesn't hold. The policies are those of the state's routers. Takes no memory.
+/// Whether a fact holds. A fact of a router, an interface, an element, a statement, a row or an alternative
+/// that doesn't exist doesn't hold, nor does one of more than [`HOP_LIMIT`] hops. The policies are those of the
+/// state's routers. Takes no memory.
 #[tactic(auto, unfolding(crate::specs::Facts::holds))]
 pub fn holds(state: &Stable, policies: &Policies, fact: &Fact) -> bool
     requires policies { ArePolicies state.now.routers policies.now }
@@ -81,6 +106,10 @@ pub fn holds(state: &Stable, policies: &Policies, fact: &Fact) -> bool
         }
         Fact::Chosen(router, prefix, place) => chosen_of(state, router, prefix, place).is_some(),
         Fact::Main(router, row) => (row as usize) < main_rows(state, router).len(),
+        Fact::Step(router, addr, way, hops) => step_at(state, router, addr, way, hops),
+        Fact::Trace(router, addr, hops) => traces(state, router, addr, hops),
+        Fact::AllStep(router, addr, way, hops) => all_step_at(state, router, addr, way, hops),
+        Fact::AllTrace(router, addr, hops) => all_trace(state, router, addr, hops),
     }
 }
 
@@ -109,5 +138,7 @@ pub fn rank(state: &Stable, policies: &Policies, fact: &Fact) -> u32
         Fact::Entry(router, place, prefix) => entry_rank(state, policies, router, place, prefix),
         Fact::Chosen(router, prefix, place) => chosen_rank(state, router, prefix, place),
         Fact::Main(_, _) => 140_000,
+        Fact::Step(_, _, _, hops) | Fact::AllStep(_, _, _, hops) => 150_000 + 2 * u32::from(hops),
+        Fact::Trace(_, _, hops) | Fact::AllTrace(_, _, hops) => 150_001 + 2 * u32::from(hops),
     }
 }
