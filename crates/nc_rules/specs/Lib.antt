@@ -1,3 +1,4 @@
 pub mod Rules
 pub mod Sameness
 pub mod Seen
+pub mod Known

@@ -4,7 +4,7 @@ use Rattle.nc_graph.specs.Flow.{Flow}
 use Rattle.nc_tables.specs.Base.{same_prefix}
 use Rattle.nc_tables.specs.State.{StateView}
 use Rattle.nc_fact.specs.declared.fact.Fact.{Fact}
-use Rattle.nc_fact.specs.declared.fact.Fact.TheVariants.{Element, Connected, Static, Base, Resolve, NetSource, Reach, Hop, Session, Origin, Contrib, Aggregate, Message, Entry, Chosen, Main}
+use Rattle.nc_fact.specs.declared.fact.Fact.TheVariants.{Element, Connected, Static, Base, Resolve, NetSource, Reach, Hop, Session, Origin, Contrib, Aggregate, Message, Entry, Chosen, Main, Step, Trace, AllStep, AllTrace}
 use Rattle.nc_fact.specs.Facts.{holds, rank}
 use Rattle.nc_rules_route.specs.Parents.{kind, parents}
 
@@ -26,6 +26,10 @@ same_fact (Message r k p) (Message s l q) = (r.0 == s.0) && ((k == l) && same_pr
 same_fact (Entry r k p) (Entry s l q) = (r.0 == s.0) && ((k == l) && same_prefix p q)
 same_fact (Chosen r p k) (Chosen s q l) = (r.0 == s.0) && (same_prefix p q && (k == l))
 same_fact (Main r k) (Main s l) = (r.0 == s.0) && (k == l)
+same_fact (Step r a k m) (Step s b l n) = (r.0 == s.0) && ((a.0 == b.0) && ((k == l) && (m == n)))
+same_fact (Trace r a m) (Trace s b n) = (r.0 == s.0) && ((a.0 == b.0) && (m == n))
+same_fact (AllStep r a k m) (AllStep s b l n) = (r.0 == s.0) && ((a.0 == b.0) && ((k == l) && (m == n)))
+same_fact (AllTrace r a m) (AllTrace s b n) = (r.0 == s.0) && ((a.0 == b.0) && (m == n))
 same_fact f g = false
 
 -- the flow graph of a state

@@ -1,14 +1,17 @@
 ghost use Rattle.std.specs.Prelude.{◌≡◌, ◌<◌, ◌^◌, IfOk};
+ghost use Rattle.std.specs.Option.{ForSome};
 ghost use Rattle.nc_tables.specs.State.{StateView, IsState};
 ghost use Rattle.nc_policy.specs.Indexes.{ArePolicies};
 ghost use Rattle.nc_graph.specs.Flow.{IsFlow};
+ghost use Rattle.nc_rules.specs.Known.{IsKnown};
 ghost use Rattle.nc_rules.specs.Rules.{flow_of};
 
+use crate::known::{Known, known_to};
 use nc_fact::Fact;
 use nc_graph::inference::Inference;
 use nc_graph::node::NodeKind;
 use nc_policy::Policies;
-use nc_rules_route::{route_parents, rules_are_lawful};
+use nc_rules_route::{path_address, path_parents, route_parents, rules_are_lawful};
 use nc_tables::Stable;
 use std::alloc::{AllocError, Global};
 
@@ -21,14 +24,19 @@ pub fn rules_make_a_flow()
 }
 
 /// The rules of a network: its state and the tables of its maps, both of which they own, and how many
-/// facts were asked for. Nothing gives the state back, so whatever is inferred of it is counted here.
+/// facts were asked for. Nothing gives the state back, so whatever is inferred of it is counted here. They
+/// keep the ways of packets for one address, that of the fact of such a way that was inferred last; at first
+/// there are none.
 #[derive(Drop)]
 pub struct Rules {
+    alloc: Global,
     state: Stable,
     policies: Policies,
+    known: Option<Known>,
     asked: u64,
     ghost lawful: { IsFlow (flow_of state) },
     ghost tables: { ArePolicies state.routers policies },
+    ghost right: { ForSome known (IsKnown state) },
     ghost counted: { asked < 2 ^ 64 },
 }
 
@@ -47,8 +55,10 @@ impl Rules {
         rules_make_a_flow();
         let policies = Policies::new(alloc, state.network())?;
         Ok(Rules {
+            alloc,
             state,
             policies,
+            known: None,
             asked: 0,
         })
     }
@@ -76,9 +86,8 @@ impl Rules {
 }
 
 impl Inference for Rules {
-    ghost use Rattle.std.proofs.Common.{rules};
     ghost use Rattle.nc_tables.specs.State.{StateView};
-    ghost use Rattle.nc_rules.specs.Sameness.{same_is};
+    ghost use Rattle.nc_rules.specs.Sameness.{exactly};
     ghost use Rattle.nc_rules.specs.Seen.{state_of, asked_of};
 
     type Fact = Fact;
@@ -94,7 +103,15 @@ impl Inference for Rules {
     #[tactic(auto, unfolding(crate::specs::Rules::flow_of))]
     fn infer(&mut self, fact: &Fact, into: &mut Vec<Fact>) -> Result<NodeKind, AllocError> {
         self.asked = self.asked.saturating_add(1);
-        let kind = route_parents(&self.state, &self.policies, fact, into)?;
+        let kind = match path_address(fact) {
+            Some(addr) => {
+                let known = known_to(self.alloc, &self.state, self.known.take(), addr)?;
+                let kind = path_parents(&self.state, &known.traced, fact, into);
+                self.known = Some(known);
+                kind?
+            }
+            None => route_parents(&self.state, &self.policies, fact, into)?,
+        };
         Ok(kind)
     }
 
@@ -102,5 +119,5 @@ impl Inference for Rules {
 
     ghost counted = { λ rules. rules.counted };
 
-    ghost exact = { λ x y e. same_is x y (Prim.search rules) };
+    ghost exact = { exactly };
 }

@@ -4,7 +4,6 @@ use Rattle.std.specs.List.{slice_get}
 use Rattle.std.specs.Option.{IfSome, option_map, option_map_or, option_and_then}
 use Rattle.std.proofs.lemmas.List.{append-nil}
 use Rattle.std.proofs.lemmas.Option.{none-some, same_Some, option_and_then_some, slice_get_within}
-use Rattle.nc_types.specs.declared.TheConstants.{HOP_LIMIT}
 use Rattle.nc_types.specs.declared.config.RouterId.{RouterId}
 use Rattle.nc_types.specs.declared.config.Interface.{Interface}
 use Rattle.nc_types.specs.declared.config.StaticRoute.{StaticRoute}
@@ -18,7 +17,7 @@ use Rattle.nc_tables.specs.State.{StateView, IsState}
 use Rattle.nc_tables.specs.Sessions.{End, end_at, process_of}
 use Rattle.nc_tables.specs.Rounds.{Link, link_at}
 use Rattle.nc_fact.specs.declared.fact.Fact.{Fact}
-use Rattle.nc_fact.specs.declared.fact.Fact.TheVariants.{Connected, Reach, Session, Origin, Aggregate}
+use Rattle.nc_fact.specs.declared.fact.Fact.TheVariants.{Session, Origin, Aggregate}
 use Rattle.nc_fact.proofs.Few.{formed_at}
 use Rattle.nc_rules_route.specs.Parents.{element_in, of_interface, of_static, end_elements, ways_between, session_parents, origin_parents, aggregate_parents, parents}
 use Rattle.nc_rules_route.proofs.Ends.{link_is}

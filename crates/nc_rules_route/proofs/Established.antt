@@ -1,6 +1,6 @@
 -- What it takes that a session is established: both ends, the interfaces from which they start, and that each reaches the other's address.
-use Rattle.std.proofs.Common.{◌≡◌, ℕ, Bool, true, ◌&&◌, ◌||◌, ◌==◌, not, if◌then◌else◌, nat_eq, List, [], length, map, Option, Some, None, refl, sym, ap, subst, ◌∙◌}
-use Rattle.std.specs.List.{find, filter_map, range_with_len, slice_index_or}
+use Rattle.std.proofs.Common.{◌≡◌, ℕ, true, ◌==◌, if◌then◌else◌, List, [], length, Option, Some, None, refl, sym, ap, subst, ◌∙◌}
+use Rattle.std.specs.List.{range_with_len, slice_index_or}
 use Rattle.std.specs.Option.{option_map, option_map_or, option_and_then, is_some}
 use Rattle.std.proofs.lemmas.Bool.{eqb-true, and_parts}
 use Rattle.std.proofs.lemmas.Option.{option_and_then_some, none-some, same_Some, cond_some}
@@ -11,7 +11,7 @@ use Rattle.nc_types.specs.Network.{up_at, owner_of, PlaceIn}
 use Rattle.nc_tables.specs.declared.base.BaseRow.{BaseRow}
 use Rattle.nc_tables.specs.declared.bgp.SessionRow.{SessionRow}
 use Rattle.nc_tables.specs.Reach.{reaches}
-use Rattle.nc_tables.specs.Sessions.{End, SourceOf, Side, Sides, Conditions, process_of, place_for, end_at, source_iface, source_of, side_at, peer_of, are_met, conditions_of, session_of, session_at, sessions_of, sessions, session_in}
+use Rattle.nc_tables.specs.Sessions.{End, SourceOf, Side, Sides, Conditions, process_of, place_for, end_at, source_iface, source_of, side_at, peer_of, are_met, conditions_of, session_of, session_at, sessions_of, sessions}
 use Rattle.nc_tables.specs.Rounds.{Link, session_by, link_at}
 use Rattle.nc_tables.specs.State.{StateView, IsState}
 use Rattle.nc_tables.specs.CaseRelations.{state_base, state_sessions}

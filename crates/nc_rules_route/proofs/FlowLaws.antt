@@ -1,6 +1,6 @@
 -- The laws of the rules: each parent holds and has a lower rank, what follows from any parent has one, and an element has none.
 use Rattle.std.proofs.Common.{◌≡◌, ℕ, zero, suc, ◌+◌, ◌-◌, ◌*◌, ◌<◌, ◌≤◌, true, false, ◌&&◌, nat_eq, nat_lt, nat_le, List, [], ◌∷◌, ◌++◌, length, map, filter, All, Option, Some, None, refl, sym, ap, subst, ◌∙◌, arith}
-use Rattle.std.specs.List.{list_any, slice_get, position}
+use Rattle.std.specs.List.{list_any, slice_get}
 use Rattle.std.specs.Option.{option_map_or, option_and_then, is_some}
 use Rattle.std.proofs.lemmas.Bool.{lt-ltb, ltb-true, leb-true, le-leb, and_parts, and_from}
 use Rattle.std.proofs.lemmas.List.{length-map}
@@ -14,7 +14,7 @@ use Rattle.nc_types.specs.declared.config.StaticRoute.{StaticRoute}
 use Rattle.nc_types.specs.declared.TheConstants.{HOP_LIMIT}
 use Rattle.nc_types.specs.Cidr.{Cidr}
 use Rattle.nc_types.specs.Config.{ConfigView}
-use Rattle.nc_types.specs.Network.{PlaceIn, up_at, has_address}
+use Rattle.nc_types.specs.Network.{PlaceIn, up_at}
 use Rattle.nc_tables.specs.declared.base.BaseRow.{BaseRow}
 use Rattle.nc_tables.specs.Base.{static_row, static_at, same_prefix}
 use Rattle.nc_tables.specs.Longest.{places_from}
@@ -25,7 +25,7 @@ use Rattle.nc_tables.specs.Rounds.{Link, session_by, link_at}
 use Rattle.nc_tables.specs.State.{StateView, IsState}
 use Rattle.nc_graph.specs.declared.node.NodeKind.TheVariants.{Leaf, Any}
 use Rattle.nc_fact.specs.declared.fact.Fact.{Fact}
-use Rattle.nc_fact.specs.declared.fact.Fact.TheVariants.{Element, Connected, Static, Base, Resolve, NetSource, Reach, Hop, Session, Origin, Contrib, Aggregate, Message, Entry, Chosen, Main}
+use Rattle.nc_fact.specs.declared.fact.Fact.TheVariants.{Element, Connected, Static, Base, Resolve, NetSource, Reach, Hop, Session, Origin, Contrib, Aggregate, Message, Entry, Chosen, Main, Step, Trace, AllStep, AllTrace}
 use Rattle.nc_fact.specs.Facts.{base_rows, hops_by, holds, rank}
 use Rattle.nc_rules_route.specs.Parents.{kind, element_in, of_interface, of_static, connected_by, route_of, hops_of, end_elements, ways_between, session_parents, parents}
 use Rattle.nc_types.proofs.Members.{In, in_by_get, in_map, in_filter, some_in, all_by_in, is_among, among_is}
@@ -35,9 +35,10 @@ use Rattle.nc_fact.proofs.Few.{formed_at}
 use Rattle.nc_rules_route.proofs.Numbers.{interface_element, static_element}
 use Rattle.nc_rules_route.proofs.Ends.{IsEnd, IsLink, end_is, end_elements_within, link_is}
 use Rattle.nc_rules_route.proofs.Established.{established, has_link}
-use Rattle.nc_rules_route.proofs.BaseRows.{found_up, address_up, row_leads}
-use Rattle.nc_rules_route.proofs.Holding.{IsBelow, all_higher, element_holds, connected_holds, base_holds, connected_below, route_below}
+use Rattle.nc_rules_route.proofs.BaseRows.{row_leads}
+use Rattle.nc_rules_route.proofs.Holding.{IsBelow, all_higher, element_holds, base_holds, connected_below, route_below, own_below}
 use Rattle.nc_rules_route.proofs.RouteFacts.{origin_parents_below, contrib_parents_below, aggregate_parents_below, message_parents_below, entry_parents_below, chosen_parents_below, main_parents_below, contrib_chosen}
+use Rattle.nc_rules_route.proofs.PathFacts.{step_below, trace_below, trace_chosen, all_trace_below}
 use Rattle.nc_rules_route.proofs.Hops.{GoesOn, hit_within, next_up, goes_on, not_own}
 
 module _ (s : StateView) (is : IsState s) where
@@ -90,12 +91,6 @@ module _ (s : StateView) (is : IsState s) where
       rows_below router (places_from (λ (r : BaseRow). same_prefix r.prefix prefix) 0 (base_rows s router.0)) (λ place i.
       let lt : place < 0 + length (base_rows s router.0) = place_within (λ (r : BaseRow). same_prefix r.prefix prefix) 0 (base_rows s router.0) place i in omega arith)
 
-  own_below : (router : RouterId) (addr : Addr) (iface : ℕ) → own_place s.routers router.0 addr.0 ≡ Some iface → IsBelow s 2 (Connected router (record { 0 = iface }))
-  unfolding rank
-  own_below router addr iface found =
-      option_and_then_some (λ (c : ConfigView). position (has_address addr.0) c.interfaces) (slice_get s.routers router.0) iface found (λ c at is_own.
-      (connected_holds s router c iface at (found_up (has_address addr.0) (address_up addr.0) c.interfaces iface is_own), omega arith))
-
   hops_below : (router : RouterId) (addr : Addr) (hops : ℕ) → All (IsBelow s (6 + 2 * hops)) (hops_of s router addr hops)
   unfolding rank
   hops_below router addr hops k d lt =
@@ -113,7 +108,7 @@ module _ (s : StateView) (is : IsState s) where
       by_own : (o : Option ℕ) → own_place s.routers router.0 addr.0 ≡ o → All (IsBelow s (6 + 2 * hops)) (option_map_or (λ iface. Connected router (record { 0 = iface }) ∷ []) o (hops_of s router addr hops))
       by_own None found = hops_below router addr hops
       by_own (Some iface) found =
-          all_higher s 2 (6 + 2 * hops) (omega arith) (Connected router (record { 0 = iface }) ∷ []) (all_of_one (IsBelow s 2) (Connected router (record { 0 = iface })) (own_below router addr iface found))
+          all_higher s 2 (6 + 2 * hops) (omega arith) (Connected router (record { 0 = iface }) ∷ []) (all_of_one (IsBelow s 2) (Connected router (record { 0 = iface })) (own_below s router addr iface found))
 
   -- what a packet needs that goes on by a row
   hop_below : (router : RouterId) (addr : Addr) (row hops : ℕ) (next : PlaceIn) → hops_by s router.0 addr.0 row hops ≡ true → leads_to s.routers s.base router.0 addr.0 row ≡ Some next
@@ -203,6 +198,10 @@ module _ (s : StateView) (is : IsState s) where
   parents_below (Entry router place prefix) h = entry_parents_below s is router place prefix
   parents_below (Chosen router prefix place) h = chosen_parents_below s is router prefix place
   parents_below (Main router row) h = main_parents_below s is router row
+  parents_below (Step router addr way hops) h = step_below s false router addr way hops h
+  parents_below (Trace router addr hops) h = trace_below s router addr hops
+  parents_below (AllStep router addr way hops) h = step_below s true router addr way hops h
+  parents_below (AllTrace router addr hops) h = all_trace_below s router addr hops h
 
   -- a hop by which a packet comes to the owner of an address that is not the router's own
   hop_holds : (router : RouterId) (addr : Addr) (hops : ℕ) → hops ≤ HOP_LIMIT → (on : GoesOn s.routers s.base hops router.0 addr.0) → holds s (Hop router addr on.row hops) ≡ true
@@ -250,6 +249,10 @@ module _ (s : StateView) (is : IsState s) where
   parents_some (Entry router place prefix) h k = absurd (cc)
   parents_some (Chosen router prefix place) h k = absurd (cc)
   parents_some (Main router row) h k = absurd (cc)
+  parents_some (Step router addr way hops) h k = absurd (cc)
+  parents_some (Trace router addr hops) h k = trace_chosen s router addr hops h
+  parents_some (AllStep router addr way hops) h k = absurd (cc)
+  parents_some (AllTrace router addr hops) h k = absurd (cc)
 
   -- a session that is established rests on all that its link gives
   pub session_rests : (router : RouterId) (place : ℕ) → holds s (Session router place) ≡ true → (k : Link) × (link_at s.routers s.sessions router.0 place ≡ Some k) × (parents s (Session router place) ≡ session_parents s router k)
@@ -279,3 +282,7 @@ parents_none s (Message router place prefix) number k = absurd (cc)
 parents_none s (Entry router place prefix) number k = absurd (cc)
 parents_none s (Chosen router prefix place) number k = absurd (cc)
 parents_none s (Main router row) number k = absurd (cc)
+parents_none s (Step router addr way hops) number k = absurd (cc)
+parents_none s (Trace router addr hops) number k = absurd (cc)
+parents_none s (AllStep router addr way hops) number k = absurd (cc)
+parents_none s (AllTrace router addr hops) number k = absurd (cc)

@@ -1,17 +1,20 @@
 -- Facts from which others follow hold.
 use Rattle.std.proofs.Common.{◌≡◌, ℕ, ◌<◌, ◌≤◌, true, List, length, All, Option, Some, sym, ap, subst, ◌∙◌, arith}
-use Rattle.std.specs.List.{slice_get}
+use Rattle.std.specs.List.{slice_get, position}
 use Rattle.std.specs.Option.{option_and_then, is_some}
 use Rattle.std.proofs.lemmas.Bool.{lt-ltb}
 use Rattle.std.proofs.lemmas.List.Elements.{All-nil}
+use Rattle.std.proofs.lemmas.Option.{option_and_then_some}
+use Rattle.nc_types.specs.declared.addr.Addr.{Addr}
 use Rattle.nc_types.specs.declared.config.RouterId.{RouterId}
 use Rattle.nc_types.specs.declared.config.StaticRoute.{StaticRoute}
 use Rattle.nc_types.specs.Config.{ConfigView}
-use Rattle.nc_types.specs.Network.{up_of}
+use Rattle.nc_types.specs.Network.{up_of, has_address}
 use Rattle.nc_tables.specs.declared.base.BaseRow.{BaseRow}
 use Rattle.nc_tables.specs.declared.base.BaseFrom.{BaseFrom}
 use Rattle.nc_tables.specs.declared.base.BaseFrom.TheVariants as row
 use Rattle.nc_tables.specs.Base.{static_row, static_at}
+use Rattle.nc_tables.specs.Reach.{own_place}
 use Rattle.nc_tables.specs.State.{StateView, IsState}
 use Rattle.nc_fact.specs.declared.fact.Fact.{Fact}
 use Rattle.nc_fact.specs.declared.fact.Fact.TheVariants.{Connected, Static, Base}
@@ -20,7 +23,7 @@ use Rattle.nc_rules_route.specs.Parents.{element_in, connected_by, route_of}
 use Rattle.nc_types.proofs.Members.{In}
 use Rattle.nc_rules_route.proofs.Members.{all_of_one}
 use Rattle.nc_types.proofs.Offsets.{number_within}
-use Rattle.nc_rules_route.proofs.BaseRows.{IsUp, LeadsBy, IsMadeBy, connected, static, row_leads, row_is_made}
+use Rattle.nc_rules_route.proofs.BaseRows.{IsUp, LeadsBy, IsMadeBy, connected, static, row_leads, row_is_made, found_up, address_up}
 use Rattle.nc_rules_route.proofs.Tables.{router_of_row}
 
 module _ (s : StateView) where
@@ -49,6 +52,13 @@ module _ (s : StateView) where
   -- a fact that holds and has a lower rank
   abbrev pub IsBelow : ℕ → Fact → Type 0
   IsBelow most p = (holds s p ≡ true) × (rank s p < most)
+
+  -- the router's own interface that has an address
+  pub own_below : (router : RouterId) (addr : Addr) (iface : ℕ) → own_place s.routers router.0 addr.0 ≡ Some iface → IsBelow 2 (Connected router (record { 0 = iface }))
+  unfolding rank
+  own_below router addr iface found =
+      option_and_then_some (λ (c : ConfigView). position (has_address addr.0) c.interfaces) (slice_get s.routers router.0) iface found (λ c at is_own.
+      (connected_holds router c iface at (found_up (has_address addr.0) (address_up addr.0) c.interfaces iface is_own), omega arith))
 
   -- it stays below what is above that rank
   pub all_higher : (low high : ℕ) → low ≤ high → (ps : List Fact) → All (IsBelow low) ps → All (IsBelow high) ps

@@ -1,5 +1,5 @@
 -- Hops: by which rows a packet goes on, and where to.
-use Rattle.std.proofs.Common.{◌≡◌, ℕ, zero, suc, ◌+◌, ◌<◌, Bool, true, false, not, ◌&&◌, ◌||◌, ◌==◌, List, length, map, Option, Some, None, refl, subst, arith}
+use Rattle.std.proofs.Common.{◌≡◌, ℕ, zero, suc, ◌+◌, ◌<◌, Bool, true, false, not, ◌&&◌, ◌||◌, ◌==◌, List, length, map, Option, Some, None, refl, sym, ap, subst, ◌∙◌, arith}
 use Rattle.std.proofs.lemmas.Bool.{and_parts}
 use Rattle.std.specs.List.{list_any, filter_map, slice_get, position}
 use Rattle.std.specs.Option.{option_map_or, option_and_then, is_some}
@@ -14,7 +14,7 @@ use Rattle.nc_tables.specs.Longest.{is_longest, longest}
 use Rattle.nc_tables.specs.Reach.{rows_of, is_hit, hits, exit_of, is_linked, exit_leads, leads_to, owns, reaches}
 use Rattle.nc_types.proofs.Members.{In, in_by_filter, in_by_filter_map, some_passes}
 use Rattle.nc_tables.proofs.Ordered.{place_within}
-use Rattle.nc_rules_route.proofs.Members.{none_passes}
+use Rattle.nc_message.proofs.Lists.{is_placed}
 
 module _ (routers : List ConfigView) (tables : List (List BaseRow)) where
   -- a hit is a row of the table
@@ -71,4 +71,4 @@ module _ (routers : List ConfigView) (tables : List (List BaseRow)) where
     where
       by_router : (o : Option ConfigView) → option_and_then (λ c. position (has_address addr) c.interfaces) o ≡ None → option_map_or (λ c. is_own c.interfaces addr) o false ≡ false
       by_router None e = refl
-      by_router (Some c) e = none_passes (has_address addr) c.interfaces e
+      by_router (Some c) e = sym (is_placed (has_address addr) c.interfaces) ∙ ap is_some e

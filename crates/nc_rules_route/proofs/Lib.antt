@@ -9,6 +9,9 @@ pub mod MainRows
 pub mod Tables
 pub mod Holding
 pub mod Hops
+pub mod Steps
+pub mod Ways
+pub mod PathFacts
 pub mod FlowLaws
 pub mod SentRoutes
 pub mod Weights

@@ -1,11 +1,11 @@
 -- Items of lists that a test finds, and that a choice adds.
-use Rattle.std.proofs.Common.{◌≡◌, ℕ, zero, suc, ◌+◌, ◌<◌, ◌≤◌, Bool, true, false, cond, not, ◌||◌, List, [], ◌∷◌, length, get_or, map, Option, Some, None, All, refl, sym, ap, subst, ◌∙◌, arith, inl, inr}
-use Rattle.std.specs.List.{find, flat_map, list_any, range_with_len, slice_get, slice_index_or, position, position_or_len}
-use Rattle.std.specs.Option.{option_map, option_map_or, unwrap_or}
-use Rattle.std.proofs.lemmas.Bool.{lt-ltb, cases_lt}
+use Rattle.std.proofs.Common.{◌≡◌, ℕ, zero, suc, ◌+◌, ◌<◌, ◌≤◌, Bool, true, false, cond, List, [], ◌∷◌, get_or, map, Option, Some, None, All, refl, sym, ap, subst, ◌∙◌, arith, inl, inr}
+use Rattle.std.specs.List.{find, flat_map, range_with_len, slice_get, slice_index_or, position}
+use Rattle.std.specs.Option.{option_map_or, unwrap_or}
+use Rattle.std.proofs.lemmas.Bool.{cases_lt}
 use Rattle.std.proofs.lemmas.List.Elements.{All-nil, All-cons}
 use Rattle.std.proofs.lemmas.List.Quantifiers.{position-Some}
-use Rattle.std.proofs.lemmas.Option.{slice_get-get_or, get_or_from_slice_get, unwrap_or-slice_get, none-some, same_Some}
+use Rattle.std.proofs.lemmas.Option.{slice_get-get_or, get_or_from_slice_get, unwrap_or-slice_get}
 use Rattle.nc_types.proofs.Members.{In, in_left, in_right}
 
 module _ {X : Type 0} where
@@ -15,24 +15,6 @@ module _ {X : Type 0} where
   at_position p (x ∷ xs) k e =
       let first = position-Some p (x ∷ xs) k x e in
       (get_or (x ∷ xs) k x, slice_get-get_or (x ∷ xs) k x first.0, first.1)
-
-  found_place : (p : X → Bool) (xs : List X) → list_any p xs ≡ true → position_or_len p xs < length xs
-  found_place p [] e = absurd (cc)
-  found_place p (x ∷ xs) e = by_test (found_place p xs) (p x) e
-    where
-      by_test : (list_any p xs ≡ true → position_or_len p xs < length xs) → (b : Bool) → (b || list_any p xs) ≡ true → cond (not b) (1 + position_or_len p xs) 0 < suc (length xs)
-      by_test rest true e = omega arith
-      by_test rest false e = let lt : position_or_len p xs < length xs = rest e in omega arith
-
-  -- where no item passes first, none does
-  pub none_passes : (p : X → Bool) (xs : List X) → position p xs ≡ None → list_any p xs ≡ false
-  none_passes p xs none = by_any (list_any p xs) refl
-    where
-      by_any : (b : Bool) → list_any p xs ≡ b → list_any p xs ≡ false
-      by_any false e = e
-      by_any true e =
-          let found : position p xs ≡ Some (position_or_len p xs) = ap (λ (b : Bool). cond b (Some (position_or_len p xs)) None) (lt-ltb _ _ (found_place p xs e)) in
-          absurd (none-some (position_or_len p xs) (sym none ∙ found))
 
   -- the item that is found passes
   pub in_by_find : (p : X → Bool) (xs : List X) (x : X) → find p xs ≡ Some x → In x xs × (p x ≡ true)

@@ -1,5 +1,5 @@
 -- The elements of a router's interfaces, its static routes, its process, the parts of that, its clauses and the entries of its lists exist.
-use Rattle.std.proofs.Common.{◌≡◌, ℕ, ◌<◌, List, [], ◌++◌, length, map, Option, Some, None, refl, sym, ◌∙◌, subst, inl, inr}
+use Rattle.std.proofs.Common.{◌≡◌, ℕ, ◌<◌, [], ◌++◌, length, map, Option, Some, None, refl, sym, ◌∙◌, subst, inl, inr}
 use Rattle.std.specs.List.{flat_map, slice_get}
 use Rattle.std.specs.Option.{IfSome, option_map, option_map_or}
 use Rattle.std.proofs.lemmas.Option.{option_and_then_some}

@@ -1,10 +1,10 @@
 -- What BGP's facts follow from holds and has a lower rank: of prefixes the longer ones, and of one prefix the lighter routes.
-use Rattle.std.proofs.Common.{◌≡◌, ℕ, zero, suc, ◌+◌, ◌-◌, ◌*◌, ◌<◌, ◌≤◌, Bool, true, false, cond, not, ◌&&◌, nat_lt, List, [], ◌∷◌, ◌++◌, length, map, filter, All, Option, Some, None, refl, sym, ap, subst, ◌∙◌, arith, inl, inr}
-use Rattle.std.specs.List.{flat_map, list_any, range_with_len, slice_get, slice_index_or}
-use Rattle.std.specs.Option.{option_map, option_map_or, option_and_then, is_some}
-use Rattle.std.proofs.lemmas.Bool.{lt-ltb, ltb-true, and_parts, and_from}
+use Rattle.std.proofs.Common.{◌≡◌, ℕ, zero, suc, ◌+◌, ◌-◌, ◌*◌, ◌<◌, ◌≤◌, Bool, true, false, cond, ◌&&◌, nat_lt, List, [], ◌∷◌, ◌++◌, length, filter, All, Option, Some, None, refl, sym, ap, subst, ◌∙◌, arith, inl}
+use Rattle.std.specs.List.{list_any, range_with_len, slice_get, slice_index_or}
+use Rattle.std.specs.Option.{option_map_or, option_and_then, is_some}
+use Rattle.std.proofs.lemmas.Bool.{lt-ltb, ltb-true, and_parts}
 use Rattle.std.proofs.lemmas.List.Elements.{All-nil, All-cons, All-append}
-use Rattle.std.proofs.lemmas.Option.{option_and_then_some, same_Some, slice_get_within}
+use Rattle.std.proofs.lemmas.Option.{option_and_then_some}
 use Rattle.nc_types.specs.Cidr.{Cidr, IsCidr}
 use Rattle.nc_types.specs.Config.{ConfigView, ProcessView}
 use Rattle.nc_types.specs.declared.TheConstants.{PATH_LIMIT}
@@ -12,9 +12,7 @@ use Rattle.nc_types.specs.declared.config.RouterId.{RouterId}
 use Rattle.nc_types.specs.declared.config.NetworkStatement.{NetworkStatement}
 use Rattle.nc_types.specs.declared.config.AggregateStatement.{AggregateStatement}
 use Rattle.nc_types.proofs.Members.{In, in_by_get, in_by_map, in_map, in_by_filter, in_filter, in_by_flat_map, some_in, some_passes, all_by_in, all_in}
-use Rattle.nc_tables.specs.declared.bgp.SessionRow.{SessionRow}
 use Rattle.nc_tables.specs.declared.bgp.Chosen.{Chosen as ChosenRoute}
-use Rattle.nc_tables.specs.declared.bgp.BgpFrom.TheVariants as by
 use Rattle.nc_tables.specs.declared.bgp.MainRow.{MainRow}
 use Rattle.nc_tables.specs.declared.bgp.MainFrom.{MainFrom}
 use Rattle.nc_tables.specs.declared.bgp.MainFrom.TheVariants as main
@@ -22,24 +20,24 @@ use Rattle.nc_tables.specs.declared.policy.Names.{Names}
 use Rattle.nc_tables.specs.declared.policy.Place.{Place}
 use Rattle.nc_tables.specs.Base.{same_prefix}
 use Rattle.nc_tables.specs.Reach.{hits}
-use Rattle.nc_tables.specs.Sessions.{first_of, process_of, end_at}
-use Rattle.nc_tables.specs.Rounds.{BgpRowView, Link, Passed, Message as SentMessage, Accepted, AreBgpRows, IsStable, after, begun, learnt_from, is_longer_in, is_active, chosen_in, chosen_at, best_at, link_at, round}
+use Rattle.nc_tables.specs.Sessions.{first_of, process_of}
+use Rattle.nc_tables.specs.Rounds.{BgpRowView, Message as SentMessage, Accepted, AreBgpRows, is_longer_in, is_active, chosen_at, round}
 use Rattle.nc_tables.specs.State.{StateView, IsState}
 use Rattle.nc_fact.specs.declared.fact.Fact.{Fact}
-use Rattle.nc_fact.specs.declared.fact.Fact.TheVariants.{Element, Resolve, NetSource, Session, Origin, Contrib, Aggregate, Message, Entry, Chosen, Main}
-use Rattle.nc_fact.specs.Facts.{main_rows, weight, lowest_rank, rank_of_network, rank_of_aggregate, rank_of_message, rank_of_accepted, rank_of_chosen, network_of, aggregate_of, has_active, message_of, accepted_of, chosen_of, holds, rank}
+use Rattle.nc_fact.specs.declared.fact.Fact.TheVariants.{Resolve, NetSource, Session, Origin, Contrib, Aggregate, Message, Entry, Chosen, Main}
+use Rattle.nc_fact.specs.Facts.{main_rows, weight, lowest_rank, rank_of_network, rank_of_aggregate, rank_of_message, rank_of_accepted, rank_of_chosen, network_of, aggregate_of, message_of, accepted_of, chosen_of, holds, rank}
 use Rattle.nc_fact.proofs.Few.{formed_at}
 use Rattle.nc_rules_route.specs.Parents.{clause_place, entry_place, community_place, element_in, of_part, of_clause, of_entry, of_community, of_passed, source_of, main_of, each_chosen, chosen_inside, origin_parents, aggregate_parents, message_parents, entry_parents, parents}
 use Rattle.nc_types.proofs.Owning.{some_at}
 use Rattle.nc_rules_route.proofs.Members.{all_by_option, all_of_one, all_of_three, in_range, in_flat_map}
 use Rattle.nc_rules_route.proofs.Numbers.{process_element, network_element, aggregate_element, clause_within, entry_within, community_within}
-use Rattle.nc_rules_route.proofs.Ends.{IsLink, link_is}
+use Rattle.nc_rules_route.proofs.Ends.{link_is}
 use Rattle.nc_rules_route.proofs.Holding.{IsBelow, all_higher, element_holds, base_holds}
-use Rattle.nc_rules_route.proofs.SentRoutes.{IsMessage, IsSent, message_is, IsEntry, entry_is}
+use Rattle.nc_rules_route.proofs.SentRoutes.{IsMessage, message_is, entry_is}
 use Rattle.nc_rules_route.proofs.Weights.{map_grows, message_heavier}
 use Rattle.nc_rules_route.proofs.Choosing.{IsCandidate, origin, aggregate, entry, chosen_is}
 use Rattle.nc_rules_route.proofs.RowsByPrefix.{row_found}
-use Rattle.nc_rules_route.proofs.MainRows.{IsOf, IsGathering}
+use Rattle.nc_rules_route.proofs.MainRows.{IsOf}
 use Rattle.nc_rules_route.proofs.Tables.{main_is_of}
 
 -- ---- ranks

@@ -1,5 +1,5 @@
 -- The rows of a router's BGP table: each prefix has one.
-use Rattle.std.proofs.Common.{◌≡◌, suc, ◌+◌, ◌<◌, Bool, true, false, cond, List, [], ◌∷◌, length, Option, Some, refl, sym, ap, subst, ◌∙◌, arith, inl, inr}
+use Rattle.std.proofs.Common.{◌≡◌, suc, ◌<◌, Bool, false, cond, List, [], ◌∷◌, length, Option, Some, ap, subst, ◌∙◌, arith, inl, inr}
 use Rattle.std.specs.List.{AllPairs, find}
 use Rattle.std.specs.Option.{option_map_or}
 use Rattle.std.specs.Ordering.{is_eq}

@@ -1,5 +1,5 @@
 -- How long the path of a route is as it spreads: no map shortens it, and a message weighs more than what it is made from.
-use Rattle.std.proofs.Common.{◌≡◌, ℕ, ◌+◌, ◌*◌, ◌≤◌, Bool, true, false, cond, not, ◌&&◌, ◌||◌, nat_lt, List, [], ◌∷◌, ◌++◌, length, Option, Some, None, refl, sym, ap, subst, ◌∙◌, arith}
+use Rattle.std.proofs.Common.{◌≡◌, ℕ, ◌+◌, ◌*◌, ◌≤◌, Bool, true, false, cond, not, ◌&&◌, ◌||◌, nat_lt, length, Option, Some, None, refl, ap, subst, ◌∙◌, arith}
 use Rattle.std.specs.Option.{option_map_or}
 use Rattle.std.proofs.lemmas.List.{length-append}
 use Rattle.std.proofs.lemmas.Option.{none-some, same_Some}
@@ -7,11 +7,10 @@ use Rattle.nc_types.specs.declared.TheConstants.{PATH_LIMIT, COMMUNITY_LIMIT}
 use Rattle.nc_types.specs.declared.config.Reference.{Reference}
 use Rattle.nc_types.specs.Config.{ConfigView}
 use Rattle.nc_tables.specs.declared.bgp.Route.{Route}
-use Rattle.nc_tables.specs.declared.bgp.Chosen.{Chosen}
 use Rattle.nc_tables.specs.declared.policy.Names.{Names}
 use Rattle.nc_tables.specs.Choice.{is_learnt}
-use Rattle.nc_tables.specs.Policy.{Placed, Verdict, Deny, Permit, set_by, is_long, is_over, verdict_by, verdict, deciding, names_of}
-use Rattle.nc_tables.specs.Rounds.{Link, Passed, Message, passed, passed_by, outgoing, carried, sent_inside, sent_outside, sent_over, is_kept_inside, out_of}
+use Rattle.nc_tables.specs.Policy.{Placed, Deny, Permit, set_by, is_long, is_over, verdict_by, verdict, deciding, names_of}
+use Rattle.nc_tables.specs.Rounds.{Passed, Message, passed, passed_by, outgoing, carried, sent_inside, sent_outside}
 use Rattle.nc_rules_route.proofs.SentRoutes.{IsSent, not_longer}
 
 -- ---- maps

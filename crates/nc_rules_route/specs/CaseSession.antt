@@ -8,7 +8,6 @@ use Rattle.nc_tables.specs.Reach.{reaches}
 use Rattle.nc_tables.specs.State.{StateView}
 use Rattle.nc_tables.specs.Cases.{address, process, sessions_in}
 use Rattle.nc_tables.specs.CaseSessions.{left, right, to_right, to_left, to_nobody}
-use Rattle.nc_fact.specs.declared.fact.Fact.{Fact}
 use Rattle.nc_fact.specs.declared.fact.Fact.TheVariants.{Element, Connected, Reach, Session}
 use Rattle.nc_rules_route.specs.Parents.{parents}
 

@@ -1,5 +1,5 @@
 -- From which facts a fact follows, and how.
-use Rattle.std.specs.Prelude.{ℕ, ◌-◌, List, [], ◌∷◌, ◌++◌, length, map, filter, Option, option_and_then, slice_get, slice_index_or}
+use Rattle.std.specs.Prelude.{ℕ, ◌-◌, Bool, true, false, List, [], ◌∷◌, ◌++◌, length, map, filter, Option, Some, None, option_and_then, slice_get, slice_index_or}
 use Rattle.std.specs.List.{flat_map, range_with_len}
 use Rattle.std.specs.Option.{option_map, option_map_or}
 use Rattle.nc_types.specs.declared.TheConstants.{HOP_LIMIT}
@@ -19,6 +19,7 @@ use Rattle.nc_tables.specs.declared.bgp.MainFrom.TheVariants as main
 use Rattle.nc_tables.specs.declared.policy.Place.{Place}
 use Rattle.nc_tables.specs.declared.policy.Names.{Names}
 use Rattle.nc_tables.specs.Base.{same_prefix, static_at}
+use Rattle.nc_tables.specs.Forwarding.{Outcome, Deliver, Go, Lost, Alternative, alternatives}
 use Rattle.nc_tables.specs.Longest.{places_from}
 use Rattle.nc_tables.specs.Reach.{hits, leads_to, own_place}
 use Rattle.nc_tables.specs.Sessions.{End, process_of}
@@ -27,7 +28,7 @@ use Rattle.nc_tables.specs.State.{StateView}
 use Rattle.nc_graph.specs.declared.node.NodeKind.{NodeKind}
 use Rattle.nc_graph.specs.declared.node.NodeKind.TheVariants.{Leaf, Every, Any}
 use Rattle.nc_fact.specs.declared.fact.Fact.{Fact}
-use Rattle.nc_fact.specs.declared.fact.Fact.TheVariants.{Element, Connected, Static, Base, Resolve, NetSource, Reach, Hop, Session, Origin, Contrib, Aggregate, Message, Entry, Chosen, Main}
+use Rattle.nc_fact.specs.declared.fact.Fact.TheVariants.{Element, Connected, Static, Base, Resolve, NetSource, Reach, Hop, Session, Origin, Contrib, Aggregate, Message, Entry, Chosen, Main, Step, Trace, AllStep, AllTrace}
 use Rattle.nc_fact.specs.Facts.{base_rows, main_rows, aggregate_of, message_of, accepted_of, chosen_of, holds}
 
 -- an element is the leaf of its number; what more than one row, hop or route can give follows from any of them; all else from all parents together
@@ -48,6 +49,44 @@ kind (Message router place prefix) = Every
 kind (Entry router place prefix) = Every
 kind (Chosen router prefix place) = Every
 kind (Main router row) = Every
+kind (Step router addr way hops) = Every
+kind (Trace router addr hops) = Any
+kind (AllStep router addr way hops) = Every
+kind (AllTrace router addr hops) = Every
+
+-- ---- ways of packets over main tables
+
+-- the address of such a way; other facts have none
+abbrev pub path_address : Fact → Option Addr
+path_address (Step router addr way hops) = Some addr
+path_address (Trace router addr hops) = Some addr
+path_address (AllStep router addr way hops) = Some addr
+path_address (AllTrace router addr hops) = Some addr
+path_address f = None
+
+-- that a packet arrives by every way, or by some
+abbrev pub trace_fact : Bool → RouterId → Addr → ℕ → Fact
+trace_fact true = AllTrace
+trace_fact false = Trace
+
+-- that it arrives by one alternative, and from there by every way, or by some
+abbrev pub step_fact : Bool → RouterId → Addr → ℕ → ℕ → Fact
+step_fact true = AllStep
+step_fact false = Step
+
+-- what a packet needs that goes on: the interface to which it is led, and that it arrives from there over one hop fewer
+abbrev pub onward : Bool → Addr → ℕ → Outcome → List Fact
+onward every addr hops Deliver = []
+onward every addr hops (Go next) =
+    Connected (record { 0 = next.router }) (record { 0 = next.place }) ∷ trace_fact every (record { 0 = next.router }) addr (hops - 1) ∷ []
+onward every addr hops Lost = []
+
+-- what one alternative rests on: its main row, for a row of BGP the base row toward its next hop, and what the packet needs to go on
+abbrev pub way_parents : Bool → RouterId → Addr → ℕ → Alternative → List Fact
+way_parents every router addr hops way =
+    Main router way.main ∷ (option_map_or (λ row. Base router row ∷ []) way.base [] ++ onward every addr hops way.outcome)
+
+-- ---- routes
 
 -- the connected route through which a static route's next hop is reached; one that discards has none
 abbrev pub connected_by : RouterId → BaseFrom → List Fact
@@ -166,6 +205,22 @@ module _ (s : StateView) where
   entry_parents router place prefix a =
       Message router place prefix ∷ Resolve router a.message.route.next_hop ∷ of_passed router.0 a.into.clause a.into.names
 
+  -- the alternatives of a router for an address
+  abbrev pub ways_out : RouterId → Addr → List Alternative
+  ways_out router addr = alternatives s.routers s.base s.bgp s.main router.0 addr.0
+
+  -- what the one of a number rests on
+  abbrev pub step_parents : Bool → RouterId → Addr → ℕ → ℕ → List Fact
+  step_parents every router addr way hops = option_map_or (way_parents every router addr hops) (slice_get (ways_out router addr) way) []
+
+  -- that a packet arrives by each of them, whether or not it does
+  abbrev pub steps_of : Bool → RouterId → Addr → ℕ → List Fact
+  steps_of every router addr hops = map (λ way. step_fact every router addr way hops) (range_with_len 0 (length (ways_out router addr)))
+
+  -- the router's own interface that has an address, or else other facts
+  abbrev pub own_or : RouterId → Addr → List Fact → List Fact
+  own_or router addr others = option_map_or (λ iface. Connected router (record { 0 = iface }) ∷ []) (own_place s.routers router.0 addr.0) others
+
   -- the parents of a fact that holds, in order
   unfoldable pub parents : Fact → List Fact
   parents (Element e) = []
@@ -174,7 +229,7 @@ module _ (s : StateView) where
   parents (Base router place) = option_map_or (λ r. route_of router r.from ∷ []) (slice_get (base_rows s router.0) place) []
   parents (Resolve router addr) = map (Base router) (hits s.base router.0 addr.0)
   parents (NetSource router prefix) = map (Base router) (places_from (λ r. same_prefix r.prefix prefix) 0 (base_rows s router.0))
-  parents (Reach router addr hops) = option_map_or (λ iface. Connected router (record { 0 = iface }) ∷ []) (own_place s.routers router.0 addr.0) (hops_of router addr hops)
+  parents (Reach router addr hops) = own_or router addr (hops_of router addr hops)
   parents (Hop router addr row hops) = hop_parents router addr row hops
   parents (Session router place) = option_map_or (session_parents router) (link_at s.routers s.sessions router.0 place) []
   parents (Origin router place) = option_map_or (λ p. option_map_or (origin_parents router p) (slice_get p.networks place) []) (process_of s.routers router.0) []
@@ -184,3 +239,7 @@ module _ (s : StateView) where
   parents (Entry router place prefix) = option_map_or (entry_parents router place prefix) (accepted_of s router.0 place prefix) []
   parents (Chosen router prefix place) = option_map_or (λ x. source_of router prefix x.from ∷ []) (chosen_of s router.0 prefix place) []
   parents (Main router row) = option_map_or (λ m. main_of router m.prefix m.from ∷ []) (slice_get (main_rows s router.0) row) []
+  parents (Step router addr way hops) = step_parents false router addr way hops
+  parents (Trace router addr hops) = own_or router addr (filter (holds s) (steps_of false router addr hops))
+  parents (AllStep router addr way hops) = step_parents true router addr way hops
+  parents (AllTrace router addr hops) = own_or router addr (steps_of true router addr hops)

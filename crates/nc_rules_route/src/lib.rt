@@ -1,8 +1,10 @@
-//! Rules of routes: from which facts each fact about routes follows.
+//! Rules of routes and of the ways of packets: from which facts each fact follows.
 //!
 //! The crate stands on `nc_tables` for the state of a network, on `nc_fact` for the facts, on `nc_sessions` for
-//! the two ends of a session, and on `nc_graph` for the ways in which a fact may follow from others. Its contract promises that [`route_parents`] gives of
-//! each fact that holds exactly the parents and the kind that the rules define, and that these make a flow
+//! the two ends of a session, on `nc_trace` for the ways of packets, and on `nc_graph` for the ways in which a fact
+//! may follow from others. Its contract promises that [`route_parents`] and, for the facts of packets' ways,
+//! [`path_parents`] give of each fact that holds exactly the parents and the kind that the rules define; that
+//! [`path_address`] tells these facts from the others; and that the rules make a flow
 //! graph: each parent holds and has a lower rank, and what follows from any of its parents has one.
 #![tactic(auto)]
 
@@ -12,10 +14,11 @@ mod elements;
 mod laws;
 mod messages;
 mod parents;
+mod paths;
 mod reach;
 mod routes;
 mod rows;
 mod sessions;
 
 pub use laws::rules_are_lawful;
-pub use parents::route_parents;
+pub use parents::{path_address, path_parents, route_parents};

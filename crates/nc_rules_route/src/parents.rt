@@ -1,12 +1,14 @@
 //! From which facts a fact about routes follows, and how.
 
-ghost use Rattle.std.specs.Prelude.{◌≡◌, ◌++◌, true, length, take, is_ok, IfOk, OnOk, if◌then◌else◌};
+ghost use Rattle.std.specs.Prelude.{◌≡◌, ◌++◌, ◌≤◌, true, None, length, take, is_ok, IfOk, MatchOption, OnOk, if◌then◌else◌};
+ghost use Rattle.nc_trace.specs.Traced.{IsTracedTo};
 ghost use Rattle.nc_policy.specs.Indexes.{ArePolicies};
 ghost use Rattle.nc_fact.specs.Facts.{holds};
-ghost use Rattle.nc_rules_route.specs.Parents.{kind, parents};
+ghost use Rattle.nc_rules_route.specs.Parents.{kind, parents, path_address};
 
 use crate::begun::{push_aggregate, push_contrib, push_origin};
 use crate::messages::{push_chosen, push_entry, push_message};
+use crate::paths::{push_all_trace, push_step, push_trace};
 use crate::reach::{push_hop, push_reach};
 use crate::routes::{push_base, push_connected, push_main, push_static};
 use crate::rows::{push_resolve, push_source};
@@ -15,6 +17,8 @@ use nc_fact::Fact;
 use nc_graph::node::NodeKind;
 use nc_policy::Policies;
 use nc_tables::Stable;
+use nc_trace::TracedTo;
+use nc_types::Addr;
 use std::alloc::AllocError;
 
 // How a fact follows from its parents.
@@ -26,6 +30,7 @@ fn kind_of(fact: &Fact) -> NodeKind
         Fact::Element(element) => NodeKind::Leaf(element.0),
         Fact::Resolve(_, _) | Fact::NetSource(_, _) | Fact::Reach(_, _, _) => NodeKind::Any,
         Fact::Contrib(_, _) => NodeKind::Any,
+        Fact::Trace(_, _, _) => NodeKind::Any,
         Fact::Connected(_, _)
         | Fact::Static(_, _)
         | Fact::Base(_, _)
@@ -36,7 +41,21 @@ fn kind_of(fact: &Fact) -> NodeKind
         | Fact::Message(_, _, _)
         | Fact::Entry(_, _, _)
         | Fact::Chosen(_, _, _)
-        | Fact::Main(_, _) => NodeKind::Every,
+        | Fact::Main(_, _)
+        | Fact::Step(_, _, _, _)
+        | Fact::AllStep(_, _, _, _)
+        | Fact::AllTrace(_, _, _) => NodeKind::Every,
+    }
+}
+
+/// The address of a packet of whose way over main tables a fact is; `None` of any other fact.
+pub fn path_address(fact: &Fact) -> Option<Addr>
+    ensures { result ≡ path_address fact.now }
+{
+    match *fact {
+        Fact::Step(_, addr, _, _) | Fact::AllStep(_, addr, _, _) => Some(addr),
+        Fact::Trace(_, addr, _) | Fact::AllTrace(_, addr, _) => Some(addr),
+        _ => None,
     }
 }
 
@@ -50,6 +69,7 @@ fn push_parents(
 ) -> Result<(), AllocError>
     requires policies { ArePolicies state.now.routers policies.now }
     requires holds { holds state.now fact.now ≡ true }
+    requires other { path_address fact.now ≡ None }
     ensures ok { OnOk result (into.new.items ≡ into.old.items ++ parents state.now fact.now) }
     ensures kept { take (length into.old.items) into.new.items ≡ into.old.items }
 {
@@ -74,11 +94,71 @@ fn push_parents(
         }
         Fact::Chosen(router, prefix, place) => push_chosen(state, router, prefix, place, into),
         Fact::Main(router, row) => push_main(state, router, row, into),
+        Fact::Step(_, _, _, _)
+        | Fact::Trace(_, _, _)
+        | Fact::AllStep(_, _, _, _)
+        | Fact::AllTrace(_, _, _) => unreachable!(),
     }
 }
 
-/// Appends the facts from which a fact that holds follows, in order, and answers how it follows from them.
-/// The policies are those of the state's routers. Where memory runs out, `into` has what it had before.
+// Appends the parents of a fact of the way of a packet for an address to which all ways are known.
+#[tactic(auto, unfolding(crate::specs::Parents::parents))]
+fn push_path_parents(
+    state: &Stable,
+    traced: &TracedTo,
+    fact: &Fact,
+    into: &mut Vec<Fact>,
+) -> Result<(), AllocError>
+    requires traced { MatchOption (path_address fact.now) ⊥
+        (λ addr. IsTracedTo state.now addr.0 traced.now) }
+    ensures ok { OnOk result (into.new.items ≡ into.old.items ++ parents state.now fact.now) }
+    ensures kept { take (length into.old.items) into.new.items ≡ into.old.items }
+{
+    match *fact {
+        Fact::Step(router, addr, way, hops) => {
+            push_step(traced.ways(router), false, router, addr, way, hops, into)
+        }
+        Fact::Trace(router, addr, hops) => push_trace(state, traced, router, addr, hops, into),
+        Fact::AllStep(router, addr, way, hops) => {
+            push_step(traced.ways(router), true, router, addr, way, hops, into)
+        }
+        Fact::AllTrace(router, addr, hops) => {
+            push_all_trace(state, traced, router, addr, hops, into)
+        }
+        _ => unreachable!(),
+    }
+}
+
+// How a fact follows from its parents, where they were all appended; where memory ran out, those that were are taken
+// away again.
+fn kind_behind(
+    fact: &Fact,
+    before: usize,
+    pushed: Result<(), AllocError>,
+    into: &mut Vec<Fact>,
+) -> Result<NodeKind, AllocError>
+    requires { before ≤ length into.old.items }
+    ensures kind { IfOk result (λ k. k ≡ kind fact.now) }
+    ensures ok { is_ok result ≡ is_ok pushed }
+    ensures items { into.new.items
+        ≡ (if is_ok pushed then into.old.items else take before into.old.items) }
+{
+    match pushed {
+        Ok(()) => Ok(kind_of(fact)),
+        Err(error) => {
+            into.truncate(before);
+            Err(error)
+        }
+    }
+}
+
+/// Appends the facts from which a fact that holds follows, in order, and answers how it follows from them: of any
+/// fact but those of the ways of packets. The policies are those of the state's routers. Where memory runs out,
+/// `into` has what it had before.
+///
+/// # Errors
+///
+/// Memory that runs out.
 pub fn route_parents(
     state: &Stable,
     policies: &Policies,
@@ -87,16 +167,35 @@ pub fn route_parents(
 ) -> Result<NodeKind, AllocError>
     requires policies { ArePolicies state.now.routers policies.now }
     requires holds { holds state.now fact.now ≡ true }
+    requires other { path_address fact.now ≡ None }
     ensures kind { IfOk result (λ k. k ≡ kind fact.now) }
     ensures parents { into.new.items
         ≡ (if is_ok result then into.old.items ++ parents state.now fact.now else into.old.items) }
 {
     let before = into.len();
-    match push_parents(state, policies, fact, into) {
-        Ok(()) => Ok(kind_of(fact)),
-        Err(error) => {
-            into.truncate(before);
-            Err(error)
-        }
-    }
+    let pushed = push_parents(state, policies, fact, into);
+    kind_behind(fact, before, pushed, into)
+}
+
+/// The same of a fact of the way of a packet over main tables, for an address to which the ways of all routers are
+/// known.
+///
+/// # Errors
+///
+/// Memory that runs out.
+pub fn path_parents(
+    state: &Stable,
+    traced: &TracedTo,
+    fact: &Fact,
+    into: &mut Vec<Fact>,
+) -> Result<NodeKind, AllocError>
+    requires traced { MatchOption (path_address fact.now) ⊥
+        (λ addr. IsTracedTo state.now addr.0 traced.now) }
+    ensures kind { IfOk result (λ k. k ≡ kind fact.now) }
+    ensures parents { into.new.items
+        ≡ (if is_ok result then into.old.items ++ parents state.now fact.now else into.old.items) }
+{
+    let before = into.len();
+    let pushed = push_path_parents(state, traced, fact, into);
+    kind_behind(fact, before, pushed, into)
 }

@@ -1,4 +1,4 @@
-use Rattle.std.proofs.Common.{◌≡◌, ◌++◌, length, take, true}
+use Rattle.std.proofs.Common.{◌≡◌, ◌++◌, true}
 use Rattle.nc_fact.specs.declared.fact.Fact.TheVariants.{Chosen}
 use Rattle.nc_rules_route.proofs.Ranges.{made_between}
 use Rattle.nc_rules_route.proofs.begun.push_row.Given as goal

@@ -1,0 +1,41 @@
+use Rattle.std.proofs.Common.{◌≡◌, ℕ, ◌+◌, List, [], ◌∷◌, ◌++◌, length, filter, None, true, false, sym, ap, ◌∙◌, arith}
+use Rattle.nc_types.specs.Config.{ConfigView}
+use Rattle.nc_tables.specs.Reach.{own_place}
+use Rattle.nc_fact.specs.declared.fact.Fact.{Fact}
+use Rattle.nc_fact.specs.declared.fact.Fact.TheVariants.{Step}
+use Rattle.nc_fact.specs.Facts.{holds}
+use Rattle.nc_rules_route.specs.Parents.{steps_of, parents}
+use Rattle.nc_rules_route.proofs.Ranges.{made_between, kept_more, taken, passed_over}
+use Rattle.nc_rules_route.proofs.Steps.{all_between, without_own}
+use Rattle.nc_rules_route.proofs.paths.push_trace.Goals as goal
+use Rattle.nc_rules_route.proofs.paths.push_trace.Goals.{then-passes+in_ok-number+in_ok-push-2, else-passes}
+
+pub ways-preserved : goal.ways-preserved
+unfolding holds
+ways-preserved c =
+    let s = c.args.state.now in
+    let step = λ (way : ℕ). Step c.args.router c.args.addr way c.args.hops in
+    let all = λ (n : ℕ). true in
+    let place = c.ways.place in
+    let more = kept_more step all (holds s) 0 place (omega arith) in
+    let before = filter (holds s) (made_between step all 0 place) in
+    let after = filter (holds s) (made_between step all 0 (place + 1)) in
+    let passing : c.passes.result ≡ holds s (step place) = c.passes.ensures s c.args.addr.0 c.requires in
+    elim c.if-passes.branch [
+      | then-passes+in_ok-number+in_ok-push-2 w ↦
+          ap (λ v. v.items) w.into-is ∙ w.in_ok-push-2.ensures.items ∙ ap (λ (n : ℕ). c.ways.into.items ++ step n ∷ []) w.in_ok-number.ensures
+          ∙ taken c.args.into.now.items c.ways.into.items before after (step place) (holds s (step place)) c.ways.invariant more (sym passing ∙ w.if-passes.true)
+      | else-passes w ↦ ap (λ v. v.items) w.into-is ∙ passed_over c.args.into.now.items c.ways.into.items before after (step place) (holds s (step place)) c.ways.invariant more (sym passing ∙ w.if-passes.false)
+    ]
+
+pub returns-clause-ok : goal.returns-clause-ok
+unfolding parents
+returns-clause-ok c =
+    let s = c.args.state.now in
+    let router = c.args.router in
+    let addr = c.args.addr in
+    let last : c.ways.place ≡ length c.ways-count.result.now = omega (arith, c.ways-test.false, c.ways.auto.place-end) in
+    let none : own_place s.routers router.0 addr.0 ≡ None = ap (λ (cs : List ConfigView). own_place cs router.0 addr.0) (sym c.network.ensures.network) ∙ sym c.in_default.ensures in
+    c.ways.invariant
+    ∙ ap (λ (fs : List Fact). c.args.into.now.items ++ filter (holds s) fs) (all_between s router addr false c.args.hops c.ways-count.result.now c.ways.place (c.ways-count.ensures s addr.0 c.requires) last)
+    ∙ ap (λ (fs : List Fact). c.args.into.now.items ++ fs) (sym (without_own s router addr (filter (holds s) (steps_of s false router addr c.args.hops)) none))

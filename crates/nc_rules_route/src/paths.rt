@@ -1,0 +1,179 @@
+//! What the ways of packets over main tables follow from.
+
+ghost use Rattle.std.specs.Prelude.{◌≡◌, ◌++◌, [], ◌∷◌, ℕ, length, map, take, slice_get, IfOk, OnOk};
+ghost use Rattle.std.specs.Option.{option_map_or};
+ghost use Rattle.nc_tables.specs.Forwarding.{step_at};
+ghost use Rattle.nc_tables.specs.State.{StateView};
+ghost use Rattle.nc_trace.specs.Traced.{IsTracedTo};
+ghost use Rattle.nc_trace.specs.Views.{alternative_view, outcome_view};
+ghost use Rattle.nc_fact.specs.declared.fact.Fact.TheVariants as fact;
+ghost use Rattle.nc_rules_route.specs.Parents.{trace_fact, onward, way_parents, parents};
+
+use nc_fact::Fact;
+use nc_tables::Stable;
+use nc_trace::{Alternative, Outcome, TracedTo};
+use nc_types::{Addr, HOP_LIMIT, RouterId};
+use nc_underlay::own_interface;
+use std::alloc::AllocError;
+
+// That a packet arrives by every way, or by some.
+fn trace_fact(every: bool, router: RouterId, addr: Addr, hops: u8) -> Fact
+    ensures { result ≡ trace_fact every router addr hops }
+{
+    if every {
+        Fact::AllTrace(router, addr, hops)
+    } else {
+        Fact::Trace(router, addr, hops)
+    }
+}
+
+// Appends what a packet needs that goes on: the interface to which it is led, and that it arrives from there.
+fn push_onward(
+    every: bool,
+    addr: Addr,
+    hops: u8,
+    outcome: Outcome,
+    into: &mut Vec<Fact>,
+) -> Result<(), AllocError>
+    ensures ok { OnOk result (into.new.items
+        ≡ into.old.items ++ onward every addr hops (outcome_view outcome)) }
+    ensures kept { take (length into.old.items) into.new.items ≡ into.old.items }
+{
+    if let Outcome::Go(next, iface) = outcome {
+        let connected = Fact::Connected(next, iface);
+        let onward = trace_fact(every, next, addr, hops.saturating_sub(1));
+        into.extend_from_slice(&[connected, onward])?;
+    }
+    Ok(())
+}
+
+// Appends the base row of an alternative, where it has one.
+fn push_base(router: RouterId, base: Option<u32>, into: &mut Vec<Fact>) -> Result<(), AllocError>
+    ensures ok { OnOk result (into.new.items
+        ≡ into.old.items ++ option_map_or (λ row. fact.Base router row ∷ []) base []) }
+    ensures kept { take (length into.old.items) into.new.items ≡ into.old.items }
+{
+    if let Some(row) = base {
+        into.push(Fact::Base(router, row))?;
+    }
+    Ok(())
+}
+
+// Appends what an alternative follows from: its rows, and what the packet needs to go on.
+fn push_way(
+    every: bool,
+    router: RouterId,
+    addr: Addr,
+    hops: u8,
+    way: &Alternative,
+    into: &mut Vec<Fact>,
+) -> Result<(), AllocError>
+    ensures ok { OnOk result (into.new.items
+        ≡ into.old.items ++ way_parents every router addr hops (alternative_view way.now)) }
+    ensures kept { take (length into.old.items) into.new.items ≡ into.old.items }
+{
+    into.push(Fact::Main(router, way.main))?;
+    push_base(router, way.base, into)?;
+    push_onward(every, addr, hops, way.outcome, into)
+}
+
+/// Appends what the alternative at a place follows from, of all those of a router for an address: by every way, or
+/// by some.
+pub(crate) fn push_step(
+    ways: &[Alternative],
+    every: bool,
+    router: RouterId,
+    addr: Addr,
+    place: u32,
+    hops: u8,
+    into: &mut Vec<Fact>,
+) -> Result<(), AllocError>
+    ensures ok { OnOk result (into.new.items ≡ into.old.items
+        ++ option_map_or (way_parents every router addr hops) (slice_get (map alternative_view ways.now) place) []) }
+    ensures kept { take (length into.old.items) into.new.items ≡ into.old.items }
+{
+    match ways.get(place as usize) {
+        Some(way) => push_way(every, router, addr, hops, way, into),
+        None => Ok(()),
+    }
+}
+
+// Whether a packet arrives by the alternative at a place, and from there by some way.
+fn passes(traced: &TracedTo, router: RouterId, place: usize, hops: u8) -> bool
+    ensures { (s : StateView) (addr : ℕ) → IsTracedTo s addr traced.now
+        → result ≡ step_at s.routers s.base s.bgp s.main router.0 addr place hops }
+{
+    if HOP_LIMIT < hops {
+        return false;
+    }
+    match traced.ways(router).get(place) {
+        Some(way) => traced.leads_on(way.outcome, hops),
+        None => false,
+    }
+}
+
+// The number of a place. Where it is none of 32 bits, the list before it is larger than memory can be.
+fn number(place: usize) -> Result<u32, AllocError>
+    ensures { IfOk result (λ number. number ≡ place) }
+{
+    match u32::try_from(place) {
+        Ok(number) => Ok(number),
+        Err(_) => Err(AllocError),
+    }
+}
+
+/// Appends what follows from any alternative by which a packet arrives: the router's own interface that has the
+/// address, or else these.
+#[tactic(auto, unfolding(crate::specs::Parents::parents))]
+pub(crate) fn push_trace(
+    state: &Stable,
+    traced: &TracedTo,
+    router: RouterId,
+    addr: Addr,
+    hops: u8,
+    into: &mut Vec<Fact>,
+) -> Result<(), AllocError>
+    requires { IsTracedTo state.now addr.0 traced.now }
+    ensures ok { OnOk result (into.new.items
+        ≡ into.old.items ++ parents state.now (fact.Trace router addr hops)) }
+    ensures kept { take (length into.old.items) into.new.items ≡ into.old.items }
+{
+    if let Some(iface) = own_interface(state.network(), router, addr) {
+        into.push(Fact::Connected(router, iface))?;
+        return Ok(());
+    }
+    let count = traced.ways(router).len();
+    'ways: for place in 0..count {
+        if passes(traced, router, place, hops) {
+            into.push(Fact::Step(router, addr, number(place)?, hops))?;
+        }
+    }
+    Ok(())
+}
+
+/// Appends what follows from every alternative: the router's own interface that has the address, or else all of
+/// them.
+#[tactic(auto, unfolding(crate::specs::Parents::parents))]
+pub(crate) fn push_all_trace(
+    state: &Stable,
+    traced: &TracedTo,
+    router: RouterId,
+    addr: Addr,
+    hops: u8,
+    into: &mut Vec<Fact>,
+) -> Result<(), AllocError>
+    requires { IsTracedTo state.now addr.0 traced.now }
+    ensures ok { OnOk result (into.new.items
+        ≡ into.old.items ++ parents state.now (fact.AllTrace router addr hops)) }
+    ensures kept { take (length into.old.items) into.new.items ≡ into.old.items }
+{
+    if let Some(iface) = own_interface(state.network(), router, addr) {
+        into.push(Fact::Connected(router, iface))?;
+        return Ok(());
+    }
+    let count = traced.ways(router).len();
+    'ways: for place in 0..count {
+        into.push(Fact::AllStep(router, addr, number(place)?, hops))?;
+    }
+    Ok(())
+}
