@@ -13,7 +13,7 @@ use Rattle.nc_lines.proofs.WholeLines.{whole_held, open_held, whole_fed, open_fe
 use Rattle.nc_command.specs.declared.TheConstants.{LINE_LIMIT, HELD_LIMIT}
 use Rattle.nc_command.specs.declared.cutter.Cut.{Cut}
 use Rattle.nc_command.specs.declared.cutter.Cut.TheVariants.{Line, Long}
-use Rattle.nc_command.specs.Cutting.{line_cut, cut_of, front_of, held_of, held_after, cuts_after, last_cut, CutsLines}
+use Rattle.nc_command.specs.Cutting.{line_cut, cut_of, front_of, held_of, IsAtFeed, held_after, cuts_after, last_cut, CutsLines}
 
 -- ---- what is held of a line tells how it is cut
 
@@ -91,17 +91,23 @@ feed_none xs none = none_past xs (on (nat_lt (position_or_len is_feed xs) (lengt
     on false is e = ltb-false (position_or_len is_feed xs) (length xs) is
 
 module _ (xs : List ℕ) (i : ℕ) (found : position is_feed xs ≡ Some i) where
-  pub feed_parts : xs ≡ take i xs ++ 10 ∷ drop (i + 1) xs
+  feed_parts : xs ≡ take i xs ++ 10 ∷ drop (i + 1) xs
   feed_parts =
       let at = position-Some is_feed xs i 0 found in
       let feed : get_or xs i 0 ≡ 10 = eqb-true (get_or xs i 0) 10 at.1 in
       sym (take-append-drop i xs) ∙ ap (λ (bs : List ℕ). take i xs ++ bs) (drop_more xs i 0 at.0 ∙ ap (λ (b : ℕ). b ∷ drop (i + 1) xs) feed)
 
-  pub feed_first : list_any is_feed (take i xs) ≡ false
+  feed_first : list_any is_feed (take i xs) ≡ false
   feed_first =
       list_any_none is_feed (take i xs) (λ k d below.
       let before : k < i = omega (arith, length-take i xs) in
       ap is_feed (get_or-take i xs k d before) ∙ (position-Some is_feed xs i d found).2 k before)
+
+  pub at_feed : (front rest : List ℕ) → front ≡ take i xs → rest ≡ drop (i + 1) xs → IsAtFeed xs front rest
+  at_feed front rest fronts rests = record {
+    parts = feed_parts ∙ ap (λ (l : List ℕ). take i xs ++ 10 ∷ l) (sym rests) ∙ ap (λ (l : List ℕ). l ++ 10 ∷ rest) (sym fronts);
+    first = ap (list_any is_feed) fronts ∙ feed_first;
+  }
 
 -- ---- all bytes of a session
 

@@ -16,12 +16,13 @@ use Rattle.nc_types.specs.Cidr.{Cidr}
 use Rattle.nc_types.specs.Masks.{network_of}
 use Rattle.nc_types.specs.declared.addr.Addr.{Addr}
 use Rattle.nc_types.specs.declared.command.TestCommand.{TestCommand}
-use Rattle.nc_types.specs.declared.command.TestCommand.TheVariants.{Rib, Bgp, Session}
+use Rattle.nc_types.specs.declared.command.TestCommand.TheVariants.{Rib, Bgp, Session, Reach, Every, Element}
 use Rattle.nc_lines.specs.Lines.{words_of}
 use Rattle.nc_lines.specs.Numbers.{is_digit, value_after, is_plain, number_of, address_of, address_of_parts, prefix_of, prefix_of_parts}
 use Rattle.nc_lines.proofs.NumberLemmas.{value_after-ge}
 use Rattle.nc_command.specs.declared.command.Command.TheVariants.{Test}
-use Rattle.nc_command.specs.Command.{Passed, TooLong, Unread, Asks, begins_note, addr_of, address_behind, prefix_test_of, address_test_of, test_of, quit_of, asked_by, command_of, dotted, cidr_text, spaced, prefix_text, address_text, text_of}
+use Rattle.nc_command.specs.declared.TheConstants.{MOST_NUMBER}
+use Rattle.nc_command.specs.Command.{Passed, TooLong, Unread, Asks, begins_note, addr_of, address_behind, prefix_test_of, address_test_of, line_test_of, test_of, quit_of, asked_by, command_of, dotted, cidr_text, spaced, prefix_text, address_text, line_text, text_of}
 
 -- ---- numbers
 
@@ -196,27 +197,65 @@ address-test-text command make texts (name ∷ word ∷ []) test at =
     ap text_of (sym made.2) ∙ texts name made.0 ∙ ap (address_text command name) (sym addr.2)
     ∙ ap (λ w. spaced (command ∷ name ∷ w ∷ [])) (address-text word addr.0 addr.1)
 
+-- a name and a line's number behind a command
+line-test-text : (command : List ℕ) (make : List ℕ → ℕ → TestCommand) → ((name : List ℕ) (n : ℕ) → text_of (make name n) ≡ line_text command name n) → (words : List (List ℕ)) (test : TestCommand) → line_test_of make words ≡ Some test
+    → text_of test ≡ spaced (command ∷ words)
+line-test-text command make texts [] test at = absurd (cc)
+line-test-text command make texts (name ∷ []) test at = absurd (cc)
+line-test-text command make texts (name ∷ word ∷ more ∷ words) test at = absurd (cc)
+line-test-text command make texts (name ∷ word ∷ []) test at =
+    let made = map_some (make name) (number_of MOST_NUMBER word) test at in
+    ap text_of (sym made.2) ∙ texts name made.0
+    ∙ ap (λ w. spaced (command ∷ name ∷ w ∷ [])) (number-text MOST_NUMBER made.0 word (omega arith) made.1).0
+
 -- the words of a command, when its first is known
 first-word : (word command : List ℕ) (words : List (List ℕ)) → bytes_eq word command ≡ true → spaced (command ∷ words) ≡ spaced (word ∷ words)
 first-word word command words same = ap (λ w. spaced (w ∷ words)) (sym ((bytes_eq-Decides word command).0 same))
 
-test-text : (word : List ℕ) (words : List (List ℕ)) (test : TestCommand) → test_of word words ≡ Some test → text_of test ≡ spaced (word ∷ words)
-test-text word words test at = by_rib (bytes_eq word (codes "rib")) refl at
-  where
-    by_session : (b : Bool) → bytes_eq word (codes "session") ≡ b → cond b (address_test_of Session words) None ≡ Some test → text_of test ≡ spaced (word ∷ words)
-    by_session false same is = absurd (cc)
+module _ (word : List ℕ) (words : List (List ℕ)) where
+  -- the test that they make where the first word is none of those before
+  abbrev element_test : Option TestCommand
+  element_test = cond (bytes_eq word (codes "element")) (line_test_of Element words) None
+
+  abbrev every_test : Option TestCommand
+  every_test = cond (bytes_eq word (codes "every")) (address_test_of Every words) element_test
+
+  abbrev reach_test : Option TestCommand
+  reach_test = cond (bytes_eq word (codes "reach")) (address_test_of Reach words) every_test
+
+  abbrev session_test : Option TestCommand
+  session_test = cond (bytes_eq word (codes "session")) (address_test_of Session words) reach_test
+
+  abbrev bgp_test : Option TestCommand
+  bgp_test = cond (bytes_eq word (codes "bgp")) (prefix_test_of Bgp (codes "from") words) session_test
+
+  module _ (test : TestCommand) where
+    by_element : (b : Bool) → bytes_eq word (codes "element") ≡ b → cond b (line_test_of Element words) None ≡ Some test → text_of test ≡ spaced (word ∷ words)
+    by_element false same is = absurd (cc)
+    by_element true same is = line-test-text (codes "element") Element (λ name n. refl) words test is ∙ first-word word (codes "element") words same
+
+    by_every : (b : Bool) → bytes_eq word (codes "every") ≡ b → cond b (address_test_of Every words) element_test ≡ Some test → text_of test ≡ spaced (word ∷ words)
+    by_every false same is = by_element (bytes_eq word (codes "element")) refl is
+    by_every true same is = address-test-text (codes "every") Every (λ name a. refl) words test is ∙ first-word word (codes "every") words same
+
+    by_reach : (b : Bool) → bytes_eq word (codes "reach") ≡ b → cond b (address_test_of Reach words) every_test ≡ Some test → text_of test ≡ spaced (word ∷ words)
+    by_reach false same is = by_every (bytes_eq word (codes "every")) refl is
+    by_reach true same is = address-test-text (codes "reach") Reach (λ name a. refl) words test is ∙ first-word word (codes "reach") words same
+
+    by_session : (b : Bool) → bytes_eq word (codes "session") ≡ b → cond b (address_test_of Session words) reach_test ≡ Some test → text_of test ≡ spaced (word ∷ words)
+    by_session false same is = by_reach (bytes_eq word (codes "reach")) refl is
     by_session true same is = address-test-text (codes "session") Session (λ name a. refl) words test is ∙ first-word word (codes "session") words same
 
-    by_bgp : (b : Bool) → bytes_eq word (codes "bgp") ≡ b → cond b (prefix_test_of Bgp (codes "from") words) (cond (bytes_eq word (codes "session")) (address_test_of Session words) None) ≡ Some test
-        → text_of test ≡ spaced (word ∷ words)
+    by_bgp : (b : Bool) → bytes_eq word (codes "bgp") ≡ b → cond b (prefix_test_of Bgp (codes "from") words) session_test ≡ Some test → text_of test ≡ spaced (word ∷ words)
     by_bgp false same is = by_session (bytes_eq word (codes "session")) refl is
     by_bgp true same is = prefix-test-text (codes "bgp") (codes "from") Bgp (λ name p addr. refl) words test is ∙ first-word word (codes "bgp") words same
 
-    by_rib : (b : Bool) → bytes_eq word (codes "rib") ≡ b
-        → cond b (prefix_test_of Rib (codes "via") words) (cond (bytes_eq word (codes "bgp")) (prefix_test_of Bgp (codes "from") words) (cond (bytes_eq word (codes "session")) (address_test_of Session words) None)) ≡ Some test
-        → text_of test ≡ spaced (word ∷ words)
+    by_rib : (b : Bool) → bytes_eq word (codes "rib") ≡ b → cond b (prefix_test_of Rib (codes "via") words) bgp_test ≡ Some test → text_of test ≡ spaced (word ∷ words)
     by_rib false same is = by_bgp (bytes_eq word (codes "bgp")) refl is
     by_rib true same is = prefix-test-text (codes "rib") (codes "via") Rib (λ name p addr. refl) words test is ∙ first-word word (codes "rib") words same
+
+    test-text : test_of word words ≡ Some test → text_of test ≡ spaced (word ∷ words)
+    test-text at = by_rib (bytes_eq word (codes "rib")) refl at
 
 -- a test that words ask has the words as its text
 asked-text : (words : List (List ℕ)) (test : TestCommand) → asked_by words ≡ Asks (Test test) → text_of test ≡ spaced words

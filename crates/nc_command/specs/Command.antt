@@ -9,8 +9,8 @@ use Rattle.nc_types.specs.declared.addr.Addr.{Addr}
 use Rattle.nc_types.specs.declared.command.TestCommand.{TestCommand}
 use Rattle.nc_types.specs.declared.command.TestCommand.TheVariants.{Rib, Bgp, Session, Reach, Every, Element}
 use Rattle.nc_lines.specs.Lines.{words_of}
-use Rattle.nc_lines.specs.Numbers.{address_of, prefix_of}
-use Rattle.nc_command.specs.declared.TheConstants.{LINE_LIMIT}
+use Rattle.nc_lines.specs.Numbers.{number_of, address_of, prefix_of}
+use Rattle.nc_command.specs.declared.TheConstants.{LINE_LIMIT, MOST_NUMBER}
 use Rattle.nc_command.specs.declared.command.Command.{Command}
 use Rattle.nc_command.specs.declared.command.Command.TheVariants.{Test, Quit}
 use Rattle.nc_command.specs.declared.fault.CommandFault.{CommandFault}
@@ -53,13 +53,21 @@ abbrev pub address_test_of : (List ℕ → Addr → TestCommand) → List (List 
 address_test_of make (name ∷ address ∷ []) = option_map (make name) (addr_of address)
 address_test_of make words = None
 
+-- the test that the words behind a command for a line make: a name, the line's number, and nothing more
+abbrev pub line_test_of : (List ℕ → ℕ → TestCommand) → List (List ℕ) → Option TestCommand
+line_test_of make (name ∷ line ∷ []) = option_map (make name) (number_of MOST_NUMBER line)
+line_test_of make words = None
+
 -- the test that a command's first word and the words behind it make, if they make one
 abbrev pub test_of : List ℕ → List (List ℕ) → Option TestCommand
 test_of word words =
     if bytes_eq word (codes "rib") then prefix_test_of Rib (codes "via") words
     else (if bytes_eq word (codes "bgp") then prefix_test_of Bgp (codes "from") words
     else (if bytes_eq word (codes "session") then address_test_of Session words
-    else None))
+    else (if bytes_eq word (codes "reach") then address_test_of Reach words
+    else (if bytes_eq word (codes "every") then address_test_of Every words
+    else (if bytes_eq word (codes "element") then line_test_of Element words
+    else None)))))
 
 -- `quit` and nothing behind it
 abbrev pub quit_of : List (List ℕ) → Line

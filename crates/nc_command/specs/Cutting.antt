@@ -25,6 +25,11 @@ held_of bytes = front_of (open_of bytes)
 
 -- ---- what a call does
 
+-- a piece has its first line feed between these bytes
+pub record IsAtFeed (piece front rest : List ℕ) : Type 0 where
+  pub parts : piece ≡ front ++ 10 ∷ rest
+  pub first : list_any is_feed front ≡ false
+
 -- a byte was pushed: a line feed cuts the line that is held, and any other byte goes to its end
 abbrev pub Pushes : ℕ → List ℕ → List ℕ → Option Cut → Type 0
 Pushes byte old new None = (is_feed byte ≡ false) × (new ≡ front_of (old ++ byte ∷ []))

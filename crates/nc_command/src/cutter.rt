@@ -1,9 +1,10 @@
 //! Cutting a session into its lines while it is read.
 
-ghost use Rattle.std.specs.Prelude.{◌≡◌, ◌≤◌, ◌++◌, [], length, position, IfOk, OnOk, OnErr, MatchOption};
+ghost use Rattle.std.specs.Prelude.{◌≡◌, ◌≤◌, ◌++◌, false, [], length, position, IfOk, OnOk, OnErr, MatchOption};
+ghost use Rattle.std.specs.List.{list_any};
 ghost use Rattle.nc_lines.specs.Lines.{is_feed};
 ghost use Rattle.nc_command.specs.declared.TheConstants.{HELD_LIMIT};
-ghost use Rattle.nc_command.specs.Cutting.{cut_of, front_of, Pushes, CutsFirst, HoldsAll, Ends};
+ghost use Rattle.nc_command.specs.Cutting.{cut_of, front_of, IsAtFeed, Pushes, CutsFirst, HoldsAll, Ends};
 
 use crate::{HELD_LIMIT, LINE_LIMIT};
 use nc_lines::line_end::line_len;
@@ -67,6 +68,17 @@ fn feed_place(piece: &[u8]) -> Option<usize>
     ensures { result ≡ position is_feed piece.now }
 {
     piece.iter().position(|b| *b == b'\n')
+}
+
+/// The bytes of a piece before its first line feed, and those behind it; `None` where it has no line feed.
+pub fn cut_at_feed(piece: &[u8]) -> Option<(&[u8], &[u8])>
+    ensures { MatchOption result (list_any is_feed piece.now ≡ false)
+        (λ cut. IsAtFeed piece.now cut.0.now cut.1.now) }
+{
+    let at = feed_place(piece)?;
+    let (front, _) = piece.split_at(at);
+    let (_, rest) = piece.split_at(at + 1);
+    Some((front, rest))
 }
 
 impl Cutter {
@@ -140,12 +152,10 @@ impl Cutter {
             (λ cut. CutsFirst piece.now self.old self.new cut.0 cut.1.now)) }
         ensures unchanged { OnErr result (self.new ≡ self.old) }
     {
-        let Some(at) = feed_place(piece) else {
+        let Some((front, rest)) = cut_at_feed(piece) else {
             self.hold(piece)?;
             return Ok(None);
         };
-        let (front, _) = piece.split_at(at);
-        let (_, rest) = piece.split_at(at + 1);
         self.hold(front)?;
         Ok(Some((self.cut_held(), rest)))
     }

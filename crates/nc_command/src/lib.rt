@@ -17,13 +17,16 @@ mod reading;
 mod text;
 
 pub use command::Command;
-pub use cutter::{Cut, CutLine, Cutter};
+pub use cutter::{Cut, CutLine, Cutter, cut_at_feed};
 pub use fault::CommandFault;
 pub use reading::read_command;
 pub use text::test_text;
 
 /// How many bytes a line of a session may have, without its line end.
 pub const LINE_LIMIT: usize = 4096;
+
+/// The greatest number that a command may have.
+pub const MOST_NUMBER: u32 = 4_294_967_295;
 
 /// How many bytes of a line are held while it is read: those that a line may have, a carriage return, and one
 /// by which a longer line is known.

@@ -4,17 +4,17 @@ ghost use Rattle.std.specs.Prelude.{◌≡◌, ℕ, List, Option, IfOk, codes};
 ghost use Rattle.std.specs.Option.{option_map};
 ghost use Rattle.nc_lines.specs.Lines.{words_of};
 ghost use Rattle.nc_command.specs.Command.{address_behind, prefix_test_of, address_test_of};
-ghost use Rattle.nc_command.specs.Command.{test_of, command_of, IsRead};
+ghost use Rattle.nc_command.specs.Command.{line_test_of, test_of, command_of, IsRead};
 ghost use Rattle.nc_types.specs.Cidr.{Cidr};
 ghost use Rattle.nc_types.specs.declared.addr.Addr.{Addr};
 ghost use Rattle.nc_types.specs.declared.command.TestCommand.{TestCommand};
 ghost use Rattle.nc_types.specs.declared.command.TestCommand.TheVariants as command;
 
-use crate::LINE_LIMIT;
 use crate::command::Command;
 use crate::fault::CommandFault;
+use crate::{LINE_LIMIT, MOST_NUMBER};
 use nc_lines::cut::cut_word;
-use nc_lines::numbers::{read_address, read_prefix};
+use nc_lines::numbers::{read_address, read_number, read_prefix};
 use nc_types::{Addr, Prefix, TestCommand, Text};
 use std::alloc::{AllocError, Global};
 
@@ -98,6 +98,54 @@ fn read_session(alloc: Global, rest: &[u8]) -> Result<Option<TestCommand>, Alloc
     Ok(Some(TestCommand::Session(name, addr)))
 }
 
+// The test that the words behind `reach` make, if they make one.
+fn read_reach(alloc: Global, rest: &[u8]) -> Result<Option<TestCommand>, AllocError>
+    ensures { IfOk result (λ test. test ≡ address_test_of command.Reach (words_of rest.now)) }
+{
+    let Some((name, addr)) = read_target(rest) else {
+        return Ok(None);
+    };
+    let name = Text::new(alloc, name)?;
+    Ok(Some(TestCommand::Reach(name, addr)))
+}
+
+// The test that the words behind `every` make, if they make one.
+fn read_every(alloc: Global, rest: &[u8]) -> Result<Option<TestCommand>, AllocError>
+    ensures { IfOk result (λ test. test ≡ address_test_of command.Every (words_of rest.now)) }
+{
+    let Some((name, addr)) = read_target(rest) else {
+        return Ok(None);
+    };
+    let name = Text::new(alloc, name)?;
+    Ok(Some(TestCommand::Every(name, addr)))
+}
+
+// The name and the number behind a command for a line; None where another thing stands there.
+fn read_numbered(rest: &[u8]) -> Option<(&[u8], u32)>
+    ensures { (make : List ℕ → ℕ → TestCommand)
+        → option_map (λ target. make target.0.now target.1) result
+        ≡ line_test_of make (words_of rest.now) }
+{
+    let (name, rest) = cut_word(rest)?;
+    let (word, behind) = cut_word(rest)?;
+    if cut_word(behind).is_some() {
+        return None;
+    }
+    let line = read_number(word, MOST_NUMBER)?;
+    Some((name, line))
+}
+
+// The test that the words behind `element` make, if they make one.
+fn read_element(alloc: Global, rest: &[u8]) -> Result<Option<TestCommand>, AllocError>
+    ensures { IfOk result (λ test. test ≡ line_test_of command.Element (words_of rest.now)) }
+{
+    let Some((name, line)) = read_numbered(rest) else {
+        return Ok(None);
+    };
+    let name = Text::new(alloc, name)?;
+    Ok(Some(TestCommand::Element(name, line)))
+}
+
 // The test that a command's first word and the words behind it make, if they make one.
 fn read_test(alloc: Global, word: &[u8], rest: &[u8]) -> Result<Option<TestCommand>, AllocError>
     ensures { IfOk result (λ test. test ≡ test_of word.now (words_of rest.now)) }
@@ -110,6 +158,15 @@ fn read_test(alloc: Global, word: &[u8], rest: &[u8]) -> Result<Option<TestComma
     }
     if word == b"session".as_slice() {
         return read_session(alloc, rest);
+    }
+    if word == b"reach".as_slice() {
+        return read_reach(alloc, rest);
+    }
+    if word == b"every".as_slice() {
+        return read_every(alloc, rest);
+    }
+    if word == b"element".as_slice() {
+        return read_element(alloc, rest);
     }
     Ok(None)
 }
