@@ -1,18 +1,20 @@
 -- What is answered to a test that tests something, and how many facts are inferred for it.
-use Rattle.std.proofs.Common.{◌≡◌, ℕ, ◌-◌, ◌<◌, ◌≤◌, Bool, true, false, nat_lt, List, [], ◌∷◌, ◌++◌, if◌then◌else◌, length, Option, Some, None, is_some, codes, inl, inr, refl, sym, ap, ◌∙◌, subst, arith}
+use Rattle.std.proofs.Common.{◌≡◌, ℕ, ◌-◌, ◌<◌, Bool, true, false, nat_lt, List, [], ◌∷◌, ◌++◌, if◌then◌else◌, length, Option, Some, None, is_some, codes, inl, inr, refl, sym, ap, ◌∙◌, subst, arith}
 use Rattle.std.proofs.lemmas.Bool.{lt-ltb}
 use Rattle.std.proofs.lemmas.List.{length-map}
 use Rattle.std.specs.List.{filter}
 use Rattle.std.specs.Option.{option_map, option_map_or}
-use Rattle.nc_types.specs.Network.{router_named}
+use Rattle.nc_types.specs.declared.TheConstants.{HOP_LIMIT}
+use Rattle.nc_types.specs.Network.{router_named, owner_at}
 use Rattle.nc_types.specs.declared.command.TestCommand.{TestCommand}
 use Rattle.nc_types.specs.declared.command.TestCommand.TheVariants.{Rib, Bgp, Session, Reach, Every, Element}
 use Rattle.nc_graph.specs.Closure.{IsClosure}
 use Rattle.nc_graph.specs.Flow.{raised}
 use Rattle.nc_tables.specs.State.{StateView}
 use Rattle.nc_fact.specs.declared.fact.Fact.{Fact}
+use Rattle.nc_fact.specs.declared.fact.Fact.TheVariants as fact
 use Rattle.nc_fact.specs.Facts.{holds}
-use Rattle.nc_fact.specs.Tested.{tested_facts, asked_rows, asked_of_bgp, asked_session}
+use Rattle.nc_fact.specs.Tested.{tested_facts, asked_rows, asked_of_bgp, asked_session, asked_element}
 use Rattle.nc_rules.specs.Rules.{flow_of}
 use Rattle.nc_rules.specs.Seen.{state_of, asked_of}
 use Rattle.nc_command.specs.declared.command.Command.TheVariants.{Test}
@@ -20,7 +22,7 @@ use Rattle.nc_command.specs.Command.{Asks, text_of}
 use Rattle.nc_session.specs.declared.TheConstants.{TEST_LIMIT, FACT_LIMIT}
 use Rattle.nc_session.specs.declared.work.Work.{Work}
 use Rattle.nc_session.specs.Texts.{line_of}
-use Rattle.nc_session.specs.Session.{KeptTest, State, IsReply, Counts, Tests, Named, router_of, asked_in}
+use Rattle.nc_session.specs.Session.{KeptTest, State, IsReply, Refuses, Counts, Tests, Lined, Named, has_line, router_of, asked_in}
 use Rattle.nc_session.specs.Engine.{Infers, InfersAll, asked_for}
 use Rattle.nc_session.specs.Work.{IsWork, Takes, Replies, Counted, test_view, tests_of}
 use Rattle.nc_session.proofs.Working.{asked-more}
@@ -90,9 +92,9 @@ unfolding tested_facts
 none-named s (Rib name prefix via) none = ap (λ (r : Option ℕ). filter (holds s) (option_map_or (λ router. asked_rows s router prefix via) r [])) none
 none-named s (Bgp name prefix from) none = ap (λ (r : Option ℕ). filter (holds s) (option_map_or (λ router. asked_of_bgp s router prefix from) r [])) none
 none-named s (Session name addr) none = ap (λ (r : Option ℕ). filter (holds s) (option_map_or (λ router. asked_session s router addr) r [])) none
-none-named s (Reach name addr) none = refl
-none-named s (Every name addr) none = refl
-none-named s (Element name line) none = refl
+none-named s (Reach name addr) none = ap (λ (r : Option ℕ). filter (holds s) (option_map_or (λ router. fact.Trace (record { 0 = router }) addr HOP_LIMIT ∷ []) r [])) none
+none-named s (Every name addr) none = ap (λ (r : Option ℕ). filter (holds s) (option_map_or (λ router. fact.AllTrace (record { 0 = router }) addr HOP_LIMIT ∷ []) r [])) none
+none-named s (Element name line) none = ap (λ (r : Option ℕ). filter (holds s) (option_map_or (λ router. asked_element s router line) r [])) none
 
 -- no router is found
 pub unnamed : {R : Type 0} (number : R → ℕ) (found : Option R) (router : Option ℕ) → is_some found ≡ false → option_map number found ≡ router → router ≡ None
@@ -105,14 +107,40 @@ pub unknown : (s : StateView) (tests : List KeptTest) (test : TestCommand) → r
 unknown s tests test none =
     subst (λ (r : Option ℕ). Named s r (record { tests = tests }) test (line_of (codes "refused router " ++ router_of test)) (record { tests = tests })) (sym none) (refl, refl)
 
--- a test whose router is there, and that tests something, is answered as its facts are
-pub named : {R : Type 0} (number : R → ℕ) (found : Option R) (s : StateView) (test : TestCommand) (facts : List Fact) (old new : State) (reply : List ℕ)
-    → is_some found ≡ true → option_map number found ≡ router_named s.routers (router_of test) → facts ≡ tested_facts s test → 0 < length facts
-    → Counts s (nat_lt (length old.tests) TEST_LIMIT) old facts reply new → Named s (router_named s.routers (router_of test)) old test reply new
-named number None s test facts old new reply there is tests some counts = absurd (cc)
-named number (Some router) s test facts old new reply there is tests some counts =
-    subst (λ (r : Option ℕ). Named s r old test reply new) is (subst (λ (fs : List Fact). Tests s old fs (text_of test) reply new) tests (tests_some facts some counts))
+-- a test of a line that no element has asks for no fact
+pub none-lined : (s : StateView) (router : ℕ) (test : TestCommand) → router_named s.routers (router_of test) ≡ Some router → has_line s router test ≡ false → tested_facts s test ≡ []
+unfolding tested_facts
+none-lined s router (Rib name prefix via) at none = absurd (cc)
+none-lined s router (Bgp name prefix from) at none = absurd (cc)
+none-lined s router (Session name addr) at none = absurd (cc)
+none-lined s router (Reach name addr) at none = absurd (cc)
+none-lined s router (Every name addr) at none = absurd (cc)
+none-lined s router (Element name line) at none =
+    ap (λ (r : Option ℕ). filter (holds s) (option_map_or (λ router. asked_element s router line) r [])) at
+    ∙ ap (λ (o : Option ℕ). filter (holds s) (option_map_or (λ element. fact.Element (record { 0 = element }) ∷ []) o [])) (no_owner (owner_at s.routers router line) none)
   where
-    tests_some : (fs : List Fact) → 0 < length fs → Counts s (nat_lt (length old.tests) TEST_LIMIT) old fs reply new → Tests s old fs (text_of test) reply new
-    tests_some [] few counts = absurd (omega arith)
-    tests_some (f ∷ fs) few counts = counts
+    no_owner : (o : Option ℕ) → is_some o ≡ false → o ≡ None
+    no_owner None out = refl
+    no_owner (Some element) out = absurd (cc)
+
+module _ (s : StateView) (router : ℕ) (test : TestCommand) (old new : State) (reply : List ℕ) where
+  -- such a test is refused
+  pub unlined : has_line s router test ≡ false → Refuses old (codes "refused line") reply new → Lined s (has_line s router test) old test reply new
+  unlined none refuses = subst (λ (b : Bool). Lined s b old test reply new) (sym none) refuses
+
+  -- any other is answered as its facts are
+  pub lined : has_line s router test ≡ true → Tests s old (tested_facts s test) (text_of test) reply new → Lined s (has_line s router test) old test reply new
+  lined there tests = subst (λ (b : Bool). Lined s b old test reply new) (sym there) tests
+
+  pub named : router_named s.routers (router_of test) ≡ Some router → Lined s (has_line s router test) old test reply new
+      → Named s (router_named s.routers (router_of test)) old test reply new
+  named at lines = subst (λ (r : Option ℕ). Named s r old test reply new) (sym at) lines
+
+-- a test that tests nothing is absent
+pub untested : (s : StateView) (facts : List Fact) (old : State) (text reply : List ℕ) (new : State) → facts ≡ [] → Refuses old (codes "refused absent " ++ text) reply new → Tests s old facts text reply new
+untested s facts old text reply new none refuses = subst (λ (fs : List Fact). Tests s old fs text reply new) (sym none) refuses
+
+-- one that tests something is counted
+pub tested : (s : StateView) (facts : List Fact) (old : State) (text reply : List ℕ) (new : State) → 0 < length facts → Counts s (nat_lt (length old.tests) TEST_LIMIT) old facts reply new → Tests s old facts text reply new
+tested s [] old text reply new few counts = absurd (omega arith)
+tested s (f ∷ fs) old text reply new some counts = counts

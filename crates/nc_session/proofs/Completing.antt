@@ -1,5 +1,5 @@
 -- How a run ends where nothing fails, and where too many files are named.
-use Rattle.std.proofs.Common.{◌≡◌, ◌⊎◌, ℕ, ◌<◌, ◌≤◌, Bool, true, false, cond, length, List, [], Option, None, Some, Result, Ok, Err, IfSome, refl, sym, ap, inl, inr, arith}
+use Rattle.std.proofs.Common.{◌≡◌, ◌⊎◌, ℕ, ◌<◌, Bool, true, cond, length, List, [], Option, None, Some, Result, Ok, Err, IfSome, refl, sym, ap, inl, inr, arith}
 use Rattle.std.specs.Option.{option_map_or}
 use Rattle.nc_outside.specs.Named.{Named}
 use Rattle.nc_outside.specs.Counts.{Faults, Rose}
@@ -8,10 +8,9 @@ use Rattle.nc_types.specs.declared.TheConstants.{ROUTER_LIMIT}
 use Rattle.nc_session.specs.declared.status.Status.{Status}
 use Rattle.nc_session.specs.declared.status.Status.TheVariants.{Done, Config, Usage, Unstable, InputFault, OutputFault, FileFault, Memory, Limit}
 use Rattle.nc_session.specs.Words.{RequestView, request_of}
-use Rattle.nc_session.specs.Load.{Refusal, Missing, load}
-use Rattle.nc_session.specs.Refusals.{refusal_status}
+use Rattle.nc_session.specs.Load.{Refusal, load}
 use Rattle.nc_session.specs.Output.{is_within}
-use Rattle.nc_session.specs.Leaving.{Told, Failures}
+use Rattle.nc_session.specs.Leaving.{Failures}
 use Rattle.nc_session.specs.Causes.{IsLimitOrUntold, files_of, status_of, Settles, IsOverLimit, IsAbsent}
 use Rattle.nc_session.specs.Ending.{Seen, IsNamingFew, EndsAs}
 

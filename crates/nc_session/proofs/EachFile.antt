@@ -11,7 +11,7 @@ use Rattle.nc_session.specs.declared.refusal.LoadFault.TheVariants as faults
 use Rattle.nc_session.specs.File.{FileView}
 use Rattle.nc_session.specs.Load.{Refusal, TooMany, Missing, Faulty, Unsettled, load_content, load_each, file_named, file_of, and_then, before_all}
 use Rattle.nc_session.specs.Causes.{EntersInTurn, EntersEach}
-use Rattle.nc_session.specs.Loading.{IsFault, IsMissingOf, HasFaultCause, IsFileOf, AddsFile, AreFilesNamed}
+use Rattle.nc_session.specs.Loading.{IsFault, IsMissingOf, HasFaultCause, AddsFile, AreFilesNamed}
 use Rattle.nc_session.proofs.Options.{some_more}
 
 -- all of several outcomes, in front of those of more files

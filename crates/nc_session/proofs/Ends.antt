@@ -1,10 +1,10 @@
 -- How a run ends, from what its last step answered.
-use Rattle.std.proofs.Common.{◌≡◌, ◌≢◌, ◌⊎◌, ℕ, ◌<◌, ◌≤◌, true, false, length, List, [], ◌++◌, Option, None, Some, Result, Ok, Err, IfSome, refl, sym, ap, ◌∙◌, subst, inl, inr, arith}
+use Rattle.std.proofs.Common.{◌≡◌, ◌≢◌, ◌⊎◌, ℕ, ◌≤◌, true, false, length, List, Option, None, Some, Result, Ok, Err, IfSome, refl, sym, ap, ◌∙◌, subst, inl, inr}
 use Rattle.std.specs.Prelude.{IfOk, MatchResult}
 use Rattle.std.specs.Option.{option_map_or}
 use Rattle.std.specs.Io.KnownBytes.{Appends, Keeps}
 use Rattle.nc_outside.specs.Named.{Named}
-use Rattle.nc_outside.specs.Counts.{Faults, Rose, Follows}
+use Rattle.nc_outside.specs.Counts.{Rose, Follows}
 use Rattle.nc_tables.specs.State.{StateView}
 use Rattle.nc_types.specs.declared.TheConstants.{ROUTER_LIMIT}
 use Rattle.nc_session.specs.declared.refusal.LoadFault.{LoadFault}
@@ -13,14 +13,14 @@ use Rattle.nc_session.specs.declared.refusal.Quantity.TheVariants.{Routers}
 use Rattle.nc_session.specs.declared.status.Status.{Status}
 use Rattle.nc_session.specs.declared.status.Status.TheVariants.{Done, Config, Usage, Unstable, InputFault, OutputFault, FileFault, Memory, Limit}
 use Rattle.nc_session.specs.Words.{RequestView, request_of}
-use Rattle.nc_session.specs.Load.{Refusal, WrongWords, TooMany, Faulty, Unsettled, load, load_names, load_settled, load_request, file_named}
+use Rattle.nc_session.specs.Load.{Refusal, WrongWords, TooMany, Faulty, Unsettled, load, load_request, file_named}
 use Rattle.nc_session.specs.Refusals.{usage_text, refusal_status, refusal_text}
-use Rattle.nc_session.specs.Output.{Concludes, Output, Writes, Serves, is_within}
+use Rattle.nc_session.specs.Output.{Concludes, Writes, Serves, is_within}
 use Rattle.nc_session.specs.Serving.{AppendsFront}
-use Rattle.nc_session.specs.Leaving.{Takes, IsCutShort, Begins, Leaves, FailsAs, Told, Failures}
+use Rattle.nc_session.specs.Leaving.{Takes, IsCutShort, Begins, Leaves, FailsAs, Told}
 use Rattle.nc_session.specs.Causes.{IsEarly, IsLate, IsAbsent, Settles, IsOverLimit, IsUnsettled, IsOpenSession, AnswersTaken, IsBeginning}
 use Rattle.nc_session.specs.Loading.{IsFault, IsMissingOf, HasFaultCause}
-use Rattle.nc_session.specs.Ending.{SinkSeen, Says, Silent, EndsRefused, Seen, NoFault, IsTold, IsLimited, IsTakenWhole, IsCutOff, IsBrokenOff, EndsAs}
+use Rattle.nc_session.specs.Ending.{SinkSeen, Says, Silent, EndsRefused, Seen, NoFault, IsTold, IsLimited, IsBrokenOff, EndsAs}
 use Rattle.nc_session.proofs.Options.{some_of, some_more, keeps_same, writes, writes_none, writes_more}
 
 abbrev Outcome : Type 0

@@ -1,5 +1,5 @@
 -- Which files are entered in a run.
-use Rattle.std.proofs.Common.{◌≡◌, ℕ, List, [], ◌++◌, Option, Ok, IfSome, refl}
+use Rattle.std.proofs.Common.{◌≡◌, ℕ, List, [], Option, Ok, refl}
 use Rattle.nc_types.specs.Config.{ConfigView}
 use Rattle.nc_outside.specs.Named.{Named}
 use Rattle.nc_outside.specs.Counts.{Entries}

@@ -1,7 +1,7 @@
 -- A session can always go on: while the facts of all tests hold, there is a reply to every line.
-use Rattle.std.proofs.Common.{◌≡◌, ◌↔◌, ◌⊎◌, ℕ, zero, suc, ◌+◌, ◌<◌, ◌≤◌, Bool, true, false, cond, nat_lt, List, [], ◌∷◌, ◌++◌, length, map, filter, All, Any, Option, Some, None, refl, sym, ap, ◌∙◌, subst, inl, inr, append-nil, arith}
-use Rattle.std.specs.Prelude.{slice_get, slice_index_or, codes, if◌then◌else◌}
-use Rattle.std.specs.List.{list_any, flat_map}
+use Rattle.std.proofs.Common.{◌≡◌, ◌↔◌, ℕ, zero, suc, ◌+◌, ◌<◌, Bool, true, false, cond, nat_lt, List, [], ◌∷◌, ◌++◌, length, map, filter, All, Any, Option, Some, None, refl, sym, ap, ◌∙◌, subst, inl, inr, append-nil, arith}
+use Rattle.std.specs.Prelude.{slice_get, slice_index_or, codes}
+use Rattle.std.specs.List.{list_any}
 use Rattle.std.proofs.Math.Seq.{take-append_seam, drop-append_seam}
 use Rattle.std.proofs.lemmas.Bool.{cases_lt, both_ways}
 use Rattle.std.proofs.lemmas.Grind.{flat_map-append}
@@ -12,12 +12,12 @@ use Rattle.nc_types.proofs.Members.{all_by_in, in_by_filter}
 use Rattle.nc_types.specs.Network.{owner_at, router_named}
 use Rattle.nc_types.specs.declared.command.TestCommand.{TestCommand}
 use Rattle.nc_graph.specs.Closure.{IsClosure, ReachesMoreThan}
-use Rattle.nc_graph.specs.Flow.{Flow, IsFlow}
+use Rattle.nc_graph.specs.Flow.{Flow}
 use Rattle.nc_graph.specs.Derivation.{IsStrong, IsInSome, strong, occurs}
 use Rattle.nc_marks.specs.Marks.{IsMark}
 use Rattle.nc_marks.specs.declared.mark.Mark.{Mark}
 use Rattle.nc_marks.specs.declared.mark.Mark.TheVariants.{Strong, Weak, Uncovered, Outside}
-use Rattle.nc_tables.specs.State.{StateView, IsState}
+use Rattle.nc_tables.specs.State.{StateView}
 use Rattle.nc_fact.specs.declared.fact.Fact.{Fact}
 use Rattle.nc_fact.specs.Facts.{holds}
 use Rattle.nc_fact.specs.Tested.{tested_facts, named_facts}
@@ -27,7 +27,7 @@ use Rattle.nc_command.specs.Command.{Line, Passed, TooLong, Unread, Asks, comman
 use Rattle.nc_session.specs.declared.TheConstants.{TEST_LIMIT, FACT_LIMIT}
 use Rattle.nc_session.specs.Texts.{Sheet, letter, line_of, accepted_of, report_of}
 use Rattle.nc_session.specs.Marks.{AreLineMarks, IsSheet, IsReport}
-use Rattle.nc_session.specs.Session.{KeptTest, live_test, State, no_tests, asked_in, live_in, router_of, IsReply, Counts, Tests, Named as IsNamed, Answers, Step, Run}
+use Rattle.nc_session.specs.Session.{KeptTest, live_test, State, no_tests, asked_in, live_in, router_of, IsReply, Counts, Tests, Lined, Named as IsNamed, has_line, Answers, Run}
 use Rattle.nc_session.specs.Leaving.{GoesOn}
 
 -- ---- lists that are made
@@ -186,9 +186,13 @@ module _ (s : StateView) where
   tests_keep old [] text reply new these hold absent = subst Holds (sym absent.1) hold
   tests_keep old (fact ∷ facts) text reply new these hold counted = counts_keep (nat_lt (length old.tests) TEST_LIMIT) old (fact ∷ facts) reply new these hold counted
 
+  lined_keep : (there : Bool) (old : State) (test : TestCommand) (reply : List ℕ) (new : State) → Holds old → Lined s there old test reply new → Holds new
+  lined_keep false old test reply new hold unlined = subst Holds (sym unlined.1) hold
+  lined_keep true old test reply new hold tested = tests_keep old (tested_facts s test) (text_of test) reply new (tested_hold test) hold tested
+
   named_keep : (router : Option ℕ) (old : State) (test : TestCommand) (reply : List ℕ) (new : State) → Holds old → IsNamed s router old test reply new → Holds new
   named_keep None old test reply new hold unknown = subst Holds (sym unknown.1) hold
-  named_keep (Some router) old test reply new hold tested = tests_keep old (tested_facts s test) (text_of test) reply new (tested_hold test) hold tested
+  named_keep (Some router) old test reply new hold lined = lined_keep (has_line s router test) old test reply new hold lined
 
   answer_keeps : (old : State) (line : Line) (reply : List ℕ) (new : State) → Holds old → Answers s old line reply new → Holds new
   answer_keeps old Passed reply new hold a = subst Holds (sym a.1) hold
@@ -233,9 +237,13 @@ module _ (s : StateView) where
     tests_some old [] text these hold = (line_of (codes "refused absent " ++ text), old, (refl, refl))
     tests_some old (fact ∷ facts) text these hold = counts_some (nat_lt (length old.tests) TEST_LIMIT) old (fact ∷ facts) these hold
 
+    lined_some : (there : Bool) (old : State) (test : TestCommand) → Holds old → (reply : List ℕ) × (new : State) × Lined s there old test reply new
+    lined_some false old test hold = (line_of (codes "refused line"), old, (refl, refl))
+    lined_some true old test hold = tests_some old (tested_facts s test) (text_of test) (tested_hold test) hold
+
     named_some : (router : Option ℕ) (old : State) (test : TestCommand) → Holds old → (reply : List ℕ) × (new : State) × IsNamed s router old test reply new
     named_some None old test hold = (line_of (codes "refused router " ++ router_of test), old, (refl, refl))
-    named_some (Some router) old test hold = tests_some old (tested_facts s test) (text_of test) (tested_hold test) hold
+    named_some (Some router) old test hold = lined_some (has_line s router test) old test hold
 
     answer_some : (old : State) (line : Line) → Holds old → (reply : List ℕ) × (new : State) × Answers s old line reply new
     answer_some old Passed hold = ([], old, (refl, refl))

@@ -1,9 +1,7 @@
 -- What comes of a file that was entered and read whole.
-use Rattle.std.proofs.Common.{◌≡◌, ◌≤◌, ℕ, List, [], ◌++◌, length, Option, Some, None, Result, Ok, Err, Bool, cond, nat_le, IfSome, unwrap_or, append-nil, refl, sym, ap, ◌∙◌, subst}
+use Rattle.std.proofs.Common.{◌≡◌, ◌≤◌, ℕ, List, [], ◌++◌, length, Option, Some, None, Result, Err, Bool, cond, IfSome, unwrap_or, append-nil, sym, ap, ◌∙◌, subst}
 use Rattle.std.specs.Io.KnownBytes.{Consumes, IsAtEnd}
-use Rattle.std.proofs.lemmas.Bool.{leb-true}
 use Rattle.std.proofs.lemmas.Bool.{le-leb}
-use Rattle.nc_types.specs.Config.{ConfigView}
 use Rattle.nc_lines.specs.Lines.{lines_of}
 use Rattle.nc_outside.specs.Named.{Named, Enters, content_of}
 use Rattle.nc_session.specs.declared.TheConstants.{FILE_LIMIT}
@@ -11,7 +9,7 @@ use Rattle.nc_session.specs.declared.refusal.LoadFault.{LoadFault}
 use Rattle.nc_session.specs.declared.load.FileRead.{FileRead}
 use Rattle.nc_session.specs.File.{FileView}
 use Rattle.nc_session.specs.Reading.{IsRead}
-use Rattle.nc_session.specs.Load.{Refusal, TooMany, load_lines, load_content, file_of}
+use Rattle.nc_session.specs.Load.{TooMany, load_lines, load_content, file_of}
 use Rattle.nc_session.specs.declared.refusal.Quantity.TheVariants.{Bytes}
 use Rattle.nc_session.specs.Loading.{IsOne, IsFileOf}
 

@@ -25,7 +25,7 @@ use Rattle.nc_session.specs.declared.TheConstants.{TEST_LIMIT}
 use Rattle.nc_session.specs.declared.status.Status.{Status}
 use Rattle.nc_session.specs.Texts.{Sheet, letter, accepted_of, report_of}
 use Rattle.nc_session.specs.Marks.{AreLineMarks, IsSheet, IsReport}
-use Rattle.nc_session.specs.Session.{KeptTest, State, no_tests, asked_in, live_in, router_of, until_quit, IsReply, Counts, Tests, Named as IsNamed, Answers, Run, AreReplies}
+use Rattle.nc_session.specs.Session.{KeptTest, State, no_tests, asked_in, live_in, router_of, until_quit, IsReply, Counts, Tests, Lined, Named as IsNamed, has_line, Answers, Run, AreReplies}
 use Rattle.nc_session.specs.Load.{Refusal, load}
 use Rattle.nc_session.specs.Refusals.{long_session_text}
 use Rattle.nc_session.specs.Output.{ServesWithin, Concludes, Output, is_within, served_lines}
@@ -127,9 +127,13 @@ module _ (lengths : (g : Flow Fact) → IsFlow g → (fs xs ys : List Fact) → 
   tests_once old [] text r t m n p q = (p.0 ∙ sym q.0, p.1 ∙ sym q.1)
   tests_once old (fact ∷ facts) text r t m n p q = counts_once (nat_lt (length old.tests) TEST_LIMIT) old (fact ∷ facts) r t m n p q
 
+  lined_once : (there : Bool) (old : State) (test : TestCommand) (r t : List ℕ) (m n : State) → Lined s there old test r m → Lined s there old test t n → Same r t m n
+  lined_once false old test r t m n p q = (p.0 ∙ sym q.0, p.1 ∙ sym q.1)
+  lined_once true old test r t m n p q = tests_once old (tested_facts s test) (text_of test) r t m n p q
+
   named_once : (router : Option ℕ) (old : State) (test : TestCommand) (r t : List ℕ) (m n : State) → IsNamed s router old test r m → IsNamed s router old test t n → Same r t m n
   named_once None old test r t m n p q = (p.0 ∙ sym q.0, p.1 ∙ sym q.1)
-  named_once (Some router) old test r t m n p q = tests_once old (tested_facts s test) (text_of test) r t m n p q
+  named_once (Some router) old test r t m n p q = lined_once (has_line s router test) old test r t m n p q
 
   answer_once : (old : State) (line : Line) (r t : List ℕ) (m n : State) → Answers s old line r m → Answers s old line t n → Same r t m n
   answer_once old Passed r t m n p q = (p.0 ∙ sym q.0, p.1 ∙ sym q.1)

@@ -1,5 +1,5 @@
 -- What a session leaves, from what was taken of it and answered.
-use Rattle.std.proofs.Common.{◌≡◌, ◌⊎◌, ℕ, ◌+◌, ◌-◌, ◌<◌, ◌≤◌, Bool, true, false, cond, nat_le, List, [], ◌∷◌, ◌++◌, length, take, Option, None, Some, IfSome, refl, sym, ap, ◌∙◌, subst, append_assoc, append-nil, length-append, inl, inr, arith}
+use Rattle.std.proofs.Common.{◌≡◌, ℕ, ◌+◌, ◌-◌, ◌<◌, ◌≤◌, Bool, true, false, cond, List, [], ◌++◌, length, take, Option, None, Some, IfSome, refl, sym, ap, ◌∙◌, subst, append_assoc, append-nil, length-append, inl, inr, arith}
 use Rattle.std.specs.Io.KnownBytes.{Appends, Consumes, IsAtEnd}
 use Rattle.std.proofs.KnownBytes.{Appends-trans}
 use Rattle.std.proofs.Math.Seq.{take-append-add, take-append_seam}
@@ -9,11 +9,9 @@ use Rattle.std.proofs.lemmas.List.Folds.{list_any-append}
 use Rattle.nc_lines.specs.Lines.{lines_of}
 use Rattle.nc_lines.specs.WholeLines.{whole_lines_of, open_of}
 use Rattle.nc_lines.proofs.WholeLines.{whole_more, lines_more}
-use Rattle.nc_command.specs.Cutting.{held_of}
 use Rattle.nc_tables.specs.State.{StateView}
 use Rattle.nc_session.specs.declared.TheConstants.{SESSION_LIMIT}
-use Rattle.nc_session.specs.declared.status.Status.{Status}
-use Rattle.nc_session.specs.declared.status.Status.TheVariants.{Done, InputFault, OutputFault, Memory, Limit}
+use Rattle.nc_session.specs.declared.status.Status.TheVariants.{Done, InputFault, Limit}
 use Rattle.nc_session.specs.File.{FileView}
 use Rattle.nc_session.specs.Session.{State, no_tests, Run, AreReplies, is_quit, until_quit}
 use Rattle.nc_session.specs.Engine.{Progress, begin_at}

@@ -1,5 +1,5 @@
 -- A session that is served piece by piece.
-use Rattle.std.proofs.Common.{◌≡◌, ◌≢◌, ℕ, ◌+◌, ◌<◌, ◌≤◌, min, ◌==◌, Bool, true, false, ◌&&◌, ◌||◌, nat_lt, cond, List, [], ◌∷◌, ◌++◌, length, take, map, Option, None, Some, Result, Ok, Err, inl, inr, refl, sym, ap, ◌∙◌, subst, append_assoc, append-nil, length-append, arith}
+use Rattle.std.proofs.Common.{◌≡◌, ◌≢◌, ℕ, ◌+◌, ◌<◌, ◌≤◌, min, true, false, List, [], ◌∷◌, ◌++◌, length, take, map, Option, Some, Result, Ok, Err, inl, inr, refl, sym, ap, ◌∙◌, subst, append_assoc, append-nil, length-append, arith}
 use Rattle.std.specs.Prelude.{if◌then◌else◌, IfOk}
 use Rattle.std.specs.List.{list_any}
 use Rattle.std.specs.Io.KnownBytes.{Appends, Keeps, Consumes, IsAtEnd}
@@ -7,11 +7,11 @@ use Rattle.std.proofs.KnownBytes.{Appends-nil, Consumes-nil, Consumes-trans, Con
 use Rattle.nc_outside.specs.Counts.{Faults}
 use Rattle.std.proofs.lemmas.List.{length-take}
 use Rattle.nc_lines.specs.Lines.{is_empty, is_feed, lines_of, without_return}
-use Rattle.nc_lines.specs.WholeLines.{whole_lines_of, open_of, last_line}
+use Rattle.nc_lines.specs.WholeLines.{whole_lines_of, open_of}
 use Rattle.nc_lines.proofs.WholeLines.{whole_more, whole_held, open_held, whole_fed, open_fed, lines_end, whole_of_open, open_of_open}
 use Rattle.nc_command.specs.declared.TheConstants.{HELD_LIMIT}
 use Rattle.nc_command.specs.declared.cutter.Cut.{Cut}
-use Rattle.nc_command.specs.Cutting.{cut_of, front_of, held_of, CutsFirst, HoldsAll, Ends}
+use Rattle.nc_command.specs.Cutting.{cut_of, front_of, held_of}
 use Rattle.nc_command.proofs.CutLemmas.{cut_front, front_more}
 use Rattle.nc_tables.specs.State.{StateView}
 use Rattle.nc_session.specs.declared.TheConstants.{SESSION_LIMIT}

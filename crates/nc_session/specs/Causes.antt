@@ -1,5 +1,5 @@
 -- With which status a run ends and for what cause, and what it leaves of the files, the source and the sink.
-use Rattle.std.specs.Prelude.{◌≡◌, ◌⊎◌, ℕ, ◌<◌, ◌+◌, ◌≤◌, false, List, [], ◌∷◌, ◌++◌, length, Option, None, Some, IfSome, Result, Ok, Err, IsOkAnd, if◌then◌else◌}
+use Rattle.std.specs.Prelude.{◌≡◌, ◌⊎◌, ℕ, ◌+◌, ◌≤◌, false, List, [], ◌∷◌, ◌++◌, length, Option, None, Some, IfSome, Result, Ok, Err, IsOkAnd, if◌then◌else◌}
 use Rattle.std.specs.Option.{option_map_or}
 use Rattle.nc_outside.specs.Named.{Named, content_of}
 use Rattle.nc_outside.specs.Counts.{Entries, entries_after}
@@ -12,7 +12,7 @@ use Rattle.nc_session.specs.declared.status.Status.TheVariants.{Done, Config, Us
 use Rattle.nc_session.specs.Words.{request_of}
 use Rattle.nc_session.specs.Load.{Refusal, TooMany, Missing, Unsettled, load, load_each}
 use Rattle.nc_session.specs.Refusals.{refusal_status}
-use Rattle.nc_session.specs.Output.{Concludes, Writes, has_quit, is_within}
+use Rattle.nc_session.specs.Output.{Concludes, has_quit, is_within}
 use Rattle.nc_session.specs.Reading.{TakesAtMost}
 use Rattle.nc_session.specs.Leaving.{Takes, IsCutShort}
 

@@ -18,7 +18,7 @@ use Rattle.nc_session.specs.declared.refusal.LoadFault.{LoadFault}
 use Rattle.nc_session.specs.declared.refusal.LoadFault.TheVariants.{Outside, Over, Bad, Memory}
 use Rattle.nc_session.specs.declared.refusal.LoadFault.TheVariants as faults
 use Rattle.nc_session.specs.declared.refusal.Reason.TheVariants.{SameName, Overlap, SameAddress, Undefined}
-use Rattle.nc_session.specs.File.{FileView, file_view}
+use Rattle.nc_session.specs.File.{FileView}
 use Rattle.nc_session.specs.Load.{Refusal, TooMany, Missing, Faulty, Unsettled, quantity_of, load_judged, load_settled, file_named, file_of}
 
 abbrev pub load_stop : Stop → LoadFault

@@ -1,7 +1,7 @@
 -- A session: what a line of it is replied, and what is kept.
-use Rattle.std.specs.Prelude.{◌≡◌, ◌⊎◌, ℕ, Bool, true, false, nat_lt, List, [], ◌∷◌, ◌++◌, length, Option, Some, None, if◌then◌else◌, codes}
+use Rattle.std.specs.Prelude.{◌≡◌, ◌⊎◌, ℕ, Bool, true, false, nat_lt, List, [], ◌∷◌, ◌++◌, length, Option, Some, None, is_some, if◌then◌else◌, codes}
 use Rattle.std.specs.List.{flat_map}
-use Rattle.nc_types.specs.Network.{router_named}
+use Rattle.nc_types.specs.Network.{router_named, owner_at}
 use Rattle.nc_types.specs.declared.command.TestCommand.{TestCommand}
 use Rattle.nc_types.specs.declared.command.TestCommand.TheVariants.{Rib, Bgp, Session, Reach, Every, Element}
 use Rattle.nc_graph.specs.Closure.{IsClosure, ReachesMoreThan}
@@ -77,13 +77,24 @@ module _ (s : StateView) where
   Counts true old facts reply new = Overfills old facts reply new ⊎ Accepts old facts reply new
   Counts false old facts reply new = Refuses old (codes "refused limit tests") reply new
 
-  -- a test whose router is named: it is absent where it tests no fact
+  -- a test that is absent where it tests no fact
   abbrev pub Tests : State → List Fact → List ℕ → List ℕ → State → Type 0
   Tests old [] text reply new = Refuses old (codes "refused absent " ++ text) reply new
   Tests old (fact ∷ facts) text reply new = Counts (nat_lt (length old.tests) TEST_LIMIT) old (fact ∷ facts) reply new
 
+  -- a router has the element that a test asks for by a line, if the test asks for one
+  abbrev pub has_line : ℕ → TestCommand → Bool
+  has_line router (Element name line) = is_some (owner_at s.routers router line)
+  has_line router test = true
+
+  -- a test of a router that is there: a line that no element has is refused before anything is tested
+  abbrev pub Lined : Bool → State → TestCommand → List ℕ → State → Type 0
+  Lined true old test reply new = Tests old (tested_facts s test) (text_of test) reply new
+  Lined false old test reply new = Refuses old (codes "refused line") reply new
+
+  -- a test by the number of its router, where one has the name
   abbrev pub Named : Option ℕ → State → TestCommand → List ℕ → State → Type 0
-  Named (Some router) old test reply new = Tests old (tested_facts s test) (text_of test) reply new
+  Named (Some router) old test reply new = Lined (has_line router test) old test reply new
   Named None old test reply new = Refuses old (codes "refused router " ++ router_of test) reply new
 
   -- what a line is replied, and what is kept

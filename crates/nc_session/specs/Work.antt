@@ -9,14 +9,15 @@ use Rattle.nc_graph.specs.Nodes.{Nodes, Mirrors, AreNodesOf, node_flow}
 use Rattle.nc_marks.specs.Kept.{Kept, AreKept}
 use Rattle.nc_tables.specs.State.{StateView, IsState}
 use Rattle.nc_fact.specs.declared.fact.Fact.{Fact}
+use Rattle.nc_fact.specs.Tested.{tested_facts}
 use Rattle.nc_rules.specs.Rules.{flow_of}
 use Rattle.nc_rules.specs.Seen.{state_of, asked_of}
 use Rattle.nc_command.specs.declared.command.Command.TheVariants.{Test}
-use Rattle.nc_command.specs.Command.{Asks}
+use Rattle.nc_command.specs.Command.{Asks, text_of}
 use Rattle.nc_session.specs.declared.TheConstants.{TEST_LIMIT, FACT_LIMIT}
 use Rattle.nc_session.specs.declared.work.Work.{Work}
 use Rattle.nc_session.specs.declared.work.KeptTest.{KeptTest as Made}
-use Rattle.nc_session.specs.Session.{KeptTest, State, live_test, asked_in, live_in, router_of, IsReply, Counts, Named}
+use Rattle.nc_session.specs.Session.{KeptTest, State, live_test, asked_in, live_in, router_of, has_line, IsReply, Counts, Tests, Lined, Named}
 use Rattle.nc_session.specs.Sheets.{sheets_from}
 use Rattle.nc_session.specs.File.{FileView}
 use Rattle.nc_session.specs.Engine.{Progress, Infers, asked_for}
@@ -76,6 +77,17 @@ abbrev pub Counted : Work → Work → List Fact → List ℕ → List ℕ → T
 Counted old new facts before after =
     Turned old new (Counts (state_of old.rules) (nat_lt (length (tests_of old)) TEST_LIMIT) (record { tests = tests_of old }) facts)
     (if nat_lt (length (tests_of old)) TEST_LIMIT then facts else []) before after
+
+-- the same of a test, where its router and its line are there; where its router is; and of any
+abbrev pub Told : Work → Work → TestCommand → List ℕ → List ℕ → Type 0
+Told old new test before after =
+    Turned old new (Tests (state_of old.rules) (record { tests = tests_of old }) (tested_facts (state_of old.rules) test) (text_of test))
+    (asked_for (state_of old.rules) (tests_of old) (Asks (Test test))) before after
+
+abbrev pub TestedAt : Work → Work → ℕ → TestCommand → List ℕ → List ℕ → Type 0
+TestedAt old new router test before after =
+    Turned old new (Lined (state_of old.rules) (has_line (state_of old.rules) router test) (record { tests = tests_of old }) test)
+    (asked_for (state_of old.rules) (tests_of old) (Asks (Test test))) before after
 
 abbrev pub Tested : Work → Work → TestCommand → List ℕ → List ℕ → Type 0
 Tested old new test before after =

@@ -1,8 +1,8 @@
 //! Serving a session: every line is answered, and the replies to the whole lines of a piece are written before it is left.
 
-ghost use Rattle.std.specs.Prelude.{◌≡◌, ◌≢◌, ℕ, ◌<◌, ◌++◌, ◌∷◌, [], List, Option, Err, length, position, IfSome, MatchOption, IfOk, OnOk, OnErr, codes};
+ghost use Rattle.std.specs.Prelude.{◌≡◌, ◌≢◌, ℕ, ◌<◌, ◌++◌, ◌∷◌, [], List, Option, Err, length, IfSome, MatchOption, IfOk, OnOk, OnErr, codes};
 ghost use Rattle.std.specs.Io.KnownBytes.{Appends};
-ghost use Rattle.nc_lines.specs.Lines.{is_feed, without_return};
+ghost use Rattle.nc_lines.specs.Lines.{without_return};
 ghost use Rattle.nc_lines.specs.WholeLines.{whole_lines_of};
 ghost use Rattle.nc_command.specs.Cutting.{cut_of, held_of};
 ghost use Rattle.nc_session.specs.declared.serving.TheConstants.{PENDING_LIMIT};
@@ -15,7 +15,7 @@ ghost use Rattle.nc_session.specs.Serving.{AppendsFront, AppendsPart, EndsWith, 
 use crate::engine::{Engine, Flow};
 use crate::reading::Stop;
 use crate::writing::write_all;
-use nc_command::{Cut, Cutter};
+use nc_command::{Cut, Cutter, cut_at_feed};
 use nc_lines::line_end::line_len;
 use nc_outside::Sink;
 use std::alloc::{AllocError, Global};
@@ -62,13 +62,6 @@ fn push_long(pending: &mut Vec<u8>) -> Result<Flow, AllocError>
     Ok(Flow::Go)
 }
 
-// Where the first line feed of a piece is.
-fn feed_place(piece: &[u8]) -> Option<usize>
-    ensures { result ≡ position is_feed piece.now }
-{
-    piece.iter().position(|b| *b == b'\n')
-}
-
 // The first line of a piece and the bytes behind it, where the piece has a line feed and nothing is held in front.
 fn first_line<'a>(cutter: &Cutter, piece: &'a [u8]) -> Option<(&'a [u8], &'a [u8])>
     ensures { IfSome result
@@ -77,9 +70,7 @@ fn first_line<'a>(cutter: &Cutter, piece: &'a [u8]) -> Option<(&'a [u8], &'a [u8
     if cutter.kept() > 0 {
         return None;
     }
-    let at = feed_place(piece)?;
-    let (front, _) = piece.split_at(at);
-    let (_, rest) = piece.split_at(at + 1);
+    let (front, rest) = cut_at_feed(piece)?;
     let (line, _) = front.split_at(line_len(front));
     Some((line, rest))
 }

@@ -1,20 +1,23 @@
 //! What the engine works with: the rules of a network, the graph of the facts that were asked,
 //! their marks, the report as it stands, and the tests.
 
-ghost use Rattle.std.specs.Prelude.{◌≡◌, ◌++◌, ◌<◌, ◌-◌, List, true, length, All, IfOk, OnOk, OnErr, IsErrOf, codes};
+ghost use Rattle.std.specs.Prelude.{◌≡◌, ◌++◌, ◌<◌, ◌-◌, List, true, Some, length, All, IfOk, OnOk, OnErr, IsErrOf, codes};
+ghost use Rattle.std.specs.Option.{option_map};
+ghost use Rattle.nc_types.specs.Network.{router_named};
 ghost use Rattle.nc_graph.specs.Closure.{IsClosure, ReachesMoreThan};
 ghost use Rattle.nc_graph.specs.Flow.{raised};
 ghost use Rattle.nc_graph.specs.Nodes.{Mirrors, IsGraph, Extends, AreNodesOf};
 ghost use Rattle.nc_graph.specs.declared.fault.GraphFault.TheVariants as GraphFault;
+ghost use Rattle.nc_fact.specs.Tested.{tested_facts};
 ghost use Rattle.nc_rules.specs.Rules.{flow_of};
 ghost use Rattle.nc_rules.specs.Seen.{state_of, asked_of};
 ghost use Rattle.nc_command.specs.Command.{command_of, text_of};
 ghost use Rattle.nc_session.specs.declared.TheConstants.{TEST_LIMIT, FACT_LIMIT};
-ghost use Rattle.nc_session.specs.Session.{router_of};
+ghost use Rattle.nc_session.specs.Session.{router_of, has_line};
 ghost use Rattle.nc_session.specs.Texts.{accepted_of, line_of};
 ghost use Rattle.nc_session.specs.File.{FileView};
 ghost use Rattle.nc_session.specs.Engine.{Answered, begin_at, flow_behind};
-ghost use Rattle.nc_session.specs.Work.{IsWork, Takes, Replies, Counted, Tested, progress_of};
+ghost use Rattle.nc_session.specs.Work.{IsWork, Takes, Replies, Counted, Told, TestedAt, Tested, progress_of};
 
 use crate::engine::Flow;
 use crate::report::push_line;
@@ -30,7 +33,7 @@ use nc_marks::kept::KeptMarks;
 use nc_marks::laws::{kept_of_an_extended_graph, marks_of_nodes_are_of_facts};
 use nc_rules::{Rules, rules_make_a_flow};
 use nc_tables::Stable;
-use nc_types::{TestCommand, Text};
+use nc_types::{RouterId, TestCommand, Text};
 use std::alloc::{AllocError, Global};
 
 /// A test that was accepted: the facts that it tests, and whether it is live.
@@ -217,6 +220,90 @@ impl Work {
         Ok(())
     }
 
+    // Answers a test whose router and line are there, of its facts.
+    fn judge(
+        &mut self,
+        alloc: Global,
+        test: &TestCommand,
+        facts: Vec<Fact>,
+        out: &mut Vec<u8>,
+    ) -> Result<(), AllocError>
+        requires work { IsWork self.old }
+        requires facts { facts.items ≡ tested_facts (state_of self.old.rules) test.now }
+        requires hold { All (λ f. (flow_of (state_of self.old.rules)).holds f ≡ true) facts.items }
+        ensures work { OnOk result (IsWork self.new) }
+        ensures told { OnOk result (Told self.old self.new test.now out.old.items out.new.items) }
+    {
+        if facts.is_empty() {
+            push_absent(alloc, out, test)?;
+            return Ok(());
+        }
+        self.count(alloc, facts, out)?;
+        Ok(())
+    }
+
+    // The facts of a test.
+    fn facts(&self, alloc: Global, test: &TestCommand) -> Result<Vec<Fact>, AllocError>
+        ensures facts { IfOk result
+            (λ facts. facts.items ≡ tested_facts (state_of self.now.rules) test.now) }
+        ensures hold { IfOk result (λ facts.
+            All (λ f. (flow_of (state_of self.now.rules)).holds f ≡ true) facts.items) }
+    {
+        let facts = facts_of(alloc, self.rules.state(), self.rules.policies(), test)?;
+        Ok(facts)
+    }
+
+    // Whether the line that a test is of belongs to an element of the router; so it is where the test is of none.
+    fn has_line(&self, router: RouterId, test: &TestCommand) -> bool
+        ensures { result ≡ has_line (state_of self.now.rules) router.0 test.now }
+    {
+        match test {
+            TestCommand::Rib(_, _, _)
+            | TestCommand::Bgp(_, _, _)
+            | TestCommand::Session(_, _)
+            | TestCommand::Reach(_, _)
+            | TestCommand::Every(_, _) => true,
+            TestCommand::Element(_, line) => {
+                self.rules.state().network().owner(router, *line).is_some()
+            }
+        }
+    }
+
+    // Answers a test of a router that is there.
+    fn test_at(
+        &mut self,
+        alloc: Global,
+        router: RouterId,
+        test: &TestCommand,
+        out: &mut Vec<u8>,
+    ) -> Result<(), AllocError>
+        requires work { IsWork self.old }
+        requires router { router_named (state_of self.old.rules).routers (router_of test.now)
+            ≡ Some router.0 }
+        ensures work { OnOk result (IsWork self.new) }
+        ensures tested { OnOk result
+            (TestedAt self.old self.new router.0 test.now out.old.items out.new.items) }
+    {
+        if !self.has_line(router, test) {
+            push_line(out, b"refused line")?;
+            return Ok(());
+        }
+        let facts = self.facts(alloc, test)?;
+        self.judge(alloc, test, facts, out)?;
+        Ok(())
+    }
+
+    // The router that a test is of.
+    fn router(&self, test: &TestCommand) -> Option<RouterId>
+        ensures { option_map (λ r. r.0) result
+            ≡ router_named (state_of self.now.rules).routers (router_of test.now) }
+    {
+        self.rules
+            .state()
+            .network()
+            .router_named(router_of(test).bytes())
+    }
+
     // Answers a test.
     fn test(
         &mut self,
@@ -229,17 +316,11 @@ impl Work {
         ensures tests { OnOk result
             (Tested self.old self.new test.now out.old.items out.new.items) }
     {
-        let name = router_of(test).bytes();
-        if self.rules.state().network().router_named(name).is_none() {
-            push_unknown(out, name)?;
+        let Some(router) = self.router(test) else {
+            push_unknown(out, router_of(test).bytes())?;
             return Ok(());
-        }
-        let facts = facts_of(alloc, self.rules.state(), self.rules.policies(), test)?;
-        if facts.is_empty() {
-            push_absent(alloc, out, test)?;
-            return Ok(());
-        }
-        self.count(alloc, facts, out)?;
+        };
+        self.test_at(alloc, router, test, out)?;
         Ok(())
     }
 

@@ -1,4 +1,4 @@
-use Rattle.std.proofs.Common.{◌≡◌, ◌<◌, ◌∙◌, List, ℕ, length, take, arith}
+use Rattle.std.proofs.Common.{◌<◌, List, ℕ, length, take, arith}
 use Rattle.std.proofs.lemmas.List.{length-take}
 use Rattle.nc_session.proofs.TakenPieces.{taken_fault, taken_end, past_leaves, fails_from}
 use Rattle.std.proofs.Common.{refl}

@@ -1,4 +1,4 @@
-use Rattle.std.proofs.Common.{◌≡◌, ◌+◌, ◌≤◌, List, ℕ, false, Some, length}
+use Rattle.std.proofs.Common.{◌≡◌, ◌+◌, List, ℕ, false, Some, length}
 use Rattle.std.specs.Io.KnownBytes.{Consumes}
 use Rattle.nc_tables.specs.State.{StateView}
 use Rattle.nc_session.specs.declared.TheConstants.{SESSION_LIMIT}

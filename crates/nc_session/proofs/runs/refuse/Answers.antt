@@ -1,4 +1,4 @@
-use Rattle.std.proofs.Common.{◌≡◌, ◌∙◌, ℕ, List, ap, sym, subst}
+use Rattle.std.proofs.Common.{ℕ, List, ap, sym, subst}
 use Rattle.nc_session.specs.declared.refusal.LoadFault.{LoadFault}
 use Rattle.nc_session.specs.declared.status.Status.TheVariants.{Config, Limit, Unstable}
 use Rattle.nc_session.specs.Words.{texts}

@@ -1,4 +1,4 @@
-use Rattle.std.proofs.Common.{◌≡◌, ◌++◌, ◌∷◌, [], ◌∙◌, List, ℕ, sym, subst, IfOk}
+use Rattle.std.proofs.Common.{◌≡◌, ◌∙◌, List, ℕ, sym, subst, IfOk}
 use Rattle.nc_lines.specs.Lines.{without_return}
 use Rattle.nc_session.specs.Serving.{AnswersLine}
 use Rattle.nc_session.proofs.ServedLines.{line_is, long_is, line_replied, long_replied}

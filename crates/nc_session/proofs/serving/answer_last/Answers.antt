@@ -1,6 +1,5 @@
-use Rattle.std.proofs.Common.{◌≡◌, ◌++◌, ◌∷◌, [], ◌∙◌, List, ℕ, sym, subst}
+use Rattle.std.proofs.Common.{◌++◌, ◌∷◌, [], List, ℕ, sym, subst}
 use Rattle.nc_lines.specs.Lines.{without_return}
-use Rattle.nc_session.specs.Engine.{Progress}
 use Rattle.nc_session.specs.Serving.{ArePending, AnswersLine}
 use Rattle.nc_session.proofs.ServedLines.{served_pending, served_quit, served_broken, pending_ends}
 use Rattle.nc_session.proofs.serving.answer_last.Goals as goal

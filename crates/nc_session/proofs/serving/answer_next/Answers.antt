@@ -1,6 +1,5 @@
-use Rattle.std.proofs.Common.{◌≡◌, ◌++◌, ◌∷◌, ◌∙◌, List, ℕ, refl, sym, subst}
+use Rattle.std.proofs.Common.{◌++◌, List, ℕ, refl, subst}
 use Rattle.std.proofs.lemmas.Option.{MatchOption-at_none, MatchOption-at_some}
-use Rattle.nc_lines.specs.Lines.{without_return}
 use Rattle.nc_lines.specs.WholeLines.{whole_lines_of, open_of}
 use Rattle.nc_command.specs.Cutting.{HoldsAll, CutsFirst}
 use Rattle.nc_session.specs.Serving.{AnswersLine}

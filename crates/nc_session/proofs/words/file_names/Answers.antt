@@ -1,9 +1,9 @@
-use Rattle.std.proofs.Common.{[], ◌∷◌, ◌++◌, ◌≡◌, ◌∙◌, ◌+◌, Bool, List, ℕ, true, false, Option, Some, None, String, Global, Vec, drop, length, refl, sym, ap, subst, arith}
+use Rattle.std.proofs.Common.{[], ◌∷◌, ◌++◌, ◌≡◌, ◌∙◌, ◌+◌, Bool, List, ℕ, Option, Some, None, String, Global, Vec, drop, sym, ap, subst, arith}
 use Rattle.std.proofs.lemmas.List.{length-map, map-append, drop_all}
 use Rattle.std.specs.Prelude.{IfSome}
 use Rattle.std.specs.String.{string_bytes}
 use Rattle.nc_types.proofs.Walks.{drop_view}
-use Rattle.nc_session.specs.Words.{RequestView, read_word, request_of, texts}
+use Rattle.nc_session.specs.Words.{RequestView, read_word, texts}
 use Rattle.nc_session.proofs.Asking.{AskOn, and_file, ask_first, ask_next, ask_nothing, ask_files}
 use Rattle.nc_session.proofs.words.file_names.Goals as goal
 use Rattle.nc_session.proofs.words.file_names.Goals.{then-taken+in_ok-clone+in_ok-push, else-taken}

@@ -1,9 +1,9 @@
-use Rattle.std.proofs.Common.{[], ◌∷◌, ◌≡◌, ◌∙◌, ◌||◌, ◌+◌, Bool, List, ℕ, true, false, Option, Some, None, drop, length, refl, sym, ap, subst, arith}
+use Rattle.std.proofs.Common.{[], ◌≡◌, ◌∙◌, ◌||◌, ◌+◌, Bool, Option, Some, None, drop, refl, sym, ap, subst, arith}
 use Rattle.std.proofs.lemmas.List.{length-map, drop_all}
 use Rattle.std.specs.Option.{option_map}
 use Rattle.std.specs.String.{string_bytes}
 use Rattle.nc_types.proofs.Walks.{drop_view}
-use Rattle.nc_session.specs.Words.{RequestView, are_some, read_word, request_of, texts}
+use Rattle.nc_session.specs.Words.{RequestView, read_word, texts}
 use Rattle.nc_session.proofs.Asking.{AskOn, and_file, are_some_with, ask_first, ask_next, ask_nothing, ask_rounds, ask_no_file}
 use Rattle.nc_session.proofs.words.read_words.Goals as goal
 use Rattle.nc_session.proofs.words.read_words.Goals.{then-is_named, else-is_named}
