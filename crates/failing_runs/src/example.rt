@@ -1,4 +1,4 @@
-//! Three small networks with a session and its replies, which were worked out by hand.
+//! Four small networks with a session and its replies, which were worked out by hand.
 
 use crate::network::{Config, Network};
 use std::alloc::{AllocError, Global};
@@ -132,6 +132,47 @@ const ROUTE_EXCHANGES: [Exchange; 3] = [
     },
 ];
 
+// Two routers with two links, and a static route over each to the network of the second.
+const WAYS_FILES: [Config; 2] = [
+    Config {
+        name: "r1.cfg",
+        text: b"hostname r1\ninterface Ethernet0\n ip address 10.0.12.1 255.255.255.252\n\
+            interface Ethernet1\n ip address 10.0.13.1 255.255.255.252\ninterface Ethernet2\n\
+            \x20ip address 10.1.0.1 255.255.255.0\nip route 10.2.0.0 255.255.255.0 10.0.12.2\n\
+            ip route 10.2.0.0 255.255.255.0 10.0.13.2\n",
+    },
+    Config {
+        name: "r2.cfg",
+        text: b"hostname r2\ninterface Ethernet0\n ip address 10.0.12.2 255.255.255.252\n\
+            interface Ethernet1\n ip address 10.0.13.2 255.255.255.252\ninterface Ethernet2\n\
+            \x20ip address 10.2.0.1 255.255.255.0\n",
+    },
+];
+
+// A packet to that network arrives by some way and by every way; then a line that no element has, and
+// one of an element on which neither rests.
+const WAYS_EXCHANGES: [Exchange; 4] = [
+    Exchange {
+        line: b"reach r1 10.2.0.9",
+        reply: b"test 1 facts 25\nstrong 2 weak 10 uncovered 2 outside 2\nr1 .WWWWUUWW\n\
+            r2 .WWWWSS\n",
+    },
+    Exchange {
+        line: b"every r1 10.2.0.9",
+        reply: b"test 2 facts 30\nstrong 12 weak 0 uncovered 2 outside 2\nr1 .SSSSUUSS\n\
+            r2 .SSSSSS\n",
+    },
+    Exchange {
+        line: b"element r1 1",
+        reply: b"refused line\n",
+    },
+    Exchange {
+        line: b"element r1 7",
+        reply: b"test 3 facts 31\nstrong 14 weak 0 uncovered 0 outside 2\nr1 .SSSSSSSS\n\
+            r2 .SSSSSS\n",
+    },
+];
+
 /// Two routers; the session ends with `quit`.
 pub const PAIR: Example = Example {
     name: "pair",
@@ -160,6 +201,16 @@ pub const ROUTE: Example = Example {
     file_calls: 6,
     reads: 4,
     writes: 3,
+};
+
+/// Two routers with two ways between them; the session ends with its bytes.
+pub const WAYS: Example = Example {
+    name: "ways",
+    files: &WAYS_FILES,
+    exchanges: &WAYS_EXCHANGES,
+    file_calls: 6,
+    reads: 5,
+    writes: 4,
 };
 
 impl Example {

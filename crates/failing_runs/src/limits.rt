@@ -145,13 +145,32 @@ fn over_shared(alloc: Global, more: usize, wanted: Expectation<'_>) -> Result<Ve
     Verdict::of(alloc, Trial::new(&network, b""), wanted)
 }
 
-// The replies to so many tests of one route.
-fn test_replies(alloc: Global, count: usize) -> Result<Vec<u8>, AllocError> {
+// A test that is asked many times: its line, and its reply behind the number.
+#[derive(Clone, Copy)]
+struct RepeatedTest {
+    line: &'static [u8],
+    reply: &'static [u8],
+}
+
+// A test of a route.
+const ROUTE: RepeatedTest = RepeatedTest {
+    line: b"rib r1 10.0.0.0/24\n",
+    reply: b" facts 4\nstrong 2 weak 0 uncovered 3 outside 4\nr1 ..S.S.UUU\n",
+};
+
+// A test of an element.
+const ELEMENT: RepeatedTest = RepeatedTest {
+    line: b"element r1 9\n",
+    reply: b" facts 1\nstrong 3 weak 0 uncovered 2 outside 4\nr1 ..U.U.SSS\n",
+};
+
+// The replies to so many such tests.
+fn test_replies(alloc: Global, test: &RepeatedTest, count: usize) -> Result<Vec<u8>, AllocError> {
     let mut replies = Vec::new(alloc);
     for number in 1..count.saturating_add(1) {
-        let head = format!(in alloc; "test {number} facts 4\n")?;
+        let head = format!(in alloc; "test {number}")?;
         replies.extend_from_slice(head.as_str().as_bytes())?;
-        replies.extend_from_slice(b"strong 2 weak 0 uncovered 3 outside 4\nr1 ..S.S.UUU\n")?;
+        replies.extend_from_slice(test.reply)?;
     }
     Ok(replies)
 }
@@ -256,17 +275,25 @@ fn add_sessions(alloc: Global, rows: &mut Vec<Row>) -> Result<(), AllocError> {
     Ok(())
 }
 
+// As many tests as are accepted, and one more.
+fn over_tests(alloc: Global, test: &RepeatedTest) -> Result<[Verdict; 2], AllocError> {
+    let mut session = repeated(alloc, b"", test.line, TESTS)?;
+    let mut replies = test_replies(alloc, test, TESTS)?;
+    let all = over_session(alloc, &session, Expectation::done(&replies))?;
+    session.extend_from_slice(test.line)?;
+    replies.extend_from_slice(b"refused limit tests\n")?;
+    let past = over_session(alloc, &session, Expectation::done(&replies))?;
+    Ok([all, past])
+}
+
 // The rows on how many tests are accepted.
 fn add_tests(alloc: Global, rows: &mut Vec<Row>) -> Result<(), AllocError> {
-    let line = b"rib r1 10.0.0.0/24\n";
-    let mut session = repeated(alloc, b"", line, TESTS)?;
-    let mut replies = test_replies(alloc, TESTS)?;
-    let verdict = over_session(alloc, &session, Expectation::done(&replies))?;
-    rows.push(Row::new("limits", "4,096 tests", verdict))?;
-    session.extend_from_slice(line)?;
-    replies.extend_from_slice(b"refused limit tests\n")?;
-    let verdict = over_session(alloc, &session, Expectation::done(&replies))?;
-    rows.push(Row::new("limits", "4,097 tests", verdict))?;
+    let [all, past] = over_tests(alloc, &ROUTE)?;
+    rows.push(Row::new("limits", "4,096 tests", all))?;
+    rows.push(Row::new("limits", "4,097 tests", past))?;
+    let [all, past] = over_tests(alloc, &ELEMENT)?;
+    rows.push(Row::new("limits", "4,096 tests of an element", all))?;
+    rows.push(Row::new("limits", "4,097 tests of an element", past))?;
     Ok(())
 }
 

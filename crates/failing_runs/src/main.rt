@@ -26,7 +26,7 @@ mod row;
 mod steady;
 mod trial;
 
-use example::{Example, PAIR, ROUTE, SINGLE};
+use example::{Example, PAIR, ROUTE, SINGLE, WAYS};
 use judging::Verdict;
 use nc_session::Status;
 use network::Network;
@@ -51,12 +51,15 @@ fn all_rows(alloc: Global) -> Result<Vec<Row>, AllocError> {
     rows.push(steady_row(alloc, &PAIR)?)?;
     rows.push(steady_row(alloc, &SINGLE)?)?;
     rows.push(steady_row(alloc, &ROUTE)?)?;
+    rows.push(steady_row(alloc, &WAYS)?)?;
     cutting::add_cutting(alloc, &PAIR, &mut rows)?;
     cutting::add_cutting(alloc, &SINGLE, &mut rows)?;
     cutting::add_cutting(alloc, &ROUTE, &mut rows)?;
+    cutting::add_cutting(alloc, &WAYS, &mut rows)?;
     faults::add_faults(alloc, &PAIR, &mut rows)?;
     faults::add_faults(alloc, &SINGLE, &mut rows)?;
     faults::add_faults(alloc, &ROUTE, &mut rows)?;
+    faults::add_faults(alloc, &WAYS, &mut rows)?;
     ending::add_endings(alloc, &mut rows)?;
     refusals::add_refusals(alloc, &mut rows)?;
     lines::add_long_lines(alloc, &mut rows)?;
