@@ -12,7 +12,7 @@ use Rattle.nc_diagram.specs.declared.apply.Focus.TheVariants.{Work, Done}
 use Rattle.nc_diagram.specs.Sets.{Members, has, fixing, below, Same, IsLowestFixed}
 use Rattle.nc_diagram.specs.Diagrams.{Diagrams, Belongs, meaning, level, IsReduced, IsNode, Adds, Means, IsCrowded}
 use Rattle.nc_diagram.specs.Places.{Makes}
-use Rattle.nc_diagram.specs.Operations.{combined, joint, BothBelong, pair_eq, IsCofactor, IsTop, Opens}
+use Rattle.nc_diagram.specs.Operations.{combined, joint, BothBelong, pair_eq, IsCofactor, IsTop, IsAnswer, Opens}
 use Rattle.nc_diagram.proofs.SetLemmas.{length-below, IsLowestFixed-itself, IsLowestFixed-more}
 use Rattle.nc_diagram.proofs.DiagramLemmas.{meaning-newest}
 use Rattle.nc_diagram.proofs.Canonicity.{level-fixed}
@@ -67,6 +67,7 @@ part_of operator old (High p v low) s = joint operator old p (fixing (below v tr
 
 -- what a waiting frame has
 pub record IsSet (operator : Operator) (old : List Node) (p : Pair) (v : ℕ) : Type 0 where
+  pub belong : BothBelong old p
   pub narrow : v < 2 ^ 32
   pub some : 0 < p.left + p.right
   pub top : (s : Members) → joint operator old p s ≡ joint operator old p (fixing (below v (has s v)) s)
@@ -157,6 +158,13 @@ module _ (operator : Operator) (old : List Node) where
   aim now (Work p) = joint operator old p
   aim now (Done r) = meaning now r
 
+-- a pair's function is kept with its references
+pub joint-kept : (operator : Operator) (now new : List Node) → Keeps now new → (p : Pair) → BothBelong now p → Same (joint operator new p) (joint operator now p)
+joint-kept operator now new keeps p b s =
+    let l : meaning new p.left s ≡ meaning now p.left s = (keeps p.left b.0).1 s in
+    let r : meaning new p.right s ≡ meaning now p.right s = (keeps p.right b.1).1 s in
+    λ i. combined operator (l i) (r i)
+
 -- the loop's invariant: f is the result's function
 pub record IsUnderway (operator : Operator) (f : Members → Bool) (old now : Diagrams) (frames : List Frame) (focus : Focus) (found : Pair → Option ℕ) : Type 0 where
   pub adds : Adds f old now
@@ -199,7 +207,11 @@ module _ (operator : Operator) (f : Members → Bool) (old now : Diagrams) where
               (let belongs : Belongs old.nodes r = elim decided.one_of_both [ inl e ↦ omega (arith, u.belongs.0) | inr e ↦ omega (arith, u.belongs.1) ] in
               let k = keeps r belongs in
               (k.0, λ s. k.1 s ∙ decided.value old.nodes s))
-          | inr known ↦ u.done p r known
+          | inr either ↦
+              elim either [
+                | inl known ↦ u.done p r known
+                | inr answer ↦ (answer.belongs, λ s. answer.value s ∙ joint-kept operator old.nodes now.nodes keeps p u.belongs s)
+              ]
         ] in (
           record {
             adds = u.adds;
@@ -220,7 +232,7 @@ module _ (operator : Operator) (f : Members → Bool) (old now : Diagrams) where
         let some : 0 < p.left + p.right = omega (arith, o.0.0) in
         let frame : Frame = Low p v high in
         let is : IsFrame operator old.nodes now.nodes (Low p v high) =
-        (record { narrow = split.top.narrow; some = some; top = top_old keeps p u.belongs v split.top }, record { belong = high_side.0; older = split.high.older; value = high_side.1 }) in (
+        (record { belong = u.belongs; narrow = split.top.narrow; some = some; top = top_old keeps p u.belongs v split.top }, record { belong = high_side.0; older = split.high.older; value = high_side.1 }) in (
           record {
             adds = u.adds;
             reduced = u.reduced;
@@ -293,6 +305,17 @@ module _ (operator : Operator) (f : Members → Bool) (old now : Diagrams) where
       made_adds new q m =
           Adds-makes f old now new v low r q u.adds m
           (IsLowestFixed-same f (joint operator old.nodes p) (meaning new.nodes q) part (λ s. m.value s ∙ chosen s))
+
+      -- which answers the pair
+      pub made_answer : (new : Diagrams) (q : ℕ) → Makes v low r now new q → IsAnswer new.nodes operator p q
+      made_answer new q m =
+          let keeps = Keeps-adds f old new (made_adds new q m) in
+          let b = popped.1.0.belong in
+          record {
+            belong = ((keeps p.left b.0).0, (keeps p.right b.1).0);
+            belongs = m.belongs;
+            value = λ s. m.value s ∙ chosen s ∙ sym (joint-kept operator old.nodes new.nodes keeps p b s);
+          }
 
       -- and the pair is done
       pub finished : (new : Diagrams) (q : ℕ) → Makes v low r now new q → (found' : Pair → Option ℕ) → ((x : Pair) → found' x ≡ cond (pair_eq p x) (Some q) (found x)) → ((x : Pair) → pair_eq p x ≡ true → p ≡ x) → IsUnderway operator f old new frames (Done q) found' × (work_left frames (Done q) < work_left all (Done r))

@@ -7,3 +7,4 @@ pub mod GrowthLemmas
 pub mod ApplyLemmas
 pub mod CounterLemmas
 pub mod AllButLemmas
+pub mod RecentLemmas

@@ -3,3 +3,4 @@ pub mod Diagrams
 pub mod Places
 pub mod Operations
 pub mod Counter
+pub mod Recent

@@ -68,8 +68,15 @@ pub record AreCofactors (nodes : List Node) (p : Pair) (sides : Cofactors) : Typ
   pub low : IsCofactor nodes p sides.variable false sides.low
   pub high : IsCofactor nodes p sides.variable true sides.high
 
--- how a pair is begun: its reference is known, or its low side is worked out first while a frame waits
+-- the references of the pair and the result belong, and the result means what the operator makes of the pair
+pub record IsAnswer (nodes : List Node) (operator : Operator) (p : Pair) (r : ℕ) : Type 0 where
+  pub belong : BothBelong nodes p
+  pub belongs : Belongs nodes r
+  pub value : Same (meaning nodes r) (joint operator nodes p)
+
+-- how a pair is begun: its reference is known, from this operation or a recent one, or its low side is worked out first while a
+-- frame waits
 abbrev pub Opens : Operator → List Node → (Pair → Option ℕ) → Pair → List Frame → List Frame → Focus → Type 0
 Opens operator nodes found p old new (Work low) =
     BothNodes p × ((variable : ℕ) × (high : Pair) × (new ≡ old ++ Low p variable high ∷ []) × AreCofactors nodes p (record { variable = variable; low = low; high = high }))
-Opens operator nodes found p old new (Done r) = (new ≡ old) × (IsDecided operator p r ⊎ (found p ≡ Some r))
+Opens operator nodes found p old new (Done r) = (new ≡ old) × (IsDecided operator p r ⊎ ((found p ≡ Some r) ⊎ IsAnswer nodes operator p r))

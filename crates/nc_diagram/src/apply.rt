@@ -13,7 +13,7 @@ use indexmap::IndexMap;
 use std::alloc::{AllocError, Global};
 
 /// What is made of two functions.
-#[derive(Clone, Copy, PartialEq, Eq)]
+#[derive(Clone, Copy, PartialEq, Eq, Hash, Debug)]
 pub(crate) enum Operator {
     And,
     Or,
@@ -131,23 +131,28 @@ impl Store {
         }
     }
 
-    // Begins a pair: its reference where it is known, else its low side, with a frame that waits for it.
+    // Begins a pair: its reference where it is known, from this operation or a recent one, else its
+    // low side, with a frame that waits for it.
     fn open(
-        &self,
+        &mut self,
         operator: Operator,
         pair: Pair,
         frames: &mut Vec<Frame>,
         done: &IndexMap<Pair, u32>,
     ) -> Result<Focus, AllocError>
-        requires { BothBelong self.now.nodes pair }
-        ensures { IfOk result (Opens operator self.now.nodes (get pair_eq done.now) pair
+        requires { BothBelong self.old.nodes pair }
+        ensures opens { IfOk result (Opens operator self.old.nodes (get pair_eq done.now) pair
             frames.old.items frames.new.items) }
+        ensures unchanged { self.new ≡ self.old }
     {
         if let Some(place) = operator.decided(pair) {
             return Ok(Focus::Done(place));
         }
         if let Some(place) = done.get(&pair) {
             return Ok(Focus::Done(*place));
+        }
+        if let Some(place) = self.recall(operator, pair) {
+            return Ok(Focus::Done(place));
         }
         let sides = self.cofactors(pair);
         frames.push(Frame::Low {
@@ -276,6 +281,7 @@ impl Store {
                             Err(fault) => return Err(fault),
                         };
                         done.insert(pair, made)?;
+                        self.remember(operator, pair, made);
                         Focus::Done(made)
                     }
                 },

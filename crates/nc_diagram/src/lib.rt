@@ -12,6 +12,7 @@ mod counter;
 mod fault;
 mod laws;
 mod node;
+mod recent;
 mod store;
 #[cfg(test)]
 mod tests;

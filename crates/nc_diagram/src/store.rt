@@ -1,12 +1,15 @@
 // The store of shared nodes, and the calls that add none.
 
-ghost use Rattle.std.specs.Prelude.{◌≡◌, ◌≤◌, ◌<◌, ◌↔◌, [], ◌∷◌, length, false, IsTrue, IfOk, OnOk, OnErr, IsErrOf, ◌≢◌, drop, ◌-◌};
+ghost use Rattle.std.specs.Prelude.{◌≡◌, ◌≤◌, ◌<◌, ◌↔◌, [], ◌∷◌, length, false, IsTrue, IfOk, IfSome, OnOk, OnErr, IsErrOf, ◌≢◌, drop, ◌-◌};
 ghost use Rattle.nc_diagram.specs.Sets.{among, all_but, has, Same};
 ghost use Rattle.nc_diagram.specs.Diagrams.{IsReduced, IsNode, Belongs, Means, Adds, IsCrowded, meaning, level};
 ghost use Rattle.nc_diagram.specs.Places.{IsNodeAt, Makes};
+ghost use Rattle.nc_diagram.specs.Operations.{IsAnswer};
 
+use crate::apply::{Operator, Pair};
 use crate::fault::StoreFault;
 use crate::node::{Node, Ref};
+use crate::recent::{Question, Recent};
 use indexmap::IndexSet;
 use std::alloc::Global;
 use std::marker::Model;
@@ -17,17 +20,20 @@ pub struct Store {
     pub(crate) alloc: Global,
     pub(crate) nodes: IndexSet<Node>,
     pub(crate) limit: u32,
+    recent: Recent,
 }
 
 impl Model for Store {
     ghost use Rattle.std.specs.Prelude.{reverse};
     ghost use Rattle.nc_diagram.specs.Diagrams.{Diagrams, IsStore};
+    ghost use Rattle.nc_diagram.specs.Recent.{AreAnswers};
 
     ghost Value = { Diagrams };
 
     ghost view = { λ s. record { nodes = reverse s.nodes.keys; limit = s.limit } };
 
-    ghost invariant = { λ s. IsStore (record { nodes = reverse s.nodes.keys; limit = s.limit }) };
+    ghost invariant = { λ s. IsStore (record { nodes = reverse s.nodes.keys; limit = s.limit })
+        × AreAnswers (reverse s.nodes.keys) s.recent };
 }
 
 impl Store {
@@ -38,10 +44,13 @@ impl Store {
         ensures constants_alone { result.nodes ≡ [] }
         ensures limit { result.limit ≡ limit }
     {
+        let nodes = IndexSet::new(alloc);
+        let recent = Recent::new(alloc);
         Store {
             alloc,
-            nodes: IndexSet::new(alloc),
+            nodes,
             limit,
+            recent,
         }
     }
 
@@ -120,12 +129,30 @@ impl Store {
         }
     }
 
-    // Takes all nodes back but the first ones, as many as the mark.
+    // Takes all nodes back but the first ones, as many as the mark. Answers of recent operations may
+    // refer to what goes, so none is kept.
     pub(crate) fn roll_back(&mut self, mark: u32)
         ensures nodes { self.new.nodes ≡ drop (length self.old.nodes - mark) self.old.nodes }
         ensures limit { self.new.limit ≡ self.old.limit }
     {
+        self.recent.clear();
         self.nodes.truncate(mark as usize);
+    }
+
+    // The result of an operation on a pair that was done not long ago.
+    pub(crate) fn recall(&mut self, operator: Operator, pair: Pair) -> Option<u32>
+        ensures answer { IfSome result (IsAnswer self.old.nodes operator pair) }
+        ensures unchanged { self.new ≡ self.old }
+    {
+        self.recent.find(Question { operator, pair })
+    }
+
+    // Keeps the result of an operation on a pair, for when it comes again.
+    pub(crate) fn remember(&mut self, operator: Operator, pair: Pair, place: u32)
+        requires { IsAnswer self.old.nodes operator pair place }
+        ensures { self.new ≡ self.old }
+    {
+        self.recent.note(Question { operator, pair }, place);
     }
 
     // Does nothing; a proof learns here that the nodes are ordered and reduced.

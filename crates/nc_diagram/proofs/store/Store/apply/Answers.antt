@@ -5,8 +5,9 @@ use Rattle.indexmap.specs.IndexMap.{get}
 use Rattle.nc_diagram.specs.declared.apply.Frame.{Frame}
 use Rattle.nc_diagram.specs.declared.apply.Frame.TheVariants.{Low, High}
 use Rattle.nc_diagram.specs.declared.apply.Focus.TheVariants.{Work, Done}
+use Rattle.nc_diagram.specs.Diagrams.{Diagrams}
 use Rattle.nc_diagram.specs.Operations.{joint, pair_eq}
-use Rattle.nc_diagram.proofs.ApplyLemmas.{IsUnderway, begun, ended, opened, turned, low_belongs, low_later, high_later, crowded, made_adds, finished, pair_same, work_left}
+use Rattle.nc_diagram.proofs.ApplyLemmas.{IsUnderway, begun, ended, opened, turned, low_belongs, low_later, high_later, crowded, made_adds, made_answer, finished, pair_same, work_left}
 use Rattle.nc_diagram.proofs.store.Store.apply.Goals as goal
 use Rattle.nc_diagram.proofs.store.Store.apply.Goals.{In-Done, In-Some-Low, In-Some-High, In-Work}
 
@@ -63,12 +64,13 @@ pub combine-smaller-in_ok-focus-in-Work : goal.combine-smaller-in_ok-focus-in-Wo
 combine-smaller-in_ok-focus-in-Work c =
     let u = subst (λ f. IsUnderway c.args.operator (joint c.args.operator c.args.self.now.nodes c.args.pair) c.args.self.now c.combine.self c.combine.frames.items f (get pair_eq c.combine.done)) c.in-Work.is c.combine.invariant in
     subst (λ f. work_left c.open.new.frames.items c.in_ok-focus-in-Work.focus < work_left c.combine.frames.items f) (sym c.in-Work.is)
-    (opened c.args.operator (joint c.args.operator c.args.self.now.nodes c.args.pair) c.args.self.now c.combine.self (get pair_eq c.combine.done) c.combine.frames.items c.open.new.frames.items c.in-Work.pair c.in_ok-focus-in-Work.focus u c.in_ok-focus-in-Work.ensures).1
+    (opened c.args.operator (joint c.args.operator c.args.self.now.nodes c.args.pair) c.args.self.now c.combine.self (get pair_eq c.combine.done) c.combine.frames.items c.open.new.frames.items c.in-Work.pair c.in_ok-focus-in-Work.focus u c.in_ok-focus-in-Work.ensures.opens).1
 
 pub combine-preserved-in_ok-focus-in-Work : goal.combine-preserved-in_ok-focus-in-Work
 combine-preserved-in_ok-focus-in-Work c =
     let u = subst (λ f. IsUnderway c.args.operator (joint c.args.operator c.args.self.now.nodes c.args.pair) c.args.self.now c.combine.self c.combine.frames.items f (get pair_eq c.combine.done)) c.in-Work.is c.combine.invariant in
-    (opened c.args.operator (joint c.args.operator c.args.self.now.nodes c.args.pair) c.args.self.now c.combine.self (get pair_eq c.combine.done) c.combine.frames.items c.open.new.frames.items c.in-Work.pair c.in_ok-focus-in-Work.focus u c.in_ok-focus-in-Work.ensures).0
+    subst (λ (d : Diagrams). IsUnderway c.args.operator (joint c.args.operator c.args.self.now.nodes c.args.pair) c.args.self.now d c.open.new.frames.items c.in_ok-focus-in-Work.focus (get pair_eq c.combine.done)) (sym c.open.ensures.unchanged)
+    (opened c.args.operator (joint c.args.operator c.args.self.now.nodes c.args.pair) c.args.self.now c.combine.self (get pair_eq c.combine.done) c.combine.frames.items c.open.new.frames.items c.in-Work.pair c.in_ok-focus-in-Work.focus u c.in_ok-focus-in-Work.ensures.opens).0
 
 pub combine-smaller-in_ok-push-in-Some-Low : goal.combine-smaller-in_ok-push-in-Some-Low
 combine-smaller-in_ok-push-in-Some-Low c =
@@ -93,4 +95,10 @@ combine-smaller c =
 pub combine-preserved : goal.combine-preserved
 combine-preserved c =
     let at = goal.at.combine-preserved c in
+    subst (λ (d : Diagrams). IsUnderway c.args.operator (joint c.args.operator c.args.self.now.nodes c.args.pair) c.args.self.now d c.pop.new.self.items (Done c.in-Ok.made) (get pair_eq c.insert.new.self)) (sym c.remember.ensures)
     (finished c.args.operator (joint c.args.operator c.args.self.now.nodes c.args.pair) c.args.self.now c.combine.self (get pair_eq c.combine.done) c.pop.new.self.items c.combine.frames.items c.in-Some-High.pair c.in-Some-High.variable c.in-Some-High.low c.in-Done.place (high_taken at.In-Some-High) (underway at.In-Done) c.make.new.self c.in-Ok.made c.in-Ok.ensures.made (get pair_eq c.insert.new.self) c.in_ok-insert-in-Some-High.ensures.updates.0 (pair_same c.in-Some-High.pair)).0
+
+pub remember-requires : goal.remember-requires
+remember-requires c =
+    let at = goal.at.remember-requires c in
+    made_answer c.args.operator (joint c.args.operator c.args.self.now.nodes c.args.pair) c.args.self.now c.combine.self (get pair_eq c.combine.done) c.pop.new.self.items c.combine.frames.items c.in-Some-High.pair c.in-Some-High.variable c.in-Some-High.low c.in-Done.place (high_taken at.In-Some-High) (underway at.In-Done) c.make.new.self c.in-Ok.made c.in-Ok.ensures.made

@@ -11,4 +11,4 @@ returns c =
     let found : node_at nodes c.args.place ≡ Some c.index.result.now =
     subst (λ r. node_at nodes r ≡ Some c.index.result.now) place (node_at-keys c.self.inside.nodes.keys (c.args.place - 2) c.index.result.now c.index.ensures) in
     subst (λ d. IsNodeAt d.nodes c.args.place c.index.result.now) c.self.view_is
-    (IsNodeAt-found nodes c.self.invariant.reduced c.args.place c.index.result.now found)
+    (IsNodeAt-found nodes c.self.invariant.0.reduced c.args.place c.index.result.now found)

@@ -1,6 +1,8 @@
 use Rattle.std.proofs.Common.{◌≡◌, ◌-◌, length, reverse, drop, sym, ap, subst, ◌∙◌}
 use Rattle.std.proofs.lemmas.List.{length-reverse}
 use Rattle.nc_diagram.specs.Diagrams.{Diagrams, IsStore}
+use Rattle.nc_diagram.specs.Recent.{AreAnswers}
+use Rattle.nc_diagram.proofs.RecentLemmas.{answers-none}
 use Rattle.nc_diagram.proofs.StoreLemmas.{reverse-take, IsStore-drop}
 use Rattle.nc_diagram.proofs.store.Store.roll_back.Goals as goal
 use Rattle.nc_diagram.proofs.store.Store.roll_back.Goals.{After-truncate}
@@ -14,8 +16,11 @@ left c =
 pub invariant_of-self : goal.invariant_of-self
 invariant_of-self c =
     let nodes = reverse c.self.inside.nodes.keys in
-    subst (λ ns. IsStore (record { nodes = ns; limit = c.self.inside.limit })) (sym (left c))
-    (IsStore-drop (length nodes - c.args.mark) nodes c.self.inside.limit c.self.invariant)
+    let after = reverse c.truncate.new.self.keys in (
+      subst (λ ns. IsStore (record { nodes = ns; limit = c.self.inside.limit })) (sym (left c))
+          (IsStore-drop (length nodes - c.args.mark) nodes c.self.inside.limit c.self.invariant.0),
+      subst (AreAnswers after) (sym c.clear.ensures) (answers-none after),
+    )
 
 pub returns-clause-nodes : goal.returns-clause-nodes
 returns-clause-nodes c =

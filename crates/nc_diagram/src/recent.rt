@@ -1,0 +1,100 @@
+// The answers of recent operations, so that one that comes again needs no work.
+
+ghost use Rattle.std.specs.Prelude.{◌≡◌, ◌⊎◌, ℕ, [], Contains, IfSome};
+ghost use Rattle.nc_diagram.specs.declared.recent.Question.{Question};
+
+use crate::apply::{Operator, Pair};
+use lru::LruCache;
+use std::alloc::Global;
+use std::marker::Model;
+use std::num::NonZeroUsize;
+
+// How many answers are kept at most.
+const MOST: usize = 65_536;
+
+/// An operation on two references.
+#[derive(Clone, Copy, PartialEq, Eq, Hash, Debug)]
+pub(crate) struct Question {
+    pub operator: Operator,
+    pub pair: Pair,
+}
+
+/// The answers of the operations used last. There are none before the first operation, nor where no
+/// memory is found for them.
+#[derive(Drop)]
+pub(crate) struct Recent {
+    cache: Option<LruCache<Question, u32>>,
+    alloc: Global,
+}
+
+impl Model for Recent {
+    ghost use Rattle.std.specs.Prelude.{List, ℕ, []};
+    ghost use Rattle.std.specs.Option.{option_map_or};
+    ghost use Rattle.nc_diagram.specs.declared.recent.Question.{Question};
+
+    ghost Value = { List (Question × ℕ) };
+
+    ghost view = { λ r. option_map_or (λ c. c.entries) r.cache [] };
+}
+
+// An empty cache, where memory is found for it.
+fn empty_cache(alloc: Global) -> Option<LruCache<Question, u32>>
+    ensures { IfSome result (λ c. c.entries ≡ []) }
+{
+    let most = NonZeroUsize::new(MOST)?;
+    match LruCache::sparse(alloc, most) {
+        Ok(cache) => Some(cache),
+        Err(_memory) => None,
+    }
+}
+
+impl Recent {
+    // No answers. It takes no memory.
+    pub(crate) fn new(alloc: Global) -> Recent
+        ensures { result ≡ [] }
+    {
+        Recent { cache: None, alloc }
+    }
+
+    // The answer of an operation, where it is kept. It is then the one used last.
+    pub(crate) fn find(&mut self, question: Question) -> Option<u32>
+        ensures found { IfSome result (λ place. Contains self.old (question, place)) }
+        ensures kept { (e : Question × ℕ) → Contains self.new e → Contains self.old e }
+    {
+        let mut cache = self.cache.take()?;
+        let found = cache.peek(&question).copied();
+        cache.promote(&question);
+        self.cache = Some(cache);
+        found
+    }
+
+    // Takes the cache out, which is made where there is none yet and memory is found for it.
+    fn taken(&mut self) -> Option<LruCache<Question, u32>>
+        ensures cache { IfSome result (λ c. c.entries ≡ self.old) }
+        ensures out { self.new ≡ [] }
+    {
+        match self.cache.take() {
+            Some(cache) => Some(cache),
+            None => empty_cache(self.alloc),
+        }
+    }
+
+    // Keeps the answer of an operation, in place of the one not used for longest where there are as
+    // many as may be. Where no memory is found it isn't kept.
+    pub(crate) fn note(&mut self, question: Question, place: u32)
+        ensures { (e : Question × ℕ) → Contains self.new e
+            → (e ≡ (question, place)) ⊎ Contains self.old e }
+    {
+        if let Some(mut cache) = self.taken() {
+            let _replaced = cache.put(question, place);
+            self.cache = Some(cache);
+        }
+    }
+
+    // Forgets all answers.
+    pub(crate) fn clear(&mut self)
+        ensures { self.new ≡ [] }
+    {
+        self.cache = None;
+    }
+}

@@ -1,0 +1,11 @@
+use Rattle.std.proofs.Common.{take}
+use Rattle.nc_diagram.specs.Diagrams.{Means}
+use Rattle.nc_formula.specs.Formulas.{one_known, IsFirstOneKnown}
+use Rattle.nc_formula.specs.Parts.{Gains}
+use Rattle.nc_formula.proofs.formulas.Formulas.one_of.Given as goal
+
+abbrev pub invariant-nodes : goal.invariant-nodes
+invariant-nodes l = record {
+  means : Means l.store l.any (one_known l.initial.store.nodes l.self (take l.node-index l.nodes));
+  gains : Gains (IsFirstOneKnown l.initial.store.nodes l.self l.nodes) l.initial.store l.store;
+}

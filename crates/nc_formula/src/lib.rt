@@ -1,0 +1,19 @@
+//! A decision diagram for each fact of a flow graph: its function is true at just the sets of
+//! elements that carry the fact.
+//!
+//! It stands on `nc_graph`, whose nodes are the facts with their kinds and parents, and on
+//! `nc_diagram`, whose store keeps the nodes of all diagrams. `Formulas` keeps the reference of each
+//! fact whose diagram was asked for, so that none is made twice while one store serves. The contract
+//! promises that a reference means what carries its fact, as evaluation of the graph has it; that
+//! references found stay true; that each node added to the store is a part of what carries a fact
+//! that is needed, or of what some of its first parents make of it; and that the store is full only
+//! where there are more such parts than its limit allows.
+#![tactic(auto)]
+
+mod combine;
+mod formulas;
+mod laws;
+mod walk;
+
+pub use formulas::Formulas;
+pub use laws::{diagrams_are_of_facts, formulas_of_a_grown_store, formulas_of_an_extended_graph};
