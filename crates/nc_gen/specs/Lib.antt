@@ -1,0 +1,4 @@
+pub mod Tree
+pub mod Shape
+pub mod Files
+pub mod Cases

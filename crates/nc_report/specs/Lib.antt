@@ -1,0 +1,4 @@
+pub mod Marked
+pub mod Views
+pub mod Texts
+pub mod Values
