@@ -2,6 +2,8 @@
 import itertools
 
 import oracle
+from network import HOPS
+from paths import arrives
 from pieces import R, dotted
 from reading import Fault, read_file
 from routes import entry_of, main_table, settle
@@ -30,8 +32,27 @@ def named(net, r):
     return net.routers[r]["name"].decode()
 
 
+def packets(net, r):
+    """Addresses to which a router may send packets: those that routers own, and one inside each prefix of its main table."""
+    return sorted(set(net.owners) | {p[0] + 9 * (p[1] <= 28) for p, _, _ in main_table(net, r)})
+
+
+def of_packets(net, there):
+    """A few tests of packets, of those that arrive or of those that don't."""
+    asks = itertools.product(range(len(net.routers)), (False, True))
+    found = [(every, r, a) for r, every in asks for a in packets(net, r) if arrives(net, every, r, a, HOPS) == there]
+    return [f"{'every' if every else 'reach'} {named(net, r)} {dotted(a)}" for every, r, a in R.sample(found, min(len(found), 8))]
+
+
+def of_elements(net):
+    """A test of a line of some elements, few of each router."""
+    chosen = [(r, lines) for r, c in enumerate(net.routers) for _, lines in R.sample(c["elements"], min(len(c["elements"]), 2))]
+    return [f"element {named(net, r)} {R.choice(sorted(lines))}" for r, lines in chosen]
+
+
 def there(net):
-    """Tests that are accepted: each candidate that is chosen, each that is accepted, each row of a main table, each session."""
+    """Tests that are accepted: each candidate that is chosen, each that is accepted, each row of a main table, each session, and
+    some of packets that arrive and of lines of elements."""
     asks = [f"bgp {named(net, r)} {slashed(p)}" for r, p in net.bgp]
     for r, n in net.sessions:
         a = dotted(net.routers[r]["process"]["neighbors"][n]["addr"])
@@ -40,11 +61,12 @@ def there(net):
     for r in range(len(net.routers)):
         for prefix, _, hop in main_table(net, r):
             asks += [f"rib {named(net, r)} {slashed(prefix)}"] + ([] if hop is None else [f"rib {named(net, r)} {slashed(prefix)} via {dotted(hop)}"])
-    return list(dict.fromkeys(asks))
+    return list(dict.fromkeys(asks + of_packets(net, True) + of_elements(net)))
 
 
 def beside(net):
-    """Tests of prefixes, neighbors and next hops that stand somewhere in the network, most of which aren't there."""
+    """Tests of prefixes, neighbors and next hops that stand somewhere in the network, most of which aren't there, and some of packets
+    that don't arrive and of lines that may be no element's."""
     prefixes = {p for _, p in net.bgp} | {row[0] for table in net.tables for row in table}
     prefixes |= {x["prefix"] for c in net.routers if c["process"] for x in c["process"]["networks"] + c["process"]["aggregates"]}
     few = sorted(prefixes)[:4]
@@ -55,6 +77,9 @@ def beside(net):
         yield f"{R.choice(['bgp', 'rib'])} {named(net, r)} {slashed(prefix)}"
         yield f"bgp {named(net, r)} {slashed(prefix)} from {dotted(R.choice(peers * 3 + hops))}"
         yield f"rib {named(net, r)} {slashed(prefix)} via {dotted(R.choice(hops))}"
+    yield from of_packets(net, False)
+    for r in range(len(net.routers)):
+        yield f"element {named(net, r)} {R.randrange(40)}"
 
 
 def some_there(files, names, count):

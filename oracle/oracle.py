@@ -4,8 +4,7 @@
     python3 oracle/oracle.py FILE.. < session
 
 It has the statements and the commands that the program serves, and works everything out from lists, by filters. As a
-module, run(words, session) gives the status and the bytes. The variable NETCOV_ALSO names what it is to serve besides,
-which the program doesn't serve yet: `paths` are the commands reach, every and element.
+module, run(words, session) gives the status and the bytes.
 """
 import os
 import sys
@@ -20,7 +19,6 @@ from texts import address, bits, inside, large, lines_of, mask, number, prefix_w
 LIMIT_FILE, LIMIT_LINES, LIMIT_ROUTERS = 4194304, 65535, 256
 LIMIT_SESSION, LIMIT_LINE, LIMIT_TESTS, LIMIT_FACTS = 16777216, 4096, 4096, 1048576
 MOST_ROUNDS, ROUNDS = 10000, 256
-PATHS = "paths" in os.environ.get("NETCOV_ALSO", "").split()
 
 
 # --- the session -----------------------------------------------------------------------------
@@ -40,11 +38,9 @@ def served(session):
 
 def asked_for(w):
     """(command, router's name, what, the address behind it or None) of a test, or None"""
-    if w[0] == b"session" and len(w) == 3 and address(w[2]) is not None:
+    if w[0] in (b"session", b"reach", b"every") and len(w) == 3 and address(w[2]) is not None:
         return w[0], w[1], address(w[2]), None
-    if PATHS and w[0] in (b"reach", b"every") and len(w) == 3 and address(w[2]) is not None:
-        return w[0], w[1], address(w[2]), None
-    if PATHS and w[0] == b"element" and len(w) == 3 and large(w[2]) is not None:
+    if w[0] == b"element" and len(w) == 3 and large(w[2]) is not None:
         return w[0], w[1], large(w[2]), None
     behind = {b"rib": b"via", b"bgp": b"from"}
     if w[0] not in behind or len(w) not in (3, 5) or prefix_word(w[2]) is None:

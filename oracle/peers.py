@@ -397,7 +397,7 @@ def peers_session(wires, begin):
             if begin and R.random() < 0.2:
                 a = dotted(R.choice(wires.addresses(R.randrange(wires.count)) or [0]))
                 asks.append(R.choice([f"rib r{r + 1} {prefix} via {a}", f"bgp r{r + 1} {prefix} from {a}"]))
-    for r in range(wires.count if oracle.PATHS else 0):
+    for r in range(wires.count):
         asks += [f"{R.choice(['reach', 'every'])} r{r + 1} {dotted(a)}" for s in range(wires.count) for a in wires.addresses(s) + [0x0A090001] if R.random() < 0.3]
         asks += [f"element r{r + 1} {R.randrange(60)}"] * (R.random() < 0.5)
     R.shuffle(asks)
