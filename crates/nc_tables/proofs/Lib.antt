@@ -3,6 +3,7 @@ pub mod RowOrder
 pub mod Nested
 pub mod LongestPrefix
 pub mod RowsAt
+pub mod RowPlaces
 pub mod State
 pub mod Finding
 pub mod SessionOrder
@@ -16,6 +17,7 @@ pub mod RowCount
 pub mod Ordered
 pub mod Owner
 mod ByLevels
+pub mod SamePath
 pub mod SameTables
 mod NoRoutes
 pub mod Settled

@@ -1,4 +1,5 @@
 pub mod Order
+pub mod Hops
 pub mod Base
 pub mod Longest
 pub mod Reach

@@ -1,8 +1,7 @@
-ghost use Rattle.std.specs.Prelude.{◌≡◌, ◌↔◌, ◌≤◌, IsTrue, length};
-ghost use Rattle.nc_types.specs.declared.TheConstants.{PATH_LIMIT};
+ghost use Rattle.std.specs.Prelude.{◌≡◌, ◌↔◌, IsTrue};
 
+use crate::path::Path;
 use nc_types::{Addr, Communities, IfaceId, OriginCode, Prefix, RouterId};
-use std::marker::Model;
 
 /// An established BGP session, as one of its two neighbor statements sees it.
 #[derive(Clone, Copy, Debug, PartialEq, Eq)]
@@ -19,42 +18,6 @@ pub struct SessionRow {
     pub peer_source: IfaceId,
     /// Whether both are of one autonomous system.
     pub internal: bool,
-}
-
-/// The autonomous systems through which a route came, the nearest first; at most [`nc_types::PATH_LIMIT`]
-/// numbers.
-#[derive(Debug, Drop)]
-pub struct Path {
-    numbers: Vec<u32>,
-}
-
-impl Model for Path {
-    ghost use Rattle.std.specs.Prelude.{List, ℕ, ◌≤◌, length};
-    ghost use Rattle.nc_types.specs.declared.TheConstants.{PATH_LIMIT};
-
-    ghost Value = { List ℕ };
-
-    ghost view = { λ p. p.numbers.items };
-
-    ghost invariant = { λ p. length p.numbers.items ≤ PATH_LIMIT };
-}
-
-impl Path {
-    /// A path of these numbers, at most [`nc_types::PATH_LIMIT`].
-    pub fn new(numbers: Vec<u32>) -> Path
-        requires { length numbers.items ≤ PATH_LIMIT }
-        ensures { result ≡ numbers.items }
-    {
-        Path { numbers }
-    }
-
-    /// The numbers, the nearest first.
-    pub fn numbers(&self) -> &[u32]
-        ensures numbers { result.now ≡ self.now }
-        ensures few { length self.now ≤ PATH_LIMIT }
-    {
-        &self.numbers
-    }
 }
 
 /// A route of a prefix, as BGP carries it.
@@ -81,7 +44,7 @@ pub fn same_route(a: &Route, b: &Route) -> bool
         && a.preference == b.preference
         && a.metric == b.metric
         && a.origin == b.origin
-        && a.path.numbers() == b.path.numbers()
+        && a.path.is_same(&b.path)
         && a.communities.numbers() == b.communities.numbers()
 }
 

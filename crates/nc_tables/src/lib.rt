@@ -19,6 +19,7 @@ mod inside;
 mod laws;
 mod longest;
 mod mains;
+mod path;
 mod policy;
 mod routes;
 mod sessions;
@@ -26,12 +27,13 @@ mod stable;
 
 pub use base::{BaseFrom, BaseRow, BaseTables};
 pub use bgp::{
-    BgpFrom, BgpRow, Chosen, MainFrom, MainRow, Path, Route, SessionRow, same_candidate, same_route,
+    BgpFrom, BgpRow, Chosen, MainFrom, MainRow, Route, SessionRow, same_candidate, same_route,
 };
 pub use inside::is_longer_in;
 pub use laws::{levels_are_lawful, settling_is_lawful};
 pub use longest::{HasPrefix, Rows, rows_on};
 pub use mains::MainTables;
+pub use path::{Numbers, Path};
 pub use policy::{Names, Place};
 pub use routes::BgpTable;
 pub use sessions::Sessions;

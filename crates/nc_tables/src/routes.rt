@@ -1,8 +1,10 @@
-ghost use Rattle.std.specs.Prelude.{◌≡◌, ◌<◌, ◌≤◌, ◌==◌, ◌&&◌, ℕ, [], All, IfOk, OnOk, length, map, nat_lt, slice_index_or, if◌then◌else◌};
-ghost use Rattle.std.specs.List.{list_any};
+ghost use Rattle.std.specs.Prelude.{◌≡◌, ◌<◌, ◌≤◌, ◌==◌, ◌&&◌, ℕ, [], All, IfErr, IfOk, OnErr, OnOk, length, map, nat_lt, slice_index_or, if◌then◌else◌};
+ghost use Rattle.std.specs.List.{insert, list_any, HoldsAt};
+ghost use Rattle.std.specs.List.Sorted.{IsPartitionPoint, IsSearchInRange};
+ghost use Rattle.std.specs.declared.cmp.Ordering.TheVariants.{Less, Equal, Greater};
 ghost use Rattle.nc_types.specs.Cidr.{Cidr};
 ghost use Rattle.nc_types.specs.declared.TheConstants.{MULTIPATH_LIMIT};
-ghost use Rattle.nc_tables.specs.Base.{same_prefix};
+ghost use Rattle.nc_tables.specs.Base.{prefix_cmp, same_prefix};
 ghost use Rattle.nc_tables.specs.Rounds.{bgp_row_view, chosen_at, chosen_in, has_longer, no_routes, AreBgpRows};
 ghost use Rattle.nc_tables.specs.Edit.{put};
 
@@ -21,6 +23,36 @@ impl HasPrefix for BgpRow {
     }
 }
 
+// Where the row of a prefix stands; else the place at which it would stand.
+fn place_of(rows: &[BgpRow], prefix: Prefix) -> Result<usize, usize>
+    requires { AreBgpRows (map bgp_row_view rows.now) }
+    ensures bound { IsSearchInRange result (length rows.now) }
+    ensures found { IfOk result
+        (HoldsAt (λ row. prefix_cmp row.prefix prefix ≡ Equal) rows.now) }
+    ensures parts { IfErr result (IsPartitionPoint (λ row. prefix_cmp row.prefix prefix ≡ Less)
+        (λ row. prefix_cmp row.prefix prefix ≡ Greater) rows.now) }
+{
+    let place = rows.partition_point(|row| row.prefix < prefix);
+    if place >= rows.len() {
+        return Err(place);
+    }
+    if rows[place].prefix == prefix {
+        return Ok(place);
+    }
+    Err(place)
+}
+
+// Adds a row at a place. The rows behind it move at once, as they don't where it is inserted.
+fn add_row(rows: &mut Vec<BgpRow>, place: usize, row: BgpRow) -> Result<(), AllocError>
+    requires { place ≤ length rows.old.items }
+    ensures added { OnOk result (rows.new.items ≡ insert rows.old.items place row) }
+    ensures kept { OnErr result (rows.new.items ≡ rows.old.items) }
+{
+    rows.push(row)?;
+    rows[place..].rotate_right(1);
+    Ok(())
+}
+
 // Sets, adds or takes out the row of a prefix, among the rows of a router.
 fn put_row(rows: &mut Vec<BgpRow>, prefix: Prefix, chosen: Vec<Chosen>) -> Result<(), AllocError>
     requires rows { AreBgpRows (map bgp_row_view rows.old.items) }
@@ -31,7 +63,7 @@ fn put_row(rows: &mut Vec<BgpRow>, prefix: Prefix, chosen: Vec<Chosen>) -> Resul
     ensures rows { AreBgpRows (map bgp_row_view rows.new.items) }
 {
     let _len = prefix.len();
-    match rows.binary_search_by_key(&prefix, |row| row.prefix) {
+    match place_of(rows, prefix) {
         Ok(place) => {
             if chosen.is_empty() {
                 rows.remove(place);
@@ -44,7 +76,7 @@ fn put_row(rows: &mut Vec<BgpRow>, prefix: Prefix, chosen: Vec<Chosen>) -> Resul
             if chosen.is_empty() {
                 return Ok(());
             }
-            rows.insert(place, BgpRow { prefix, chosen })?;
+            add_row(rows, place, BgpRow { prefix, chosen })?;
             Ok(())
         }
     }
@@ -143,7 +175,7 @@ impl BgpTable {
             ≡ list_any (λ row. same_prefix row.prefix prefix) (slice_index_or self.now router.0 []) }
     {
         let rows = self.rows(router);
-        match rows.binary_search_by_key(&prefix, |row| row.prefix) {
+        match place_of(rows, prefix) {
             Ok(place) => &rows[place].chosen,
             Err(_) => &[],
         }

@@ -52,6 +52,13 @@ impl Sessions {
             ≡ session_in (slice_index_or self.now router.0 []) neighbor }
     {
         let rows = self.rows(router);
+        // Where all statements have sessions, each stands at its statement's place.
+        if (neighbor as usize) < rows.len() {
+            let row = &rows[neighbor as usize];
+            if row.neighbor == neighbor {
+                return Some(row);
+            }
+        }
         match rows.binary_search_by_key(&neighbor, |row| row.neighbor) {
             Ok(place) => Some(&rows[place]),
             Err(_) => None,

@@ -1,13 +1,10 @@
-use Rattle.std.proofs.Common.{◌≡◌, ◌<◌, Some, None, [], List, length, get_or, slice_index_or, sym, ap, ◌∙◌, nat_lt, rules}
+use Rattle.std.proofs.Common.{◌≡◌, ◌<◌, Some, None, [], List, length, get_or, slice_index_or, sym, ap, ◌∙◌, nat_lt}
 use Rattle.std.specs.List.{find}
 use Rattle.std.proofs.lemmas.Bool.{lt-ltb}
-use Rattle.std.proofs.lemmas.List.Sorted.{answers_always}
-use Rattle.nc_tables.specs.declared.bgp.BgpRow.{BgpRow}
 use Rattle.nc_tables.specs.declared.bgp.Chosen.{Chosen}
 use Rattle.nc_tables.specs.Rounds.{bgp_row_view}
 use Rattle.nc_tables.proofs.BgpRows.{has, has_some, found_row, no_row, nothing_chosen, chosen_of, has_none, has_one}
 use Rattle.nc_tables.proofs.InOrder.{equal_is}
-use Rattle.nc_tables.proofs.RowEdits.{searchable}
 use Rattle.nc_tables.proofs.routes.BgpTable.chosen.Goals as goal
 use Rattle.nc_tables.proofs.routes.BgpTable.chosen.Goals.{After-deref, After-result-1}
 
@@ -15,7 +12,7 @@ none_found : (c : After-result-1) → find (has c.args.prefix) (slice_index_or c
 none_found c =
     let rows = c.rows-rows.result.now in
     ap (find (has c.args.prefix)) (sym c.rows-rows.ensures.rows)
-    ∙ no_row c.args.prefix rows c.in-Err.field-0 (c.in-Err.ensures.position (λ (row : BgpRow). row.prefix) (answers_always _ _ _ (λ f a r g called. search rules)) (searchable rows c.args.prefix c.rows-rows.ensures.valid))
+    ∙ no_row c.args.prefix rows c.in-Err.field-0 c.in-Err.ensures.parts
 
 pub returns-in-Err-clause-chosen : goal.returns-in-Err-clause-chosen
 returns-in-Err-clause-chosen c = sym (nothing_chosen c.args.prefix _ (none_found c))
@@ -29,7 +26,7 @@ one_found c =
     let d = c.index-rows-place.result in
     ap (find (has c.args.prefix)) (sym c.rows-rows.ensures.rows)
     ∙ found_row c.args.prefix rows c.in-Ok.place d c.rows-rows.ensures.valid c.in-Ok.ensures.bound
-    (equal_is (get_or rows c.in-Ok.place d).prefix c.args.prefix (c.in-Ok.ensures.position (λ (row : BgpRow). row.prefix) (answers_always _ _ _ (λ f a r g called. search rules)) d))
+    (equal_is (get_or rows c.in-Ok.place d).prefix c.args.prefix (c.in-Ok.ensures.found d))
 
 pub returns-in-Ok-clause-chosen : goal.returns-in-Ok-clause-chosen
 returns-in-Ok-clause-chosen c = c.deref.ensures.value ∙ sym (chosen_of c.args.prefix _ _ (one_found c))
