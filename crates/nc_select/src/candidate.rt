@@ -62,7 +62,7 @@ impl Candidate for Chosen {
     }
 
     fn path_length(&self) -> usize {
-        self.route.path.numbers().len()
+        self.route.path.len()
     }
 
     fn origin(&self) -> OriginCode {
@@ -86,6 +86,6 @@ impl Candidate for Chosen {
     }
 
     fn has_same_path(&self, other: &Self) -> bool {
-        self.route.path.numbers() == other.route.path.numbers()
+        self.route.path.is_same(&other.route.path)
     }
 }
