@@ -1,10 +1,10 @@
 -- The table of names.
-use Rattle.std.proofs.Common.{◌≡◌, ℕ, ◌+◌, ◌<◌, ◌≤◌, Bool, true, false, cond, List, length, map, drop, set, get_or, Option, Some, None, refl, sym, ap, subst, ◌∙◌, arith, inl, inr}
+use Rattle.std.proofs.Common.{◌≡◌, ℕ, ◌+◌, ◌<◌, ◌≤◌, Bool, true, false, cond, List, [], ◌∷◌, length, map, drop, set, get_or, Option, Some, None, refl, sym, ap, subst, ◌∙◌, arith, inl, inr}
 use Rattle.std.specs.Global.{Vec}
 use Rattle.std.specs.HashMap.{HashMap, Updates}
 use Rattle.std.specs.Prelude.{slice_get}
 use Rattle.std.specs.List.{position_from}
-use Rattle.std.specs.Map.{KeepsOthers}
+use Rattle.std.specs.Map.{KeepsOthers, lookup}
 use Rattle.std.specs.Str.{bytes_eq}
 use Rattle.std.proofs.lemmas.Bool.{cases_eq}
 use Rattle.std.proofs.lemmas.List.{length-set, get_or-set_same, get_or-set_other}
@@ -14,7 +14,8 @@ use Rattle.std.proofs.lemmas.Simd.{map-map}
 use Rattle.nc_types.proofs.Sameness.{same_bytes_is}
 use Rattle.nc_types.proofs.Walks.{drop_view, drop_views}
 use Rattle.nc_policy.specs.declared.names.NameIndex.{NameIndex}
-use Rattle.nc_policy.specs.Indexes.{place_from, place_named, IsNameIndex}
+use Rattle.nc_policy.specs.Indexes.{place_from}
+use Rattle.nc_policy.specs.Seen.{place_named, IsNameIndex}
 
 -- how a table tells names apart
 abbrev same_name : Vec ℕ → Vec ℕ → Bool
@@ -36,6 +37,11 @@ module _ {S : Type 0} (k : Vec ℕ) (m n : HashMap (Vec ℕ) ℕ S) (place : ℕ
       by_test : (b : Bool) → bytes_eq q k.items ≡ b → place_named n q ≡ cond b (Some place) (place_named m q)
       by_test true e = subst (λ (l : List ℕ). place_named n l ≡ Some place) (sym (same_bytes_is q k.items e)) updates.1
       by_test false e = others q e
+
+-- what is found among the names that are kept
+pub named_seen : (es : List (Vec ℕ × ℕ)) (q : List ℕ) → lookup (bytes_eq q) (map (λ (e : Vec ℕ × ℕ). (e.0.items, e.1)) es) ≡ lookup (λ (k : Vec ℕ). bytes_eq q k.items) es
+named_seen [] q = refl
+named_seen (e ∷ es) q = ap (cond (bytes_eq q e.0.items) (Some e.1)) (named_seen es q)
 
 -- ---- a table made from the last to the first
 

@@ -1,34 +1,76 @@
 -- The first entries of a list by prefix and length, and the lowest place of several.
-use Rattle.std.proofs.Common.{◌≡◌, ℕ, ◌+◌, ◌-◌, ◌*◌, ◌/◌, ◌<◌, ◌≤◌, Bool, true, false, cond, ◌&&◌, ◌||◌, List, [], ◌∷◌, All, Option, Some, None, refl, sym, ap, ◌∙◌, arith, inl, inr}
+use Rattle.std.proofs.Common.{◌≡◌, ℕ, ◌+◌, ◌-◌, ◌*◌, ◌/◌, ◌<◌, ◌≤◌, Bool, true, false, cond, ◌&&◌, ◌||◌, List, [], ◌∷◌, length, map, set, get_or, All, Option, Some, None, refl, sym, ap, subst, ◌∙◌, arith, inl, inr}
 use Rattle.std.specs.Prelude.{nat_eq, nat_le, nat_lt, ◌==◌, position}
 use Rattle.std.specs.List.{position_from}
+use Rattle.std.specs.Map.{lookup}
 use Rattle.std.proofs.Math.Nat.{mul-div_cancel}
-use Rattle.std.proofs.lemmas.Bool.{cases_eq, eqb-true, eq-eqb}
+use Rattle.std.proofs.lemmas.Bool.{cases_eq, cases_lt, eqb-true, eq-eqb}
 use Rattle.std.proofs.lemmas.Bool.Decides.{nat_tests}
 use Rattle.std.proofs.lemmas.Iterator.Adapters.{position_from-zero}
 use Rattle.std.proofs.lemmas.List.Elements.{All-head, All-tail}
+use Rattle.std.proofs.lemmas.List.{get_or_default, get_or-set_same, get_or-set_other}
 use Rattle.std.proofs.lemmas.Nat.{pow_pos}
-use Rattle.nc_types.specs.Cidr.{Cidr, IsCidr}
+use Rattle.nc_types.specs.Cidr.{Cidr, IsCidr, same_prefix}
 use Rattle.nc_types.specs.Masks.{size_of, network_of}
 use Rattle.nc_types.specs.declared.config.ListEntry.{ListEntry}
 use Rattle.nc_types.proofs.Truth.{same_truth, or_false}
 use Rattle.nc_tables.specs.Base.{covers}
 use Rattle.nc_tables.specs.Policy.{is_of}
-use Rattle.nc_policy.specs.Indexes.{is_at, is_shorter, lower_of, HasCidr}
+use Rattle.nc_policy.specs.declared.index.Spot.{Spot}
+use Rattle.nc_policy.specs.Indexes.{is_at, is_shorter, lower_of, HasCidr, HasLength}
+use Rattle.nc_policy.specs.Seen.{same_spot, spot_at, spot_view}
 
 -- ---- an entry put to its prefix and its lengths
 
 -- one length of an entry that is of it
-pub spot_of : (same : Bool) (low high len n place : ℕ) (old : Option ℕ) → low ≤ len → len ≤ high
-    → cond (same && nat_eq len n) (Some place) old ≡ cond ((n == len) && (same && (nat_le low n && nat_le n high))) (Some place) old
-spot_of true low high len n place old least most = grind (arith, nat_tests)
-spot_of false low high len n place old least most = grind (arith, nat_tests)
+pub spot_put : (base same : Bool) (low high len n place : ℕ) (old : Option ℕ) → low ≤ len → len ≤ high
+    → cond (base && (same && nat_eq len n)) (Some place) old ≡ cond ((n == len) && ((base && same) && (nat_le low n && nat_le n high))) (Some place) old
+spot_put true true low high len n place old least most = grind (arith, nat_tests)
+spot_put true false low high len n place old least most = grind (arith, nat_tests)
+spot_put false same low high len n place old least most = grind (arith, nat_tests)
+
+-- no length is put yet
+pub no_lengths : (same : Bool) (low high n place : ℕ) (old : Option ℕ) → old ≡ cond (nat_lt n low && (same && (nat_le low n && nat_le n high))) (Some place) old
+no_lengths true low high n place old = grind (arith, nat_tests)
+no_lengths false low high n place old = grind (arith, nat_tests)
 
 -- one length more
 pub more_lengths : (at : Bool) (len n place : ℕ) (old : Option ℕ)
     → cond ((n == len) && at) (Some place) (cond (nat_lt n len && at) (Some place) old) ≡ cond (nat_lt n (len + 1) && at) (Some place) old
 more_lengths true len n place old = grind (arith, nat_tests)
 more_lengths false len n place old = grind (arith, nat_tests)
+
+-- all lengths are put
+pub all_lengths : (same : Bool) (low high len n place : ℕ) (old : Option ℕ) → (n ≤ high → n < len)
+    → cond (nat_lt n len && (same && (nat_le low n && nat_le n high))) (Some place) old ≡ cond (same && (nat_le low n && nat_le n high)) (Some place) old
+all_lengths same low high len n place old within = elim (cases_lt high n) [
+  | inr most ↦ let lt : n < len = within most in let yes : nat_lt n len ≡ true = grind (arith, nat_tests) in ap (λ (b : Bool). cond (b && (same && (nat_le low n && nat_le n high))) (Some place) old) yes
+  | inl over ↦ let no : nat_le n high ≡ false = grind (arith, nat_tests) in on same (nat_lt n len) (nat_le low n) (nat_le n high) no
+]
+  where
+    on : (s l w h : Bool) → h ≡ false → cond (l && (s && (w && h))) (Some place) old ≡ cond (s && (w && h)) (Some place) old
+    on s l w true e = absurd (cc)
+    on true true true false e = refl
+    on true true false false e = refl
+    on true false true false e = refl
+    on true false false false e = refl
+    on false true w false e = refl
+    on false false w false e = refl
+
+-- ---- keys
+
+-- what is found among the keys that are kept
+pub spot_seen : (es : List (Spot × ℕ)) (q : Cidr) (n : ℕ)
+    → lookup (λ (k : Cidr × ℕ). same_prefix q k.0 && nat_eq n k.1) (map (λ (e : Spot × ℕ). (spot_view e.0, e.1)) es) ≡ lookup (same_spot (spot_at q n)) es
+spot_seen [] q n = refl
+spot_seen (e ∷ es) q n =
+    ap (λ (b : Bool). cond b (Some e.1) (lookup (λ (k : Cidr × ℕ). same_prefix q k.0 && nat_eq n k.1) (map (λ (e : Spot × ℕ). (spot_view e.0, e.1)) es)))
+    (together (nat_eq q.base e.0.addr.0) (nat_eq q.len e.0.prefix_len) (nat_eq n e.0.len))
+    ∙ ap (cond (same_spot (spot_at q n) e.0) (Some e.1)) (spot_seen es q n)
+  where
+    together : (a b c : Bool) → ((a && b) && c) ≡ (a && (b && c))
+    together true b c = refl
+    together false b c = refl
 
 -- ---- the lowest of two places
 
@@ -154,3 +196,48 @@ all_shorter p len most entries valid = same_position HasCidr (is_shorter len p) 
   where
     all : (e : ListEntry) → HasCidr e → is_shorter len p e ≡ is_of p e
     all e valid = ap (λ (b : Bool). b && is_of p e) (let yes : nat_lt e.prefix.len len ≡ true = (let w : e.prefix.len ≤ 32 = valid.within in grind (arith, nat_tests)) in yes)
+
+-- ---- lengths of entries
+
+-- where no prefix of an entry has a length, no entry is at a prefix of this length
+pub no_entry_around : (lengths : List Bool) (base len n : ℕ) (entries : List ListEntry) → get_or lengths len false ≡ false → All (λ (e : ListEntry). HasLength lengths e.prefix.len) entries
+    → None ≡ position (is_at (record { base = base; len = len }) n) entries
+no_entry_around lengths base len n entries none noted =
+    let never : ListEntry → Bool = λ _. false in
+    sym (same_position (λ (e : ListEntry). HasLength lengths e.prefix.len) (is_at (record { base = base; len = len }) n) never other entries noted ∙ position_from-zero never entries ∙ none_from never (λ _. refl) 0 entries)
+  where
+    on : (b s w : Bool) → s ≡ false → ((b && s) && w) ≡ false
+    on b true w e = absurd (cc)
+    on true false w e = refl
+    on false false w e = refl
+
+    other : (e : ListEntry) → HasLength lengths e.prefix.len → is_at (record { base = base; len = len }) n e ≡ false
+    other e has = elim (cases_eq e.prefix.len len) [
+      | inl same ↦ absurd (let one : true ≡ false = sym has ∙ ap (λ (k : ℕ). get_or lengths k false) same ∙ none in cc)
+      | inr apart ↦ on (nat_eq e.prefix.base base) (nat_eq e.prefix.len len) (nat_le e.low n && nat_le n e.high) (grind (arith, nat_tests))
+    ]
+
+-- a length more is noted: those that were noted are so still
+pub still_noted : (lengths : List Bool) (k j : ℕ) → k < length lengths → HasLength lengths j → HasLength (set lengths k true) j
+still_noted lengths k j lt has = elim (cases_eq j k) [
+  | inl same ↦ ap (λ (n : ℕ). get_or (set lengths k true) n false) same ∙ get_or-set_same lengths k true false lt
+  | inr other ↦ get_or-set_other lengths k j true false other ∙ has
+]
+
+-- the prefixes of entries up to a place have their lengths noted, and so has that of the next one
+pub one_noted : (lengths : List Bool) (entries : List ListEntry) (place : ℕ) (e : ListEntry) (len : ℕ) → e ≡ get_or entries place e → place < length entries → len ≡ e.prefix.len → len < length lengths
+    → ((k : ℕ) (d : ListEntry) → k < place → HasLength lengths (get_or entries k d).prefix.len)
+    → (k : ℕ) (d : ListEntry) → k < place + 1 → HasLength (set lengths len true) (get_or entries k d).prefix.len
+one_noted lengths entries place e len read inside same within before k d lt = elim (cases_eq k place) [
+  | inl here ↦
+      let own : get_or entries k d ≡ e = ap (λ (n : ℕ). get_or entries n d) here ∙ get_or_default entries place d e inside ∙ sym read in
+      subst (λ (n : ℕ). HasLength (set lengths len true) n) (same ∙ ap (λ (x : ListEntry). x.prefix.len) (sym own)) (get_or-set_same lengths len true false within)
+  | inr other ↦ still_noted lengths len (get_or entries k d).prefix.len within (before k d (omega arith))
+]
+
+pub one_valid : (entries : List ListEntry) (place : ℕ) (e : ListEntry) → e ≡ get_or entries place e → place < length entries → HasCidr e
+    → ((k : ℕ) (d : ListEntry) → k < place → HasCidr (get_or entries k d)) → (k : ℕ) (d : ListEntry) → k < place + 1 → HasCidr (get_or entries k d)
+one_valid entries place e read inside valid before k d lt = elim (cases_eq k place) [
+  | inl here ↦ subst HasCidr (sym (ap (λ (n : ℕ). get_or entries n d) here ∙ get_or_default entries place d e inside ∙ sym read)) valid
+  | inr other ↦ before k d (omega arith)
+]

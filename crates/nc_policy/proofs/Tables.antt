@@ -1,9 +1,10 @@
 -- Tables made one behind the other, each of what stands at its place.
-use Rattle.std.proofs.Common.{◌≡◌, ℕ, ◌<◌, List, [], ◌∷◌, ◌++◌, length, map, get_or, Some, refl, sym, ap, subst, ◌∙◌, arith, inl, inr}
+use Rattle.std.proofs.Common.{◌≡◌, ℕ, ◌<◌, List, [], ◌∷◌, ◌++◌, length, map, get_or, Option, Some, None, refl, sym, ap, subst, ◌∙◌, arith, inl, inr}
 use Rattle.std.specs.Prelude.{slice_get}
 use Rattle.std.proofs.lemmas.Bool.{cases_eq}
 use Rattle.std.proofs.lemmas.List.{length-map, length_push}
-use Rattle.std.proofs.lemmas.Option.{slice_get_within}
+use Rattle.std.specs.Option.{option_map}
+use Rattle.std.proofs.lemmas.Option.{slice_get-map, slice_get_within}
 use Rattle.nc_types.specs.Config.{ConfigView, config_view}
 use Rattle.nc_types.specs.declared.config.RouterConfig.{RouterConfig}
 use Rattle.nc_types.proofs.Placing.{slice_get_left, slice_get_middle}
@@ -27,6 +28,16 @@ pushed {A} {X} P parts xs ys a y same at here before k b x got found =
           let lt : k < length xs = omega (arith, length_push xs y) in
           before k b x got (sym (slice_get_left xs (y ∷ []) k lt) ∙ all)
     ]
+
+-- each table as it is seen
+pub each_seen : {A X T : Type 0} (P : A → T → Type 0) (view : X → T) (parts : List A) (xs : List X)
+    → ((k : ℕ) (a : A) (x : X) → slice_get parts k ≡ Some a → slice_get xs k ≡ Some x → P a (view x))
+    → (k : ℕ) (a : A) (t : T) → slice_get parts k ≡ Some a → slice_get (map view xs) k ≡ Some t → P a t
+each_seen {A} {X} {T} P view parts xs each k a t at found = on (slice_get xs k) refl (sym (slice_get-map view xs k) ∙ found)
+  where
+    on : (o : Option X) → slice_get xs k ≡ o → option_map view o ≡ Some t → P a t
+    on None is none = absurd (cc)
+    on (Some x) is one = let same : view x ≡ t = cc in subst (P a) same (each k a x at is)
 
 -- the configuration of the router of a number
 pub config_at : (network : List ConfigView) (configs : List RouterConfig) (router : ℕ) (config : RouterConfig) → map config_view configs ≡ network → router < length network

@@ -1,4 +1,5 @@
 pub mod Views
 pub mod Indexes
+pub mod Seen
 pub mod Passing
 pub mod Statements

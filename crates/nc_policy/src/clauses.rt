@@ -8,7 +8,8 @@ ghost use Rattle.nc_types.specs.WellFormed.{IsWellFormed};
 ghost use Rattle.nc_tables.specs.Policy.{prefix_place, community_place, first_place, met};
 ghost use Rattle.nc_tables.specs.Policy.{names_of, is_matching, deciding};
 ghost use Rattle.nc_policy.specs.Views.{asked, candidate_view, is_lower, map_names, IsCandidate};
-ghost use Rattle.nc_policy.specs.Indexes.{place_from, IsIndexed};
+ghost use Rattle.nc_policy.specs.Indexes.{place_from};
+ghost use Rattle.nc_policy.specs.Seen.{IsIndexed};
 
 use crate::lists::{community_place, prefix_place};
 use crate::router_index::RouterIndex;

@@ -1,31 +1,35 @@
 //! What a prefix list says of a prefix, by a table: the first entry of each prefix and length. It
-//! is asked at the 33 prefixes around an address, and the lowest place of an entry that it has
-//! there is that of the entry which decides.
+//! is asked at the prefixes around an address whose lengths entries have, and the lowest place of
+//! an entry that it has there is that of the entry which decides.
 
-ghost use Rattle.std.specs.Prelude.{◌≡◌, ◌≤◌, ◌==◌, ◌&&◌, ℕ, List, Some, if◌then◌else◌};
-ghost use Rattle.std.specs.Prelude.{nat_lt, IfOk, OnOk};
+ghost use Rattle.std.specs.Prelude.{◌≡◌, ◌<◌, ◌≤◌, ◌==◌, ◌&&◌, ℕ, All, List, Some};
+ghost use Rattle.std.specs.Prelude.{if◌then◌else◌, position, IfOk, OnOk};
 ghost use Rattle.nc_types.specs.Cidr.{Cidr, IsCidr};
 ghost use Rattle.nc_types.specs.Masks.{network_of};
 ghost use Rattle.nc_types.specs.declared.config.ListEntry.{ListEntry};
 ghost use Rattle.nc_tables.specs.Policy.{deciding_entry, is_of};
-ghost use Rattle.nc_policy.specs.Indexes.{is_at, lower_of, spot_in, HasCidr, IsIndexOf};
+ghost use Rattle.nc_policy.specs.Indexes.{is_at, lower_of, HasCidr, HasLength};
+ghost use Rattle.nc_policy.specs.Seen.{spot_at, spot_in, IsIndexOf};
 
-use nc_types::{ListEntry, Prefix};
+use nc_types::{Addr, ListEntry, Prefix};
 use std::alloc::{AllocError, Global};
 use std::collections::HashMap;
 
 /// The prefix of entries, and the length of a route's prefix.
 #[derive(Clone, Copy, Debug, PartialEq, Eq, Hash)]
-struct Spot {
-    prefix: Prefix,
-    len: u8,
+pub(crate) struct Spot {
+    pub(crate) addr: Addr,
+    pub(crate) prefix_len: u8,
+    pub(crate) len: u8,
 }
 
 /// A table of the entries of a prefix list.
 #[derive(Drop)]
 pub(crate) struct ListIndex {
     /// The place of the first entry that has a prefix and is of a length.
-    first: HashMap<Spot, usize>,
+    pub(crate) first: HashMap<Spot, usize>,
+    /// Whether a prefix of an entry has a length, 0 to 32.
+    pub(crate) lengths: [bool; 33],
 }
 
 // The lower of two places, each of which may be missing.
@@ -36,6 +40,18 @@ fn lower_of(one: Option<usize>, other: Option<usize>) -> Option<usize>
         (None, other) => other,
         (one, None) => one,
         (Some(one), Some(other)) => Some(if other < one { other } else { one }),
+    }
+}
+
+// The key of a prefix of entries and a length.
+fn spot_of(prefix: Prefix, len: u8) -> Spot
+    ensures spot { result ≡ spot_at prefix len }
+    ensures valid { IsCidr prefix.base prefix.len }
+{
+    Spot {
+        addr: prefix.addr(),
+        prefix_len: prefix.len(),
+        len,
     }
 }
 
@@ -50,54 +66,78 @@ fn put_at(
         ≡ (if (n == len) && is_at q n entry.now then Some place else spot_in first.old q n)) }
 {
     if entry.low <= len && len <= entry.high {
-        let spot = Spot {
-            prefix: entry.prefix,
-            len,
-        };
-        first.insert(spot, place)?;
+        first.insert(spot_of(entry.prefix, len), place)?;
     }
     Ok(())
 }
 
+// The length behind the last one that an entry is of, among those of prefixes.
+fn length_behind(entry: &ListEntry) -> u8
+    ensures { (n : ℕ) → n < 33 → n ≤ entry.now.high → n < result }
+{
+    if entry.high < 32 { entry.high + 1 } else { 33 }
+}
+
 // Puts the place of an entry to its prefix and each of its lengths.
 fn put(first: &mut HashMap<Spot, usize>, entry: &ListEntry, place: usize) -> Result<(), AllocError>
-    ensures put { OnOk result ((q : Cidr) (n : ℕ) → spot_in first.new q n
-        ≡ (if nat_lt n 33 && is_at q n entry.now then Some place else spot_in first.old q n)) }
-    ensures valid { HasCidr entry.now }
+    ensures { OnOk result ((q : Cidr) (n : ℕ) → n < 33 → spot_in first.new q n
+        ≡ (if is_at q n entry.now then Some place else spot_in first.old q n)) }
 {
-    let _valid = entry.prefix.len();
-    'lengths: for len in 0..33 {
+    'lengths: for len in entry.low..length_behind(entry) {
         put_at(first, entry, place, len)?;
     }
     Ok(())
 }
 
+// Which lengths the prefixes of entries have.
+fn lengths_of(entries: &[ListEntry]) -> [bool; 33]
+    ensures lengths { All (λ (e : ListEntry). HasLength result e.prefix.len) entries.now }
+    ensures valid { All HasCidr entries.now }
+{
+    let mut lengths = [false; 33];
+    'entries: for entry in entries {
+        lengths[entry.prefix.len() as usize] = true;
+    }
+    lengths
+}
+
+// What is kept for a prefix of entries and a length.
+fn kept_at(first: &HashMap<Spot, usize>, prefix: Prefix, len: u8) -> Option<usize>
+    ensures { result ≡ spot_in first.now prefix len }
+{
+    first.get(&spot_of(prefix, len)).copied()
+}
+
 impl ListIndex {
-    /// The table of these entries, made from the last to the first, so that the first stays.
+    /// The table of these entries, made from the last to the first, so that the first stays. It
+    /// takes no more memory than it needs.
     pub(crate) fn new(alloc: Global, entries: &[ListEntry]) -> Result<ListIndex, AllocError>
         ensures { IfOk result (IsIndexOf entries.now) }
     {
-        let mut first = HashMap::new(alloc);
+        let lengths = lengths_of(entries);
+        let mut first = HashMap::with_capacity(alloc, entries.len())?;
         let mut place = entries.len();
         'entries: while place > 0 {
             place -= 1;
             put(&mut first, &entries[place], place)?;
         }
-        Ok(ListIndex { first })
+        first.shrink_to_fit();
+        Ok(ListIndex { first, lengths })
     }
 
-    // The first entry of a length and of a prefix of another length around an address.
+    // The first entry whose prefix has a length and is around that of a route, and which is of the
+    // route's length. Where no entry's prefix has the length, the table isn't asked.
     fn entry_around(&self, prefix: Prefix, len: u8) -> Option<usize>
         requires { len ≤ 32 }
-        ensures entry { result ≡ spot_in self.now.first
-            (record { base = network_of prefix.base len; len = len }) prefix.len }
-        ensures valid { IsCidr prefix.base prefix.len }
+        ensures entry { (entries : List ListEntry) → IsIndexOf entries self.now → result
+            ≡ position (is_at (record { base = network_of prefix.base len; len = len }) prefix.len)
+            entries }
     {
-        let spot = Spot {
-            prefix: Prefix::around(prefix.addr(), len),
-            len: prefix.len(),
-        };
-        self.first.get(&spot).copied()
+        if !self.lengths[len as usize] {
+            return None;
+        }
+        let around = Prefix::around(prefix.addr(), len);
+        kept_at(&self.first, around, prefix.len())
     }
 
     /// The place of the entry that decides on a prefix. Takes no memory.

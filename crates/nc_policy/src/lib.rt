@@ -4,7 +4,8 @@
 //! asked, and a match carries the entries by which it came, so that no list is asked again.
 //! [`apply`] scans clauses and lists. [`Policies`] has tables of them, made once for a network: the
 //! clauses of a map are found one behind the other, a list by its name at one look-up, and the
-//! entry of a prefix list that decides at 33, however long the list is. [`pass`] tells the same
+//! entry of a prefix list that decides at one for each length of its entries' prefixes, at most 33,
+//! however long the list is. [`pass`] tells the same
 //! without making the route, without a set of communities and without memory: which clause let it
 //! pass, and by which entries. The tables find the network and the aggregate of a prefix too.
 //!

@@ -8,7 +8,7 @@ ghost use Rattle.nc_tables.specs.Policy.{deciding_entry, is_of, permitting_prefi
 ghost use Rattle.nc_tables.specs.Policy.{permitting_community, community_place};
 ghost use Rattle.nc_policy.specs.Views.{place_of, named_list};
 ghost use Rattle.nc_policy.specs.Views.{community_place_of, named_community_list};
-ghost use Rattle.nc_policy.specs.Indexes.{IsIndexOf, IsIndexed};
+ghost use Rattle.nc_policy.specs.Seen.{IsIndexOf, IsIndexed};
 
 use crate::index::ListIndex;
 use crate::router_index::RouterIndex;

@@ -3,7 +3,8 @@
 ghost use Rattle.std.specs.Prelude.{◌≡◌, ◌+◌, ℕ, List, Some, if◌then◌else◌, map, slice_get};
 ghost use Rattle.std.specs.Prelude.{IfOk, OnOk};
 ghost use Rattle.std.specs.Str.{bytes_eq};
-ghost use Rattle.nc_policy.specs.Indexes.{named_in, place_from, place_named, IsNameIndex};
+ghost use Rattle.nc_policy.specs.Indexes.{named_in, place_from};
+ghost use Rattle.nc_policy.specs.Seen.{name_table, place_named, IsNameIndex};
 
 use nc_types::{Clause, CommunityList, PrefixList};
 use std::alloc::{AllocError, Global};
@@ -45,9 +46,9 @@ impl Named for Clause {
 #[derive(Drop)]
 pub(crate) struct NameIndex {
     /// The place of the first that has a name.
-    first: HashMap<Vec<u8>, usize>,
+    pub(crate) first: HashMap<Vec<u8>, usize>,
     /// Of each, the place of the next one that has its name.
-    next: Vec<Option<usize>>,
+    pub(crate) next: Vec<Option<usize>>,
 }
 
 // Puts a place to a name, and hands out the later one that the name had.
@@ -82,7 +83,7 @@ impl NameIndex {
 
     /// The place of the first that has a name. Takes no memory.
     pub(crate) fn place(&self, name: &[u8]) -> Option<usize>
-        ensures { result ≡ named_in self.now name.now }
+        ensures { result ≡ named_in (name_table self.now) name.now }
     {
         self.first.get(name).copied()
     }

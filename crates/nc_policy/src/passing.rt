@@ -8,7 +8,7 @@ ghost use Rattle.nc_types.specs.declared.TheConstants.{COMMUNITY_LIMIT, PATH_LIM
 ghost use Rattle.nc_tables.specs.Policy.{verdict};
 ghost use Rattle.nc_tables.specs.Rounds.{passed, passed_by};
 ghost use Rattle.nc_tables.specs.declared.bgp.Route.{Route};
-ghost use Rattle.nc_policy.specs.Indexes.{IsIndexed};
+ghost use Rattle.nc_policy.specs.Seen.{IsIndexed};
 ghost use Rattle.nc_policy.specs.Passing.{prepended_by, preference_by, metric_by, origin_by};
 ghost use Rattle.nc_policy.specs.Passing.{communities_by, passing_view};
 

@@ -9,7 +9,8 @@ ghost use Rattle.nc_types.specs.declared.TheConstants.{COMMUNITY_LIMIT, PATH_LIM
 ghost use Rattle.nc_tables.specs.Policy.{verdict};
 ghost use Rattle.nc_tables.specs.Rounds.{passed};
 ghost use Rattle.nc_tables.specs.declared.bgp.Route.{Route};
-ghost use Rattle.nc_policy.specs.Indexes.{ArePolicies, IsIndexed};
+ghost use Rattle.nc_policy.specs.Indexes.{ArePolicies};
+ghost use Rattle.nc_policy.specs.Seen.{IsIndexed};
 ghost use Rattle.nc_policy.specs.Passing.{communities_by, passing_view, prepended_by};
 ghost use Rattle.nc_policy.specs.Statements.{aggregates_in, networks_in};
 ghost use Rattle.nc_policy.specs.Views.{verdict_view};
@@ -21,14 +22,25 @@ use nc_community::Held;
 use nc_tables::Route;
 use nc_types::{Network, Prefix, Reference, RouterId};
 use std::alloc::{AllocError, Global};
+use std::marker::Model;
 
 /// The tables of the maps and lists of a network's routers, and of their networks and aggregates.
 /// They are made once, and by them the clauses of a map are found one behind the other, a list by
 /// its name and a network or an aggregate by its prefix at one look-up, and what a prefix list says
-/// of a prefix at 33.
+/// of a prefix at one for each length that prefixes of its entries have.
 #[derive(Drop)]
 pub struct Policies {
     routers: Vec<RouterIndex>,
+}
+
+impl Model for Policies {
+    ghost use Rattle.std.specs.Prelude.{List, map};
+    ghost use Rattle.nc_policy.specs.Indexes.{RouterTables};
+    ghost use Rattle.nc_policy.specs.Seen.{router_tables};
+
+    ghost Value = { List RouterTables };
+
+    ghost view = { λ p. map router_tables p.routers.items };
 }
 
 impl Policies {

@@ -5,7 +5,7 @@ ghost use Rattle.nc_types.specs.Config.{config_view};
 ghost use Rattle.nc_types.specs.WellFormed.{IsWellFormed};
 ghost use Rattle.nc_tables.specs.Policy.{verdict};
 ghost use Rattle.nc_policy.specs.Views.{verdict_view};
-ghost use Rattle.nc_policy.specs.Indexes.{IsIndexed};
+ghost use Rattle.nc_policy.specs.Seen.{IsIndexed};
 
 use crate::clauses::deciding;
 use crate::lists::place_number;

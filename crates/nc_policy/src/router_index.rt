@@ -2,7 +2,8 @@
 
 ghost use Rattle.std.specs.Prelude.{◌≡◌, map, IfOk, IfSome, Some, slice_get};
 ghost use Rattle.nc_types.specs.Config.{ConfigView, PrefixListView, config_view, list_view};
-ghost use Rattle.nc_policy.specs.Indexes.{AreIndexes, IsIndexed, IsIndexOf};
+ghost use Rattle.nc_policy.specs.Indexes.{AreEntryTables};
+ghost use Rattle.nc_policy.specs.Seen.{entry_table, IsIndexed, IsIndexOf};
 
 use crate::index::ListIndex;
 use crate::names::NameIndex;
@@ -19,12 +20,13 @@ pub(crate) struct RouterIndex {
     pub(crate) maps: NameIndex,
     pub(crate) networks: PrefixIndex,
     pub(crate) aggregates: PrefixIndex,
-    lists: Vec<ListIndex>,
+    pub(crate) lists: Vec<ListIndex>,
 }
 
 // The tables of prefix lists, in their order.
 fn list_indexes(alloc: Global, lists: &[PrefixList]) -> Result<Vec<ListIndex>, AllocError>
-    ensures { IfOk result (λ indexes. AreIndexes (map list_view lists.now) indexes.items) }
+    ensures { IfOk result (λ indexes.
+        AreEntryTables (map list_view lists.now) (map entry_table indexes.items)) }
 {
     let mut indexes = Vec::with_capacity(alloc, lists.len())?;
     'lists: for list in lists {

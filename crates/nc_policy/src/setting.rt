@@ -18,14 +18,11 @@ fn path_behind(alloc: Global, prepend: &[u32], path: &Path) -> Result<Option<Pat
         ≡ (if nat_lt PATH_LIMIT (length (prepend.now ++ path.now)) then None
         else Some (prepend.now ++ path.now))) }
 {
-    let numbers = path.numbers();
-    if prepend.len() > PATH_LIMIT - numbers.len() {
+    if prepend.len() > PATH_LIMIT - path.len() {
         return Ok(None);
     }
-    let mut longer = Vec::with_capacity(alloc, prepend.len() + numbers.len())?;
-    longer.extend_from_slice(prepend)?;
-    longer.extend_from_slice(numbers)?;
-    Ok(Some(Path::new(longer)))
+    let longer = path.share()?.behind_all(alloc, prepend)?;
+    Ok(Some(longer))
 }
 
 // What a clause leaves of the communities of a route; `None` where they are too many.

@@ -5,7 +5,8 @@ ghost use Rattle.std.specs.Prelude.{◌≡◌, map, IfOk};
 ghost use Rattle.nc_types.specs.Cidr.{Cidr};
 ghost use Rattle.nc_types.specs.Config.{config_view};
 ghost use Rattle.nc_policy.specs.Statements.{aggregates_in, networks_in};
-ghost use Rattle.nc_policy.specs.Indexes.{placed_in, IsPrefixIndex};
+ghost use Rattle.nc_policy.specs.Indexes.{placed_in};
+ghost use Rattle.nc_policy.specs.Seen.{prefix_table, IsPrefixIndex};
 
 use nc_types::{AggregateStatement, NetworkStatement, Prefix, RouterConfig};
 use std::alloc::{AllocError, Global};
@@ -59,7 +60,7 @@ pub(crate) fn aggregates_in(config: &RouterConfig) -> &[AggregateStatement]
 #[derive(Drop)]
 pub(crate) struct PrefixIndex {
     /// The place of the first that has a prefix.
-    first: HashMap<Prefix, usize>,
+    pub(crate) first: HashMap<Prefix, usize>,
 }
 
 impl PrefixIndex {
@@ -78,7 +79,7 @@ impl PrefixIndex {
 
     /// The place of the first that has a prefix. Takes no memory.
     pub(crate) fn place(&self, prefix: Prefix) -> Option<usize>
-        ensures { result ≡ placed_in self.now prefix }
+        ensures { result ≡ placed_in (prefix_table self.now) prefix }
     {
         self.first.get(&prefix).copied()
     }

@@ -3,7 +3,7 @@ use Rattle.std.specs.Str.{bytes_eq}
 use Rattle.std.proofs.lemmas.Iterator.Adapters.{position_from-zero}
 use Rattle.nc_types.specs.Config.{config_view}
 use Rattle.nc_policy.specs.declared.router_index.RouterIndex.{RouterIndex}
-use Rattle.nc_policy.specs.Indexes.{IsIndexed}
+use Rattle.nc_policy.specs.Seen.{IsIndexed}
 use Rattle.nc_policy.specs.Views.{map_names}
 use Rattle.nc_policy.proofs.clauses.first_clause.Goals as goal
 

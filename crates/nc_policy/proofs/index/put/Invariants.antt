@@ -1,6 +1,7 @@
 use Rattle.std.proofs.Common.{◌≡◌, ◌&&◌, ℕ, Some, if◌then◌else◌, nat_lt}
 use Rattle.nc_types.specs.Cidr.{Cidr}
-use Rattle.nc_policy.specs.Indexes.{is_at, spot_in}
+use Rattle.nc_policy.specs.Indexes.{is_at}
+use Rattle.nc_policy.specs.Seen.{spot_in}
 use Rattle.nc_policy.proofs.index.put.Given as goal
 
 -- the lengths so far are put

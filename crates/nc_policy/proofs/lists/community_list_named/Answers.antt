@@ -2,7 +2,7 @@ use Rattle.std.proofs.Common.{Bor, Option, IfSome, subst, ◌∙◌}
 use Rattle.std.specs.Str.{bytes_eq}
 use Rattle.nc_types.specs.Config.{CommunityListView, config_view}
 use Rattle.nc_policy.specs.declared.router_index.RouterIndex.{RouterIndex}
-use Rattle.nc_policy.specs.Indexes.{IsIndexed}
+use Rattle.nc_policy.specs.Seen.{IsIndexed}
 use Rattle.nc_policy.proofs.Permitting.{position_map}
 use Rattle.nc_policy.proofs.lists.community_list_named.Goals as goal
 
@@ -11,4 +11,4 @@ returns-in-Some c =
     let config = config_view c.args.config.now in
     let name = c.args.name.now in
     let tables : IsIndexed config c.in-Some.index.now = subst (λ (o : Option (Bor RouterIndex)). IfSome o (λ x. IsIndexed config x.now)) c.in-Some.is c.requires.indexed in
-    c.place.ensures ∙ tables.community_names.first name ∙ position_map (λ (l : CommunityListView). l.name) (bytes_eq name) config.community_lists
+    c.place.ensures ∙ tables.community_lists.first name ∙ position_map (λ (l : CommunityListView). l.name) (bytes_eq name) config.community_lists

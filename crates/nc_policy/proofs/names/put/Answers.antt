@@ -1,6 +1,6 @@
 use Rattle.std.proofs.Common.{ℕ, List, Some, cond, ap, ◌∙◌}
 use Rattle.std.specs.Str.{bytes_eq}
-use Rattle.nc_policy.specs.Indexes.{place_named}
+use Rattle.nc_policy.specs.Seen.{place_named}
 use Rattle.nc_policy.proofs.Naming.{named_more}
 use Rattle.nc_policy.proofs.names.put.Goals as goal
 

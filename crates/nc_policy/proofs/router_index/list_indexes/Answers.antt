@@ -4,9 +4,10 @@ use Rattle.std.proofs.lemmas.List.{length-map, length_push}
 use Rattle.nc_types.specs.Config.{PrefixListView, list_view}
 use Rattle.nc_types.specs.declared.config.ListEntry.{ListEntry}
 use Rattle.nc_policy.specs.declared.index.ListIndex.{ListIndex}
-use Rattle.nc_policy.specs.Indexes.{IsIndexOf}
+use Rattle.nc_policy.specs.Indexes.{EntryTable, IsEntryTable}
+use Rattle.nc_policy.specs.Seen.{entry_table, IsIndexOf}
 use Rattle.nc_policy.proofs.Permitting.{seen_at}
-use Rattle.nc_policy.proofs.Tables.{pushed}
+use Rattle.nc_policy.proofs.Tables.{pushed, each_seen}
 use Rattle.nc_policy.proofs.router_index.list_indexes.Goals as goal
 
 pub lists-preserved : goal.lists-preserved
@@ -28,6 +29,6 @@ pub returns : goal.returns
 returns c =
     let all : c.lists.list-index ≡ length c.args.lists.now = omega arith in
     record {
-      count = c.lists.invariant.count ∙ all ∙ sym (length-map c.args.lists.now list_view);
-      each = c.lists.invariant.each;
+      count = length-map c.lists.indexes.items entry_table ∙ c.lists.invariant.count ∙ all ∙ sym (length-map c.args.lists.now list_view);
+      each = each_seen (λ (p : PrefixListView) (t : EntryTable). IsEntryTable p.entries t) entry_table (map list_view c.args.lists.now) c.lists.indexes.items c.lists.invariant.each;
     }

@@ -2,7 +2,7 @@ use Rattle.std.proofs.Common.{◌≡◌, ℕ, Some, length, map}
 use Rattle.std.specs.Prelude.{slice_get}
 use Rattle.nc_types.specs.Config.{PrefixListView, list_view}
 use Rattle.nc_policy.specs.declared.index.ListIndex.{ListIndex}
-use Rattle.nc_policy.specs.Indexes.{IsIndexOf}
+use Rattle.nc_policy.specs.Seen.{IsIndexOf}
 use Rattle.nc_policy.proofs.router_index.list_indexes.Given as goal
 
 -- the lists so far have their tables

@@ -1,7 +1,5 @@
-use Rattle.std.proofs.Common.{◌<◌, ◌≤◌, ap, Option, ℕ, ◌∙◌, arith}
+use Rattle.std.proofs.Common.{◌≤◌, ap, Option, ℕ, ◌∙◌, arith}
 use Rattle.std.specs.Prelude.{position}
-use Rattle.nc_types.specs.Cidr.{Cidr}
-use Rattle.nc_types.specs.Masks.{network_of}
 use Rattle.nc_policy.specs.Indexes.{is_shorter, lower_of}
 use Rattle.nc_policy.proofs.Spots.{one_more, none_shorter, all_shorter}
 use Rattle.nc_policy.proofs.index.ListIndex.deciding.Goals as goal
@@ -13,11 +11,9 @@ pub lengths-preserved : goal.lengths-preserved
 lengths-preserved c = λ entries is.
     let p = c.args.prefix in
     let len = c.lengths.len in
-    let around : Cidr = record { base = network_of p.base len; len = len } in
-    let few : p.len < 33 = (let w : p.len ≤ 32 = c.entry_around.ensures.valid.within in omega arith) in
     c.lower_of-best.ensures
     ∙ ap (λ (o : Option ℕ). lower_of o c.entry_around.result) (c.lengths.invariant entries is)
-    ∙ ap (lower_of (position (is_shorter len p) entries)) (c.entry_around.ensures.entry ∙ is.answers around p.len few)
+    ∙ ap (lower_of (position (is_shorter len p) entries)) (c.entry_around.ensures.entry entries is)
     ∙ one_more p len entries is.valid
 
 pub returns : goal.returns

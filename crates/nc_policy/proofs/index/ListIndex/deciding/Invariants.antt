@@ -1,7 +1,8 @@
 use Rattle.std.proofs.Common.{◌≡◌, List}
 use Rattle.std.specs.Prelude.{position}
 use Rattle.nc_types.specs.declared.config.ListEntry.{ListEntry}
-use Rattle.nc_policy.specs.Indexes.{is_shorter, IsIndexOf}
+use Rattle.nc_policy.specs.Indexes.{is_shorter}
+use Rattle.nc_policy.specs.Seen.{IsIndexOf}
 use Rattle.nc_policy.proofs.index.ListIndex.deciding.Given as goal
 
 -- the first entry of shorter prefixes

@@ -7,8 +7,9 @@ use Rattle.std.specs.Str.{bytes_eq}
 use Rattle.std.proofs.lemmas.Iterator.Adapters.{position_from-zero}
 use Rattle.std.proofs.lemmas.List.{length-map, length-set, drop_all}
 use Rattle.std.proofs.lemmas.Option.{slice_get_within}
-use Rattle.nc_policy.specs.Indexes.{place_from, place_named}
-use Rattle.nc_policy.proofs.Naming.{named_back, behind_more}
+use Rattle.nc_policy.specs.Indexes.{place_from}
+use Rattle.nc_policy.specs.Seen.{place_named}
+use Rattle.nc_policy.proofs.Naming.{named_back, named_seen, behind_more}
 use Rattle.nc_policy.proofs.Permitting.{seen_at}
 use Rattle.nc_policy.proofs.names.NameIndex.new.Goals as goal
 
@@ -56,6 +57,6 @@ returns g c =
     let names = map g.T.Named.name_of c.args.items.now in
     let done : c.items.place ≡ 0 = omega arith in
     record {
-      first = λ q. c.items.invariant.first q ∙ ap (λ (k : ℕ). position_from (bytes_eq q) k (drop k names)) done ∙ sym (position_from-zero (bytes_eq q) names);
+      first = λ q. named_seen c.items.first.entries q ∙ c.items.invariant.first q ∙ ap (λ (k : ℕ). position_from (bytes_eq q) k (drop k names)) done ∙ sym (position_from-zero (bytes_eq q) names);
       behind = λ k name at. c.items.invariant.behind k name (omega arith) at;
     }

@@ -1,6 +1,7 @@
 use Rattle.std.proofs.Common.{◌≡◌, ◌≤◌, ◌+◌, ℕ, List, Some, length, map}
 use Rattle.std.specs.Prelude.{slice_get}
-use Rattle.nc_policy.specs.Indexes.{place_from, place_named}
+use Rattle.nc_policy.specs.Indexes.{place_from}
+use Rattle.nc_policy.specs.Seen.{place_named}
 use Rattle.nc_policy.proofs.names.NameIndex.new.Given as goal
 
 -- the names from a place on are put, and what stands there knows the next one of its name

@@ -3,9 +3,10 @@ use Rattle.std.specs.Prelude.{slice_get}
 use Rattle.std.proofs.lemmas.List.{length-map, length_push}
 use Rattle.nc_types.specs.Config.{ConfigView, config_view}
 use Rattle.nc_policy.specs.declared.router_index.RouterIndex.{RouterIndex}
-use Rattle.nc_policy.specs.Indexes.{IsIndexed}
+use Rattle.nc_policy.specs.Indexes.{AreTablesOf}
+use Rattle.nc_policy.specs.Seen.{router_tables, IsIndexed}
 use Rattle.nc_policy.proofs.Permitting.{seen_at}
-use Rattle.nc_policy.proofs.Tables.{pushed}
+use Rattle.nc_policy.proofs.Tables.{pushed, each_seen}
 use Rattle.nc_policy.proofs.policies.Policies.new.Goals as goal
 
 pub routers-preserved : goal.routers-preserved
@@ -27,6 +28,6 @@ returns c =
     let configs = c.routers-configs.result.now in
     let all : c.routers.config-index ≡ length configs = omega arith in
     record {
-      count = c.routers.invariant.count ∙ all ∙ sym (length-map configs config_view) ∙ ap (length {A = ConfigView}) c.routers-configs.ensures.routers;
-      each = subst (λ (cs : List ConfigView). (k : ℕ) (r : ConfigView) (x : RouterIndex) → slice_get cs k ≡ Some r → slice_get c.routers.routers.items k ≡ Some x → IsIndexed r x) c.routers-configs.ensures.routers c.routers.invariant.each;
+      count = length-map c.routers.routers.items router_tables ∙ c.routers.invariant.count ∙ all ∙ sym (length-map configs config_view) ∙ ap (length {A = ConfigView}) c.routers-configs.ensures.routers;
+      each = each_seen AreTablesOf router_tables c.args.network.now c.routers.routers.items (subst (λ (cs : List ConfigView). (k : ℕ) (r : ConfigView) (x : RouterIndex) → slice_get cs k ≡ Some r → slice_get c.routers.routers.items k ≡ Some x → IsIndexed r x) c.routers-configs.ensures.routers c.routers.invariant.each);
     }

@@ -2,7 +2,7 @@ use Rattle.std.proofs.Common.{◌≡◌, ℕ, Some, length, map}
 use Rattle.std.specs.Prelude.{slice_get}
 use Rattle.nc_types.specs.Config.{ConfigView, config_view}
 use Rattle.nc_policy.specs.declared.router_index.RouterIndex.{RouterIndex}
-use Rattle.nc_policy.specs.Indexes.{IsIndexed}
+use Rattle.nc_policy.specs.Seen.{IsIndexed}
 use Rattle.nc_policy.proofs.policies.Policies.new.Given as goal
 
 -- the routers so far have their tables

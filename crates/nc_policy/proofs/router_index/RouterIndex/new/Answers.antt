@@ -3,7 +3,8 @@ use Rattle.nc_types.specs.Config.{PrefixListView, CommunityListView, ClauseView,
 use Rattle.nc_types.specs.declared.config.NetworkStatement.{NetworkStatement}
 use Rattle.nc_types.specs.declared.config.AggregateStatement.{AggregateStatement}
 use Rattle.nc_types.specs.declared.config.PrefixList.{PrefixList}
-use Rattle.nc_policy.specs.Indexes.{AreIndexes, IsPrefixIndex}
+use Rattle.nc_policy.specs.Indexes.{AreEntryTables}
+use Rattle.nc_policy.specs.Seen.{entry_table, IsPrefixIndex}
 use Rattle.nc_policy.proofs.Naming.{names_seen}
 use Rattle.nc_policy.proofs.router_index.RouterIndex.new.Goals as goal
 
@@ -11,12 +12,12 @@ pub returns : goal.returns
 returns c =
     let config = c.args.config.now in
     record {
-      names = names_seen (λ (l : PrefixListView). l.name) list_view c.deref.result.now config.lists.items c.deref.ensures.value c.in_ok-names.names c.in_ok-names.ensures;
-      community_names =
+      lists = names_seen (λ (l : PrefixListView). l.name) list_view c.deref.result.now config.lists.items c.deref.ensures.value c.in_ok-names.names c.in_ok-names.ensures;
+      community_lists =
           names_seen (λ (l : CommunityListView). l.name) community_list_view c.deref-2.result.now config.community_lists.items c.deref-2.ensures.value c.in_ok-community_names.community_names
           c.in_ok-community_names.ensures;
       maps = names_seen (λ (k : ClauseView). k.map_name) clause_view c.deref-3.result.now config.clauses.items c.deref-3.ensures.value c.in_ok-maps.maps c.in_ok-maps.ensures;
-      lists = subst (λ (ls : List PrefixList). AreIndexes (map list_view ls) c.in_ok-lists.lists.items) c.deref-4.ensures.value c.in_ok-lists.ensures;
+      entries = subst (λ (ls : List PrefixList). AreEntryTables (map list_view ls) (map entry_table c.in_ok-lists.lists.items)) c.deref-4.ensures.value c.in_ok-lists.ensures;
       networks = subst (λ (ns : List NetworkStatement). IsPrefixIndex (map (λ n. n.prefix) ns) c.in_ok-networks.networks) c.networks_in.ensures c.in_ok-networks.ensures;
       aggregates = subst (λ (gs : List AggregateStatement). IsPrefixIndex (map (λ a. a.prefix) gs) c.in_ok-aggregates.aggregates) c.aggregates_in.ensures c.in_ok-aggregates.ensures;
     }

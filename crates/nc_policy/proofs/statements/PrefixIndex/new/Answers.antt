@@ -5,7 +5,7 @@ use Rattle.std.proofs.lemmas.Iterator.Adapters.{position_from-zero}
 use Rattle.std.proofs.lemmas.List.{length-map, drop_all}
 use Rattle.nc_types.specs.Cidr.{Cidr, same_prefix}
 use Rattle.nc_types.proofs.Walks.{drop_view}
-use Rattle.nc_policy.specs.Indexes.{prefix_in}
+use Rattle.nc_policy.specs.Indexes.{placed_in}
 use Rattle.nc_policy.proofs.statements.PrefixIndex.new.Goals as goal
 
 pub items-init : goal.items-init
@@ -33,7 +33,7 @@ items-preserved g c =
       within = omega arith;
       first = λ p.
           c.in_ok-insert.ensures.updates.0 p
-          ∙ ap (λ (q : Cidr). cond (same_prefix q p) (Some place) (prefix_in c.items.first p)) c.prefix.ensures
+          ∙ ap (λ (q : Cidr). cond (same_prefix q p) (Some place) (placed_in c.items.first.entries p)) c.prefix.ensures
           ∙ ap (cond (same_prefix (prefix_of item) p) (Some place)) (c.items.invariant.first p ∙ ap (λ (n : ℕ). position_from (λ q. same_prefix q p) n (drop n prefixes)) (sym next))
           ∙ sym (ap (position_from (λ q. same_prefix q p) place) (drop_view prefix_of items place item c.index-items-place.is within));
     }

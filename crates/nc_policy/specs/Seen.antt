@@ -1,0 +1,73 @@
+-- What the code keeps as tables.
+use Rattle.std.specs.Prelude.{ℕ, Bool, ◌&&◌, nat_eq, List, map, Option}
+use Rattle.std.specs.Global.{Vec}
+use Rattle.std.specs.HashMap.{HashMap, get, get_by}
+use Rattle.std.specs.Str.{bytes_eq}
+use Rattle.nc_types.specs.Cidr.{Cidr}
+use Rattle.nc_types.specs.Config.{ConfigView}
+use Rattle.nc_types.specs.declared.config.ListEntry.{ListEntry}
+use Rattle.nc_policy.specs.Indexes.{EntryTable, NameTable, RouterTables, IsEntryTable, IsNameTable, IsPrefixTable, AreTablesOf}
+use Rattle.nc_policy.specs.declared.statements.PrefixIndex.{PrefixIndex}
+use Rattle.nc_policy.specs.declared.index.Spot.{Spot}
+use Rattle.nc_policy.specs.declared.index.ListIndex.{ListIndex}
+use Rattle.nc_policy.specs.declared.names.NameIndex.{NameIndex}
+use Rattle.nc_policy.specs.declared.router_index.RouterIndex.{RouterIndex}
+
+-- ---- entries by prefix and length
+
+-- the key of a prefix of entries and a length, and what a key is of
+abbrev pub spot_at : Cidr → ℕ → Spot
+spot_at q n = record { addr = record { 0 = q.base }; prefix_len = q.len; len = n }
+
+abbrev pub spot_view : Spot → Cidr × ℕ
+spot_view s = (record { base = s.addr.0; len = s.prefix_len }, s.len)
+
+-- two keys are the same
+abbrev pub same_spot : Spot → Spot → Bool
+same_spot s t = nat_eq s.addr.0 t.addr.0 && (nat_eq s.prefix_len t.prefix_len && nat_eq s.len t.len)
+
+-- what is kept for a prefix of entries and a length
+abbrev pub spot_in : {S : Type 0} → HashMap Spot ℕ S → Cidr → ℕ → Option ℕ
+spot_in first q n = get same_spot first (spot_at q n)
+
+abbrev pub entry_table : ListIndex → EntryTable
+entry_table x = record { places = map (λ e. (spot_view e.0, e.1)) x.first.entries; lengths = x.lengths }
+
+abbrev pub IsIndexOf : List ListEntry → ListIndex → Type 0
+IsIndexOf entries index = IsEntryTable entries (entry_table index)
+
+-- ---- names
+
+-- the place that is kept for a name
+abbrev pub place_named : {S : Type 0} → HashMap (Vec ℕ) ℕ S → List ℕ → Option ℕ
+place_named first q = get_by (λ k. bytes_eq q k.items) first
+
+abbrev pub name_table : NameIndex → NameTable
+name_table x = record { places = map (λ e. (e.0.items, e.1)) x.first.entries; next = x.next.items }
+
+abbrev pub IsNameIndex : List (List ℕ) → NameIndex → Type 0
+IsNameIndex names index = IsNameTable names (name_table index)
+
+-- ---- prefixes
+
+abbrev pub prefix_table : PrefixIndex → List (Cidr × ℕ)
+prefix_table x = x.first.entries
+
+abbrev pub IsPrefixIndex : List Cidr → PrefixIndex → Type 0
+IsPrefixIndex prefixes index = IsPrefixTable prefixes (prefix_table index)
+
+-- ---- the tables of a router
+
+abbrev pub router_tables : RouterIndex → RouterTables
+router_tables x =
+    record {
+      lists = name_table x.names;
+      community_lists = name_table x.community_names;
+      maps = name_table x.maps;
+      entries = map entry_table x.lists.items;
+      networks = prefix_table x.networks;
+      aggregates = prefix_table x.aggregates;
+    }
+
+abbrev pub IsIndexed : ConfigView → RouterIndex → Type 0
+IsIndexed c index = AreTablesOf c (router_tables index)
