@@ -41,7 +41,7 @@ fn sent_count(sent: &Sent) -> usize
     ensures count { result ≡ length (message_view sent.now).route.path }
     ensures few { result ≤ PATH_LIMIT }
 {
-    let count = sent.out.prepended().len() + sent.best.route.path.numbers().len();
+    let count = sent.out.prepended().len() + sent.best.route.path.len();
     if sent.link.session.internal {
         count
     } else {
@@ -57,7 +57,7 @@ fn taken_count(taken: &Taken) -> usize
 {
     let sent = &taken.sent;
     let before = taken.into.prepended().len();
-    let count = before + sent.out.prepended().len() + sent.best.route.path.numbers().len();
+    let count = before + sent.out.prepended().len() + sent.best.route.path.len();
     if sent.link.session.internal {
         count
     } else {
@@ -88,10 +88,7 @@ fn rank_of_accepted(prefix: Prefix, taken: &Taken) -> u32
 fn rank_of_chosen(prefix: Prefix, chosen: &Chosen) -> u32
     ensures { result ≡ rank_of_chosen prefix chosen.now }
 {
-    lowest_rank(
-        prefix,
-        weight(chosen.route.path.numbers().len(), chosen.internal),
-    ) + 4
+    lowest_rank(prefix, weight(chosen.route.path.len(), chosen.internal)) + 4
 }
 
 /// The rank of a network statement's fact; 0 where there is no such statement.

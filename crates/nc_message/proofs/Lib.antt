@@ -2,7 +2,6 @@ pub mod Lists
 pub mod Sending
 pub mod Making
 pub mod Picking
-pub mod SameNumbers
 pub mod Distinct
 pub mod Processes
 pub mod Ends

@@ -53,7 +53,7 @@ fn is_looped(sent: &Sent) -> bool
     if has(sent.out.prepended(), own) {
         return true;
     }
-    has(sent.best.route.path.numbers(), own)
+    sent.best.route.path.contains(own)
 }
 
 // Whether a candidate was learnt.

@@ -1,36 +1,44 @@
 //! What is learnt by what was accepted: told field by field without memory, or made in memory.
 
-ghost use Rattle.std.specs.Prelude.{◌≡◌, ◌+◌, ◌++◌, ◌<◌, length, slice_index_or, IfOk};
+ghost use Rattle.std.specs.Prelude.{◌≡◌, ◌≤◌, [], None, Some, drop, if◌then◌else◌, length, slice_get, IfOk};
 ghost use Rattle.nc_tables.specs.Rounds.{learnt_from};
 ghost use Rattle.nc_tables.specs.Sessions.{router_id};
 ghost use Rattle.nc_sessions.specs.Views.{link_view};
-ghost use Rattle.nc_message.specs.Views.{message_view, taken_view, HasId, IsTaken};
+ghost use Rattle.nc_types.specs.declared.TheConstants.{PATH_LIMIT};
+ghost use Rattle.nc_message.specs.Views.{message_view, taken_view, HasId, IsTaken, IsTold};
 
 use crate::accepting::{Taken, next_hop};
 use crate::messages::{Sent, carried, sent_length};
 use nc_sessions::router_id;
-use nc_tables::{BgpFrom, Chosen, Path, Route};
+use nc_tables::{BgpFrom, Chosen, Numbers, Path, Route};
 use nc_types::{Addr, DEFAULT_PREFERENCE, OriginCode};
 use std::alloc::{AllocError, Global};
+use std::marker::Model;
 
-// The path of a route as it is taken: what the receiver's map prepends, the sender's own number
-// toward another system, what the sender's map prepends, and the path of the candidate.
+// The path of a route as it is sent: toward another system the sender's own number, what its map
+// prepends, and the path of the candidate, whose numbers are shared.
+fn sent_path(alloc: Global, sent: &Sent) -> Result<Path, AllocError>
+    requires told { IsTold sent.now }
+    requires short { length (message_view sent.now).route.path ≤ PATH_LIMIT }
+    ensures { IfOk result (λ path. path ≡ (message_view sent.now).route.path) }
+{
+    let own = sent.best.route.path.share()?;
+    let path = own.behind_all(alloc, sent.out.prepended())?;
+    if sent.link.session.internal {
+        return Ok(path);
+    }
+    let path = path.behind(alloc, sent.link.sender.process.asn)?;
+    Ok(path)
+}
+
+// The path of a route as it is taken: what the receiver's map prepends, and the path as it is sent.
 fn path_of(alloc: Global, taken: &Taken) -> Result<Path, AllocError>
     requires { IsTaken taken.now }
     ensures { IfOk result (λ path. path ≡ (taken_view taken.now).into.route.path) }
 {
-    let sent = &taken.sent;
-    let before = taken.into.prepended();
-    let behind = sent.out.prepended();
-    let own = sent.best.route.path.numbers();
-    let mut numbers = Vec::with_capacity(alloc, before.len() + 1 + behind.len() + own.len())?;
-    numbers.extend_from_slice(before)?;
-    if !sent.link.session.internal {
-        numbers.push(sent.link.sender.process.asn)?;
-    }
-    numbers.extend_from_slice(behind)?;
-    numbers.extend_from_slice(own)?;
-    Ok(Path::new(numbers))
+    let path = sent_path(alloc, &taken.sent)?;
+    let path = path.behind_all(alloc, taken.into.prepended())?;
+    Ok(path)
 }
 
 /// The local preference of a route as it is taken: toward another system it begins anew.
@@ -114,42 +122,91 @@ pub(crate) fn length_of(taken: &Taken) -> usize
     before.len() + sent_length(sent.link.session.internal, sent.best, &sent.out)
 }
 
-// The number at a place of two lists, one behind the other.
-fn number_in(first: &[u32], second: &[u32], place: usize) -> u32
-    requires { place < length first.now + length second.now }
-    ensures { result ≡ slice_index_or (first.now ++ second.now) place 0 }
+// The number that the sender puts before the path: toward another system its own.
+fn outer_number(sent: &Sent) -> Option<u32>
+    ensures { result ≡ (if sent.now.link.session.internal then None
+        else Some (link_view sent.now.link).sender.process.asn) }
 {
-    if place < first.len() {
-        first[place]
-    } else {
-        second[place - first.len()]
-    }
-}
-
-// The number at a place of the path of a route as it is sent.
-fn sent_number(sent: &Sent, place: usize) -> u32
-    requires { place < length (message_view sent.now).route.path }
-    ensures { result ≡ slice_index_or (message_view sent.now).route.path place 0 }
-{
-    let prepended = sent.out.prepended();
-    let own = sent.best.route.path.numbers();
     if sent.link.session.internal {
-        return number_in(prepended, own, place);
+        None
+    } else {
+        Some(sent.link.sender.process.asn)
     }
-    if place == 0 {
-        return sent.link.sender.process.asn;
-    }
-    number_in(prepended, own, place - 1)
 }
 
-/// The number at a place of the path of a route as it is taken.
-pub(crate) fn number_of(taken: &Taken, place: usize) -> u32
-    requires { place < length (taken_view taken.now).into.route.path }
-    ensures { result ≡ slice_index_or (taken_view taken.now).into.route.path place 0 }
+// The first of some numbers, which is passed.
+fn pass_first(numbers: &mut &[u32]) -> Option<u32>
+    ensures first { result ≡ slice_get numbers.old.now 0 }
+    ensures left { numbers.new.now ≡ drop 1 numbers.old.now }
 {
-    let before = taken.into.prepended();
-    if place < before.len() {
-        return before[place];
+    let (first, rest) = numbers.split_first()?;
+    *numbers = rest;
+    Some(*first)
+}
+
+/// What is left of the numbers of a path as it is taken, on the way along it.
+#[derive(Drop)]
+pub(crate) struct Walk<'a> {
+    // what the receiver's map prepends
+    before: &'a [u32],
+    // the sender's own number
+    sender: Option<u32>,
+    // what the sender's map prepends
+    behind: &'a [u32],
+    // the path of the sender's candidate
+    own: Numbers<'a>,
+}
+
+impl<'a> Model for Walk<'a> {
+    ghost use Rattle.std.specs.Prelude.{List, ℕ, ◌++◌, ◌∷◌, []};
+    ghost use Rattle.std.specs.Option.{option_map_or};
+
+    ghost Value = { List ℕ };
+
+    ghost view = { λ w. w.before.now ++ (option_map_or (λ n. n ∷ []) w.sender []
+        ++ (w.behind.now ++ w.own)) };
+}
+
+impl<'a> Walk<'a> {
+    /// Along no path.
+    pub(crate) fn none() -> Walk<'a>
+        ensures { result ≡ [] }
+    {
+        Walk {
+            before: &[],
+            sender: None,
+            behind: &[],
+            own: Numbers::none(),
+        }
     }
-    sent_number(&taken.sent, place - before.len())
+
+    /// Along the path of a route as it is taken.
+    pub(crate) fn along(taken: &Taken<'a>) -> Walk<'a>
+        ensures { result ≡ (taken_view taken.now).into.route.path }
+    {
+        let sent = &taken.sent;
+        Walk {
+            before: taken.into.prepended(),
+            sender: outer_number(sent),
+            behind: sent.out.prepended(),
+            own: sent.best.route.path.numbers(),
+        }
+    }
+
+    /// The next number, which is passed; `None` where none is left.
+    pub(crate) fn pass(&mut self) -> Option<u32>
+        ensures first { result ≡ slice_get self.old 0 }
+        ensures left { self.new ≡ drop 1 self.old }
+    {
+        if let Some(number) = pass_first(&mut self.before) {
+            return Some(number);
+        }
+        if let Some(number) = self.sender.take() {
+            return Some(number);
+        }
+        if let Some(number) = pass_first(&mut self.behind) {
+            return Some(number);
+        }
+        self.own.pass()
+    }
 }

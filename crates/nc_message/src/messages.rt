@@ -61,7 +61,7 @@ fn out_of<'a>(given: &Given<'a>, link: &Link<'a>, best: &'a Chosen) -> Option<Pa
         (λ p. length (communities_by p best.now.route.communities) ≤ COMMUNITY_LIMIT) }
 {
     let held = Held::of(&best.route.communities);
-    let count = best.route.path.numbers().len();
+    let count = best.route.path.len();
     let map = &link.sender.statement.map_out;
     let peer = link.session.peer;
     given
@@ -76,7 +76,7 @@ pub(crate) fn sent_length(internal: bool, best: &Chosen, out: &Passing) -> usize
     ensures { result ≡ (if internal then 0 else 1)
         + (length (prepended_by out.now) + length best.now.route.path) }
 {
-    let length = out.prepended().len() + best.route.path.numbers().len();
+    let length = out.prepended().len() + best.route.path.len();
     if internal { length } else { 1 + length }
 }
 

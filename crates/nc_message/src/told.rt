@@ -1,6 +1,6 @@
 //! A candidate of a prefix, told without its route in memory.
 
-ghost use Rattle.std.specs.Prelude.{◌≡◌, ◌<◌, length, slice_index_or, IfOk, IfSome};
+ghost use Rattle.std.specs.Prelude.{◌≡◌, length, IfOk, IfSome};
 ghost use Rattle.std.specs.Str.{bytes_eq};
 ghost use Rattle.nc_tables.specs.Rounds.{begun, entry_at, learnt_from};
 ghost use Rattle.nc_message.specs.Given.{AreGiven};
@@ -8,9 +8,7 @@ ghost use Rattle.nc_message.specs.Views.{taken_view, HasId, IsTaken};
 
 use crate::accepting::{Taken, accepted_at};
 use crate::given::Given;
-use crate::learnt::{
-    learnt_from, length_of, metric_of, number_of, origin_of, preference_of, sender_id,
-};
+use crate::learnt::{Walk, learnt_from, length_of, metric_of, origin_of, preference_of, sender_id};
 use nc_select::Candidate;
 use nc_tables::{BgpFrom, BgpTable, Chosen, Path, Route};
 use nc_types::{Addr, Communities, DEFAULT_PREFERENCE, OriginCode, Prefix, RouterId};
@@ -52,7 +50,7 @@ fn begun(alloc: Global, prefix: Prefix, from: BgpFrom) -> Chosen
     Chosen {
         route: Route {
             prefix,
-            path: Path::new(Vec::new(alloc)),
+            path: Path::empty(),
             next_hop: Addr(0),
             preference: DEFAULT_PREFERENCE,
             metric: 0,
@@ -101,30 +99,29 @@ impl<'a> Told<'a> {
         }
     }
 
-    // The number at a place of its path.
-    fn number(&self, place: usize) -> u32
-        requires { place < length self.now.route.path }
-        ensures { result ≡ slice_index_or self.now.route.path place 0 }
+    // Along its path.
+    fn walk(&self) -> Walk<'a>
+        ensures { result ≡ self.now.route.path }
     {
         match &self.way {
-            Way::Begun(_, _) => 0,
-            Way::Learnt(_, taken) => number_of(taken, place),
+            Way::Begun(_, _) => Walk::none(),
+            Way::Learnt(_, taken) => Walk::along(taken),
         }
     }
 }
 
-// Whether two candidates whose paths have so many numbers have the same there, in their order.
-fn has_same_numbers(a: &Told, b: &Told, count: usize) -> bool
-    requires a { length a.now.route.path ≡ count }
-    requires b { length b.now.route.path ≡ count }
-    ensures { result ≡ bytes_eq a.now.route.path b.now.route.path }
+// Whether what is left of two paths are the same numbers, in their order.
+fn have_same_numbers(a: Walk<'_>, b: Walk<'_>) -> bool
+    ensures { result ≡ bytes_eq a.entry b.entry }
 {
-    'numbers: for place in 0..count {
-        if a.number(place) != b.number(place) {
+    let mut a = a;
+    let mut b = b;
+    'numbers: while let Some(number) = a.pass() {
+        if b.pass() != Some(number) {
             return false;
         }
     }
-    true
+    b.pass().is_none()
 }
 
 impl<'a> Candidate for Told<'a> {
@@ -187,11 +184,7 @@ impl<'a> Candidate for Told<'a> {
     }
 
     fn has_same_path(&self, other: &Self) -> bool {
-        let count = self.path_length();
-        if other.path_length() != count {
-            return false;
-        }
-        has_same_numbers(self, other, count)
+        self.path_length() == other.path_length() && have_same_numbers(self.walk(), other.walk())
     }
 }
 

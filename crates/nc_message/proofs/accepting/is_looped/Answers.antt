@@ -41,5 +41,5 @@ returns c =
     let s = c.args.sent.now in
     let none : has_sender s ≡ false = sym c.has_own_sender.ensures ∙ c.if-has_own_sender.false in
     let nor : has_prepended s ≡ false = ap (list_any (is_own_number s)) (sym c.prepended.ensures) ∙ sym c.has.ensures ∙ c.if-has.false in
-    c.has-2.ensures ∙ ap (list_any (is_own_number s)) c.numbers.ensures.numbers
+    c.contains.ensures
     ∙ sym (looped s ∙ ap (λ (t : Bool). t || (has_prepended s || has_path s)) none ∙ ap (λ (t : Bool). t || has_path s) nor)
