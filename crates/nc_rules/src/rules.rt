@@ -12,6 +12,7 @@ use nc_graph::inference::Inference;
 use nc_graph::node::NodeKind;
 use nc_policy::Policies;
 use nc_rules_route::{path_address, path_parents, route_parents, rules_are_lawful};
+use nc_stable::SettledNetwork;
 use nc_tables::Stable;
 use std::alloc::{AllocError, Global};
 
@@ -23,10 +24,10 @@ pub fn rules_make_a_flow()
     rules_are_lawful();
 }
 
-/// The rules of a network: its state and the tables of its maps, both of which they own, and how many
-/// facts were asked for. Nothing gives the state back, so whatever is inferred of it is counted here. They
-/// keep the ways of packets for one address, that of the fact of such a way that was inferred last; at first
-/// there are none.
+/// The rules of a network: its state and the tables of its maps, both of which they own as settling
+/// made them, and how many facts were asked for. Nothing gives the state back, so whatever is
+/// inferred of it is counted here. They keep the ways of packets for one address, that of the fact of
+/// such a way that was inferred last; at first there are none.
 #[derive(Drop)]
 pub struct Rules {
     alloc: Global,
@@ -43,24 +44,22 @@ pub struct Rules {
 impl Rules {
     ghost use Rattle.nc_rules.specs.Seen.{state_of, asked_of};
 
-    /// The rules of a network in this state; no fact was asked for yet.
-    ///
-    /// # Errors
-    ///
-    /// Memory that runs out.
-    pub fn new(alloc: Global, state: Stable) -> Result<Rules, AllocError>
-        ensures state { IfOk result (λ rules. state_of rules ≡ state) }
-        ensures asked { IfOk result (λ rules. asked_of rules ≡ 0) }
+    /// The rules of a network that settled, by the tables of its maps that settling made; no fact
+    /// was asked for yet. Takes no memory; `alloc` is for what is inferred later.
+    pub fn new(alloc: Global, settled: SettledNetwork) -> Rules
+        ensures state { state_of result ≡ settled.state }
+        ensures asked { asked_of result ≡ 0 }
     {
         rules_make_a_flow();
-        let policies = Policies::new(alloc, state.network())?;
-        Ok(Rules {
+        let SettledNetwork { state, policies } = settled;
+        let _valid = state.network();
+        Rules {
             alloc,
             state,
             policies,
             known: None,
             asked: 0,
-        })
+        }
     }
 
     /// The state.
