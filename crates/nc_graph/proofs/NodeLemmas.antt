@@ -1,9 +1,9 @@
 -- One more node keeps a graph a graph, and each node of its fact.
-use Rattle.std.proofs.Common.{◌≡◌, ℕ, suc, zero, ◌+◌, ◌<◌, ◌⊎◌, inl, inr, Bool, true, List, [], ◌∷◌, ◌++◌, length, map, get_or, Some, slice_get, nat_lt, sym, ap, ◌∙◌, subst, refl, arith, take, min, position, Vec, Global}
+use Rattle.std.proofs.Common.{◌≡◌, ℕ, suc, zero, ◌+◌, ◌<◌, ◌⊎◌, inl, inr, Bool, true, List, [], ◌∷◌, ◌++◌, length, map, get_or, Some, slice_get, nat_lt, sym, ap, ◌∙◌, subst, refl, arith, take, min, position}
 use Rattle.std.proofs.lemmas.Bool.{lt-ltb, ltb-true, cases_lt}
 use Rattle.std.specs.List.{All, AllByRecursion}
 use Rattle.std.proofs.lemmas.List.Elements.{All-from_recursion, All-weaker, All-map}
-use Rattle.std.proofs.lemmas.List.{get_or_append_left, get_or_push, length_push, length-map, get_or-map, length-take, get_or-take, take-map, map_push}
+use Rattle.std.proofs.lemmas.List.{get_or_append_left, get_or_push, length_push, length-map, get_or-map, length-take, get_or-take}
 use Rattle.std.proofs.lemmas.List.Quantifiers.{position-Some}
 use Rattle.std.proofs.lemmas.Option.{slice_get_within, slice_get-get_or, get_or_from_slice_get}
 use Rattle.nc_graph.specs.declared.node.NodeKind.{NodeKind}
@@ -201,13 +201,3 @@ pub numbered-at : {F : Type 0} (eq : F → F → Bool) → ((x y : F) → eq x y
 numbered-at eq exact xs x i at =
     let r = position-Some (eq x) xs i x at in
     slice_get-get_or xs i x r.0 ∙ ap Some (sym (exact x (get_or xs i x) r.1))
-
--- the lists in vectors, as a graph has the parents of its nodes
-abbrev pub Numbers : Type 0
-Numbers = Vec NodeId Global
-
-pub lists-take : (len : ℕ) (vs ws : List Numbers) → ws ≡ take len vs → map (λ (v : Numbers). v.items) ws ≡ take len (map (λ (v : Numbers). v.items) vs)
-lists-take len vs ws e = ap (map (λ (v : Numbers). v.items)) e ∙ sym (take-map (λ (v : Numbers). v.items) len vs)
-
-pub lists-push : (vs ws : List Numbers) (w : Numbers) → ws ≡ vs ++ w ∷ [] → map (λ (v : Numbers). v.items) ws ≡ map (λ (v : Numbers). v.items) vs ++ w.items ∷ []
-lists-push vs ws w e = ap (map (λ (v : Numbers). v.items)) e ∙ map_push (λ (v : Numbers). v.items) vs w

@@ -1,5 +1,6 @@
 pub mod Closure
 pub mod Derivation
 pub mod Flow
+pub mod Lists
 pub mod Nodes
 pub mod Walk

@@ -7,6 +7,7 @@ ghost use Rattle.nc_graph.specs.Nodes.{no_nodes, first_nodes, IsGraph, Mirrors, 
 
 use crate::fault::GraphFault;
 use crate::inference::Inference;
+use crate::lists::Lists;
 use crate::node::{NodeId, NodeKind};
 use crate::walk::walk;
 use indexmap::IndexSet;
@@ -20,13 +21,12 @@ use std::marker::Model;
 pub struct Graph<F: Copy + Eq + Hash> {
     facts: IndexSet<F>,
     kinds: Vec<NodeKind>,
-    parents: Vec<Vec<NodeId>>,
+    parents: Lists<NodeId>,
     limit: u32,
     alloc: Global,
 }
 
 impl<F: Copy + Eq + Hash> Model for Graph<F> {
-    ghost use Rattle.std.specs.Prelude.{map};
     ghost use Rattle.nc_graph.specs.Nodes.{Nodes, IsGraph};
 
     ghost Value = { Nodes F };
@@ -34,14 +34,14 @@ impl<F: Copy + Eq + Hash> Model for Graph<F> {
     ghost view = { λ g. record {
       facts = g.facts.keys;
       kinds = g.kinds.items;
-      parents = map (λ v. v.items) g.parents.items;
+      parents = g.parents;
       limit = g.limit;
     } };
 
     ghost invariant = { λ g. IsGraph (record {
       facts = g.facts.keys;
       kinds = g.kinds.items;
-      parents = map (λ v. v.items) g.parents.items;
+      parents = g.parents;
       limit = g.limit;
     }) };
 }
@@ -55,7 +55,7 @@ impl<F: Copy + Eq + Hash> Graph<F> {
         Graph {
             facts: IndexSet::new(alloc),
             kinds: Vec::new(alloc),
-            parents: Vec::new(alloc),
+            parents: Lists::new(alloc),
             limit,
             alloc,
         }
@@ -99,7 +99,7 @@ impl<F: Copy + Eq + Hash> Graph<F> {
         ensures parents { slice_get self.now.parents node.0 ≡ Some result.now }
         ensures lower { All (λ p. p.0 < node.0) result.now }
     {
-        self.parents[node.0 as usize].as_slice()
+        self.parents.get(node.0 as usize)
     }
 
     /// Adds facts with all that they are derived from, each fact once, and answers their nodes in
@@ -109,7 +109,8 @@ impl<F: Copy + Eq + Hash> Graph<F> {
     /// # Errors
     ///
     /// `Full` where the facts of the graph with what the new ones are derived from are more than
-    /// the limit, and `Memory` where memory is refused. The graph is then as it was before.
+    /// the limit, and `Memory` where memory is refused, or the parents of all nodes are more than a
+    /// `u32` counts. The graph is then as it was before.
     pub fn add<I: Inference<Fact = F>>(
         &mut self,
         rules: &mut I,
@@ -236,10 +237,10 @@ impl<F: Copy + Eq + Hash> Graph<F> {
     {
         let nodes = self.nodes_of(parents)?;
         self.kinds.reserve(1)?;
-        self.parents.reserve(1)?;
-        self.facts.insert_full(fact)?;
+        self.facts.reserve(1)?;
+        self.parents.push(&nodes)?;
+        self.facts.insert_full(fact).unwrap();
         self.kinds.push(kind).unwrap();
-        self.parents.push(nodes).unwrap();
         Ok(())
     }
 

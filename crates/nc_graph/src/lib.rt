@@ -15,5 +15,6 @@ pub mod fault;
 pub mod graph;
 pub mod inference;
 pub mod laws;
+pub mod lists;
 pub mod node;
 mod walk;

@@ -12,7 +12,7 @@ use Rattle.nc_types.proofs.Truth.{same_truth}
 use Rattle.nc_graph.proofs.Members.{any_in, in_any, in_parts, of_all}
 use Rattle.nc_graph.proofs.WalkLemmas.{prefix-length}
 use Rattle.nc_marks.specs.declared.mark.Mark.TheVariants.{Strong, Weak, Uncovered}
-use Rattle.nc_marks.specs.Kept.{Kept, AreKept, kept_nodes}
+use Rattle.nc_marks.specs.Kept.{Kept, AreKept}
 use Rattle.nc_marks.specs.Marks.{ElementMarks, AreMarks, mark_of}
 use Rattle.nc_marks.specs.Reach.{is_leaf_of, leaf_in, AreReached}
 use Rattle.nc_marks.specs.Sets.{Table, Gathering, ArePlaced, IsTable, Grows, IsAt, has, has_node, flag, in_some}

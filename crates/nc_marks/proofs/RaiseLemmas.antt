@@ -1,9 +1,8 @@
 -- Raising the flags of all that nodes reach, one node after another.
-use Rattle.std.proofs.Common.{◌≡◌, ℕ, zero, suc, ◌+◌, ◌<◌, ◌≤◌, inl, inr, Bool, true, false, ◌||◌, List, [], ◌∷◌, ◌++◌, length, get_or, set, map, drop, sym, ap, ◌∙◌, subst, refl, arith, append_assoc, append-nil, nat_eq, nat_lt, cond, All}
+use Rattle.std.proofs.Common.{◌≡◌, ℕ, zero, suc, ◌+◌, ◌<◌, inl, inr, Bool, true, false, ◌||◌, List, [], ◌∷◌, ◌++◌, length, get_or, map, drop, sym, ap, ◌∙◌, subst, refl, arith, append_assoc, nat_eq, nat_lt, cond, All}
 use Rattle.std.proofs.lemmas.Bool.{eqb-true, eq-eqb, lt-ltb, cases_eq}
-use Rattle.std.proofs.lemmas.List.{length-append, length_push, length-set, get_or_default, get_or-set_same, get_or-set_other, drop_more, drop_all, drop-append-le, same_lists}
+use Rattle.std.proofs.lemmas.List.{get_or_default, drop_more, drop-append-le, same_lists}
 use Rattle.std.proofs.lemmas.List.Folds.{list_any-append}
-use Rattle.std.proofs.lemmas.List.Sums.{sum_by-set}
 use Rattle.std.specs.List.{list_any}
 use Rattle.nc_graph.specs.declared.node.NodeId.{NodeId}
 use Rattle.nc_graph.specs.Derivation.{occurs}
@@ -11,7 +10,7 @@ use Rattle.nc_graph.specs.Flow.{Flow}
 use Rattle.nc_graph.specs.Nodes.{Nodes, node_flow, IsGraph}
 use Rattle.nc_graph.proofs.Members.{In, in_any, any_in, in_parts, in_right, of_all}
 use Rattle.nc_marks.specs.Sets.{flag, has, has_node}
-use Rattle.nc_marks.specs.Reach.{AreReached, IsClosed, IsReached, IsOpenAt, Raises, lowered}
+use Rattle.nc_marks.specs.Reach.{AreReached, IsClosed, IsReached, IsOpenAt, Raises}
 use Rattle.nc_marks.proofs.ReachLemmas.{all_from, has-in, in-has, has_node-map, or_cases, or_left, or_right, occurs-up, flag-within}
 
 -- a node that is listed

@@ -1,12 +1,9 @@
 -- Sets as lists, and flags.
-use Rattle.std.proofs.Common.{◌≡◌, ℕ, ◌<◌, inl, inr, Bool, true, false, ◌||◌, ◌&&◌, cond, List, [], ◌∷◌, ◌++◌, length, take, map, Vec, Global, sym, ap, ◌∙◌, subst, refl, nat_eq}
+use Rattle.std.proofs.Common.{◌≡◌, ℕ, ◌<◌, inl, inr, Bool, true, false, ◌||◌, ◌&&◌, cond, List, [], ◌∷◌, sym, ap, ◌∙◌, refl, nat_eq}
 use Rattle.std.proofs.lemmas.Bool.{eqb-true}
-use Rattle.std.proofs.lemmas.List.{take-map}
-use Rattle.std.proofs.lemmas.List.Folds.{list_any-append}
 use Rattle.std.specs.List.{filter}
-use Rattle.nc_graph.proofs.Members.{in_parts, of_all}
 use Rattle.nc_marks.specs.Sets.{has, flag, Lists}
-use Rattle.nc_marks.proofs.ReachLemmas.{all_from, or_cases, or_left, or_right}
+use Rattle.nc_marks.proofs.ReachLemmas.{or_cases}
 
 -- the elements of a set that pass a test
 pub has-filter : (p : ℕ → Bool) (xs : List ℕ) (e : ℕ) → has (filter p xs) e ≡ (has xs e && p e)
@@ -50,10 +47,6 @@ pub keeps-common : (n : ℕ) (all set : List ℕ) (f0 f1 f2 : List Bool) → ((e
     → (e : ℕ) → e < n → has (filter (flag f2) all) e ≡ (has all e && has set e)
 keeps-common n all set f0 f1 f2 told lowered raised e h =
     has-filter (flag f2) all e ∙ ap (λ b. has all e && b) (tells-set n all set f0 f1 f2 told lowered raised e h)
-
--- the sets in the first vectors
-pub sets-take : (len : ℕ) (vs ws : List (Vec ℕ Global)) → ws ≡ take len vs → map (λ (v : Vec ℕ Global). v.items) ws ≡ take len (map (λ (v : Vec ℕ Global). v.items) vs)
-sets-take len vs ws e = ap (map (λ (v : Vec ℕ Global). v.items)) e ∙ sym (take-map (λ (v : Vec ℕ Global). v.items) len vs)
 
 -- a list that went on twice
 pub lists-more : (flags : List Bool) (p q r : ℕ → Bool) (xs ys zs : List ℕ) → ((e : ℕ) → r e ≡ (p e || q e)) → Lists flags p xs ys → Lists flags q ys zs → Lists flags r xs zs

@@ -9,7 +9,7 @@ use nc_graph::node::NodeId;
 use std::alloc::AllocError;
 
 // The place of the largest of the sets of nodes, and 0 where there are none.
-fn largest(sets: &Sets, places: &[usize], nodes: &[NodeId]) -> usize
+fn largest(sets: &Sets, places: &[u32], nodes: &[NodeId]) -> u32
     requires empty { IsAt sets.now 0 (λ _. false) }
     requires within { All (λ p. p.0 < length places.now) nodes.now }
     requires placed { All (λ p. slice_index_or places.now p.0 0 < length sets.now.sets) nodes.now }
@@ -28,7 +28,7 @@ fn largest(sets: &Sets, places: &[usize], nodes: &[NodeId]) -> usize
 }
 
 // The place of the smallest of the sets of nodes, of which there is one.
-fn smallest(sets: &Sets, places: &[usize], nodes: &[NodeId]) -> usize
+fn smallest(sets: &Sets, places: &[u32], nodes: &[NodeId]) -> u32
     requires some { 0 < length nodes.now }
     requires within { All (λ p. p.0 < length places.now) nodes.now }
     requires placed { All (λ p. slice_index_or places.now p.0 0 < length sets.now.sets) nodes.now }
@@ -47,7 +47,7 @@ fn smallest(sets: &Sets, places: &[usize], nodes: &[NodeId]) -> usize
 }
 
 // Whether the elements of all sets of nodes were gathered.
-fn has_each(gathered: &Gathered, sets: &Sets, places: &[usize], nodes: &[NodeId]) -> bool
+fn has_each(gathered: &Gathered, sets: &Sets, places: &[u32], nodes: &[NodeId]) -> bool
     requires within { All (λ p. p.0 < length places.now) nodes.now }
     requires placed { All (λ p. slice_index_or places.now p.0 0 < length sets.now.sets) nodes.now }
     ensures { result ≡ true → (e : ℕ) → e < gathered.now.width
@@ -65,7 +65,7 @@ fn has_each(gathered: &Gathered, sets: &Sets, places: &[usize], nodes: &[NodeId]
 fn gather(
     gathered: &mut Gathered,
     sets: &Sets,
-    places: &[usize],
+    places: &[u32],
     nodes: &[NodeId],
 ) -> Result<(), AllocError>
     requires within { All (λ p. p.0 < length places.now) nodes.now }
@@ -81,7 +81,7 @@ fn gather(
 }
 
 // Keeps of the elements gathered those of all sets of nodes.
-fn keep_common(gathered: &mut Gathered, sets: &Sets, places: &[usize], nodes: &[NodeId])
+fn keep_common(gathered: &mut Gathered, sets: &Sets, places: &[u32], nodes: &[NodeId])
     requires within { All (λ p. p.0 < length places.now) nodes.now }
     requires placed { All (λ p. slice_index_or places.now p.0 0 < length sets.now.sets) nodes.now }
     ensures width { gathered.new.width ≡ gathered.old.width }
@@ -98,9 +98,9 @@ fn keep_common(gathered: &mut Gathered, sets: &Sets, places: &[usize], nodes: &[
 pub(crate) fn union_of(
     sets: &mut Sets,
     gathered: &mut Gathered,
-    places: &[usize],
+    places: &[u32],
     nodes: &[NodeId],
-) -> Result<usize, AllocError>
+) -> Result<u32, AllocError>
     requires width { gathered.old.width ≡ sets.old.width }
     requires empty { IsAt sets.old 0 (λ _. false) }
     requires within { All (λ p. p.0 < length places.now) nodes.now }
@@ -126,9 +126,9 @@ pub(crate) fn union_of(
 pub(crate) fn intersection_of(
     sets: &mut Sets,
     gathered: &mut Gathered,
-    places: &[usize],
+    places: &[u32],
     nodes: &[NodeId],
-) -> Result<usize, AllocError>
+) -> Result<u32, AllocError>
     requires width { gathered.old.width ≡ sets.old.width }
     requires some { 0 < length nodes.now }
     requires within { All (λ p. p.0 < length places.now) nodes.now }

@@ -22,9 +22,9 @@ pub(crate) fn place_of<F: Copy + Eq + Hash>(
     graph: &Graph<F>,
     sets: &mut Sets,
     gathered: &mut Gathered,
-    places: &[usize],
+    places: &[u32],
     node: NodeId,
-) -> Result<usize, AllocError>
+) -> Result<u32, AllocError>
     requires graph { IsGraph graph.now }
     requires valid { node.0 < length graph.now.facts }
     requires len { length places.now ≡ node.0 }
@@ -56,7 +56,7 @@ fn places_of<F: Copy + Eq + Hash>(
     sets: &mut Sets,
     gathered: &mut Gathered,
     reached: &[bool],
-) -> Result<Vec<usize>, AllocError>
+) -> Result<Vec<u32>, AllocError>
     requires gathered { gathered.old.width ≡ sets.old.width }
     requires len { length reached.now ≡ length graph.now.facts }
     requires closed { IsClosed (node_flow graph.now) 0 reached.now }

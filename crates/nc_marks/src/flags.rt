@@ -22,7 +22,7 @@ pub(crate) fn flag_set(flags: &mut [bool], set: &[u32], value: bool)
 }
 
 // Raises the flags of the elements of the sets of nodes.
-pub(crate) fn flag_strong(sets: &Sets, places: &[usize], nodes: &[NodeId], flags: &mut [bool])
+pub(crate) fn flag_strong(sets: &Sets, places: &[u32], nodes: &[NodeId], flags: &mut [bool])
     requires within { All (λ p. p.0 < length places.now) nodes.now }
     requires placed { All (λ p. slice_index_or places.now p.0 0 < length sets.now.sets) nodes.now }
     ensures len { length flags.new ≡ length flags.old }
@@ -81,7 +81,7 @@ fn list_set(flags: &[bool], set: &[u32], list: &mut Vec<u32>) -> Result<(), Allo
 // Lists the elements of the sets of nodes whose flags are lowered.
 pub(crate) fn list_sets(
     sets: &Sets,
-    places: &[usize],
+    places: &[u32],
     nodes: &[NodeId],
     flags: &[bool],
     list: &mut Vec<u32>,

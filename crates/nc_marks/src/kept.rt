@@ -25,7 +25,7 @@ use std::marker::Model;
 struct KeptNodes {
     sets: Sets,
     gathered: Gathered,
-    places: Vec<usize>,
+    places: Vec<u32>,
     reached: Vec<bool>,
 }
 
@@ -70,7 +70,7 @@ fn add_places<F: Copy + Eq + Hash>(
     graph: &Graph<F>,
     sets: &mut Sets,
     gathered: &mut Gathered,
-    places: &mut Vec<usize>,
+    places: &mut Vec<u32>,
 ) -> Result<(), AllocError>
     requires len { length places.old.items ≤ length graph.now.facts }
     requires width { gathered.old.width ≡ sets.old.width }

@@ -69,7 +69,7 @@ impl Marks {
     }
 
     // Marks the elements of the sets of nodes as strong.
-    pub(crate) fn add_strong(&mut self, sets: &Sets, places: &[usize], nodes: &[NodeId])
+    pub(crate) fn add_strong(&mut self, sets: &Sets, places: &[u32], nodes: &[NodeId])
         requires within { All (λ p. p.0 < length places.now) nodes.now }
         requires placed { All
             (λ p. slice_index_or places.now p.0 0 < length sets.now.sets) nodes.now }
@@ -101,7 +101,7 @@ impl Marks {
         graph: &Graph<F>,
         nodes: &[NodeId],
         sets: &Sets,
-        places: &[usize],
+        places: &[u32],
         tested: &[NodeId],
     ) -> Result<Vec<u32>, AllocError>
         requires valid { All (λ p. p.0 < length graph.now.facts) nodes.now }

@@ -1,25 +1,46 @@
 //! A table of sets of elements, in which nodes share the sets that are equal.
-ghost use Rattle.std.specs.Prelude.{◌≡◌, ◌<◌, [], ◌∷◌, length, false, nat_eq, slice_index_or, take, IfOk};
+ghost use Rattle.std.specs.Prelude.{◌≡◌, ◌<◌, [], ◌∷◌, length, false, nat_eq, slice_index_or, take, IfOk, IfSome};
 ghost use Rattle.nc_marks.specs.Sets.{has, Grows, IsAt};
 
+use nc_graph::lists::Lists;
 use std::alloc::{AllocError, Global};
+use std::collections::HashMap;
+use std::hash::{FoldHasher, Hash, Hasher};
 use std::marker::Model;
 
 // Sets by their places, of which the elements below `width` count. The set at the place 0 is empty.
+// Of each hash it is kept where a set of this hash was added last. What stands there is compared
+// before it is used, so that neither a hash of several sets nor one of a set that is gone does harm.
 #[derive(Drop)]
 pub(crate) struct Sets {
-    sets: Vec<Vec<u32>>,
+    sets: Lists<u32>,
+    last: HashMap<u64, u32>,
     width: u32,
-    alloc: Global,
 }
 
 impl Model for Sets {
-    ghost use Rattle.std.specs.Prelude.{map};
     ghost use Rattle.nc_marks.specs.Sets.{Table};
 
     ghost Value = { Table };
 
-    ghost view = { λ s. record { sets = map (λ v. v.items) s.sets.items; width = s.width } };
+    ghost view = { λ s. record { sets = s.sets; width = s.width } };
+}
+
+// The number of a place. There are no more sets than nodes, so that it is one of 32 bits.
+fn number(place: usize) -> Result<u32, AllocError>
+    ensures { IfOk result (λ number. number ≡ place) }
+{
+    match u32::try_from(place) {
+        Ok(number) => Ok(number),
+        Err(_) => Err(AllocError),
+    }
+}
+
+// The hash of a set, in the order in which its elements are listed.
+fn hash_of(set: &[u32]) -> u64 {
+    let mut hasher = FoldHasher::default();
+    set.hash(&mut hasher);
+    hasher.finish()
 }
 
 impl Sets {
@@ -27,9 +48,13 @@ impl Sets {
     pub(crate) fn new(alloc: Global, width: u32) -> Result<Sets, AllocError>
         ensures { IfOk result (λ t. t ≡ record { sets = [] ∷ []; width = width }) }
     {
-        let mut sets = Vec::new(alloc);
-        sets.push(Vec::new(alloc))?;
-        Ok(Sets { sets, width, alloc })
+        let mut sets = Lists::new(alloc);
+        sets.push(&[])?;
+        Ok(Sets {
+            sets,
+            last: HashMap::new(alloc),
+            width,
+        })
     }
 
     // How many sets there are.
@@ -47,26 +72,42 @@ impl Sets {
     }
 
     // The set at a place.
-    pub(crate) fn get(&self, place: usize) -> &[u32]
+    pub(crate) fn get(&self, place: u32) -> &[u32]
         requires { place < length self.now.sets }
         ensures { result.now ≡ slice_index_or self.now.sets place [] }
     {
-        self.sets[place].as_slice()
+        self.sets.get(place as usize)
     }
 
-    // Adds a copy of a set, and answers its place.
-    pub(crate) fn add(&mut self, set: &[u32]) -> Result<usize, AllocError>
+    // The place of a set that was added before, with its elements in the same order.
+    fn find(&self, hash: u64, set: &[u32]) -> Option<u32>
+        ensures { IfSome result (λ place. IsAt self.now place (has set.now)) }
+    {
+        let place = *self.last.get(&hash)?;
+        if (place as usize) < self.sets.len() && self.get(place) == set {
+            Some(place)
+        } else {
+            None
+        }
+    }
+
+    // Adds a copy of a set, unless it finds the set in the table, and answers its place.
+    pub(crate) fn add(&mut self, set: &[u32]) -> Result<u32, AllocError>
         ensures grows { Grows self.old self.new }
         ensures added { IfOk result (λ place. IsAt self.new place (has set.now)) }
     {
-        let place = self.sets.len();
-        let set = Vec::from_slice(self.alloc, set)?;
+        let hash = hash_of(set);
+        if let Some(place) = self.find(hash, set) {
+            return Ok(place);
+        }
+        let place = number(self.sets.len())?;
         self.sets.push(set)?;
+        self.last.insert(hash, place)?;
         Ok(place)
     }
 
     // The place of the set of one element, or of none where the element doesn't count.
-    pub(crate) fn single(&mut self, element: u32) -> Result<usize, AllocError>
+    pub(crate) fn single(&mut self, element: u32) -> Result<u32, AllocError>
         requires empty { IsAt self.old 0 (λ _. false) }
         ensures grows { Grows self.old self.new }
         ensures single { IfOk result (λ place. IsAt self.new place (λ e. nat_eq e element)) }

@@ -1,4 +1,4 @@
-use Rattle.std.proofs.Common.{arith, nat_eq}
+use Rattle.std.proofs.Common.{arith}
 use Rattle.std.proofs.lemmas.Grind.{common_steps}
 use Rattle.nc_marks.proofs.RaiseLemmas.{raises-trans}
 use Rattle.nc_marks.proofs.raise.raise_nodes.Goals as goal
