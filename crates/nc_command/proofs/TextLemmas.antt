@@ -20,9 +20,10 @@ use Rattle.nc_types.specs.declared.command.TestCommand.TheVariants.{Rib, Bgp, Se
 use Rattle.nc_lines.specs.Lines.{words_of}
 use Rattle.nc_lines.specs.Numbers.{is_digit, value_after, is_plain, number_of, address_of, address_of_parts, prefix_of, prefix_of_parts}
 use Rattle.nc_lines.proofs.NumberLemmas.{value_after-ge}
-use Rattle.nc_command.specs.declared.command.Command.TheVariants.{Test}
+use Rattle.nc_command.specs.declared.command.Command.{Command}
+use Rattle.nc_command.specs.declared.command.Command.TheVariants.{Test, Lcov, Json, Quit}
 use Rattle.nc_command.specs.declared.TheConstants.{MOST_NUMBER}
-use Rattle.nc_command.specs.Command.{Passed, TooLong, Unread, Asks, begins_note, addr_of, address_behind, prefix_test_of, address_test_of, line_test_of, test_of, quit_of, asked_by, command_of, dotted, cidr_text, spaced, prefix_text, address_text, line_text, text_of}
+use Rattle.nc_command.specs.Command.{Passed, TooLong, Unread, Asks, begins_note, addr_of, address_behind, prefix_test_of, address_test_of, line_test_of, test_of, alone, show_by, command_by, asked_by, command_of, dotted, cidr_text, spaced, prefix_text, address_text, line_text, text_of}
 
 -- ---- numbers
 
@@ -229,6 +230,15 @@ module _ (word : List ℕ) (words : List (List ℕ)) where
   abbrev bgp_test : Option TestCommand
   bgp_test = cond (bytes_eq word (codes "bgp")) (prefix_test_of Bgp (codes "from") words) session_test
 
+  abbrev json_command : Option Command
+  json_command = cond (bytes_eq word (codes "json")) (alone Json words) (option_map Test (test_of word words))
+
+  abbrev lcov_command : Option Command
+  lcov_command = cond (bytes_eq word (codes "lcov")) (alone Lcov words) json_command
+
+  abbrev show_command : Option Command
+  show_command = cond (bytes_eq word (codes "show")) (show_by words) lcov_command
+
   module _ (test : TestCommand) where
     by_element : (b : Bool) → bytes_eq word (codes "element") ≡ b → cond b (line_test_of Element words) None ≡ Some test → text_of test ≡ spaced (word ∷ words)
     by_element false same is = absurd (cc)
@@ -262,22 +272,42 @@ asked-text : (words : List (List ℕ)) (test : TestCommand) → asked_by words �
 asked-text [] test at = absurd (cc)
 asked-text (word ∷ words) test at = by_note (begins_note word) at
   where
-    by_test : (o : Option TestCommand) → test_of word words ≡ o → option_map_or (λ test. Asks (Test test)) o Unread ≡ Asks (Test test) → text_of test ≡ spaced (word ∷ words)
+    by_test : (o : Option TestCommand) → test_of word words ≡ o → option_map Test o ≡ Some (Test test) → text_of test ≡ spaced (word ∷ words)
     by_test None found is = absurd (cc)
     by_test (Some t) found is = let same : t ≡ test = cc in test-text word words test (found ∙ ap Some same)
 
-    quits-not : (ws : List (List ℕ)) → quit_of ws ≡ Asks (Test test) → text_of test ≡ spaced (word ∷ words)
-    quits-not [] is = absurd (cc)
-    quits-not (w ∷ ws) is = absurd (cc)
+    not-alone : (command : Command) (ws : List (List ℕ)) → (command ≡ Test test → ⊥) → alone command ws ≡ Some (Test test) → text_of test ≡ spaced (word ∷ words)
+    not-alone command [] other is = absurd (let same : command ≡ Test test = cc in other same)
+    not-alone command (w ∷ ws) other is = absurd (cc)
 
-    by_quit : (b : Bool) → cond b (quit_of words) (option_map_or (λ test. Asks (Test test)) (test_of word words) Unread) ≡ Asks (Test test) → text_of test ≡ spaced (word ∷ words)
-    by_quit true is = quits-not words is
-    by_quit false is = by_test (test_of word words) refl is
+    not-shown : (ws : List (List ℕ)) → show_by ws ≡ Some (Test test) → text_of test ≡ spaced (word ∷ words)
+    not-shown [] is = absurd (cc)
+    not-shown (name ∷ []) is = absurd (cc)
+    not-shown (name ∷ w ∷ ws) is = absurd (cc)
 
-    by_note : (b : Bool) → cond b Passed (cond (bytes_eq word (codes "quit")) (quit_of words) (option_map_or (λ test. Asks (Test test)) (test_of word words) Unread)) ≡ Asks (Test test)
-        → text_of test ≡ spaced (word ∷ words)
+    by_json : (b : Bool) → cond b (alone Json words) (option_map Test (test_of word words)) ≡ Some (Test test) → text_of test ≡ spaced (word ∷ words)
+    by_json true is = not-alone Json words (λ e. absurd (cc)) is
+    by_json false is = by_test (test_of word words) refl is
+
+    by_lcov : (b : Bool) → cond b (alone Lcov words) (json_command word words) ≡ Some (Test test) → text_of test ≡ spaced (word ∷ words)
+    by_lcov true is = not-alone Lcov words (λ e. absurd (cc)) is
+    by_lcov false is = by_json (bytes_eq word (codes "json")) is
+
+    by_show : (b : Bool) → cond b (show_by words) (lcov_command word words) ≡ Some (Test test) → text_of test ≡ spaced (word ∷ words)
+    by_show true is = not-shown words is
+    by_show false is = by_lcov (bytes_eq word (codes "lcov")) is
+
+    by_quit : (b : Bool) → cond b (alone Quit words) (show_command word words) ≡ Some (Test test) → text_of test ≡ spaced (word ∷ words)
+    by_quit true is = not-alone Quit words (λ e. absurd (cc)) is
+    by_quit false is = by_show (bytes_eq word (codes "show")) is
+
+    by_command : (o : Option Command) → command_by word words ≡ o → option_map_or Asks o Unread ≡ Asks (Test test) → text_of test ≡ spaced (word ∷ words)
+    by_command None found is = absurd (cc)
+    by_command (Some command) found is = let same : command ≡ Test test = cc in by_quit (bytes_eq word (codes "quit")) (found ∙ ap Some same)
+
+    by_note : (b : Bool) → cond b Passed (option_map_or Asks (command_by word words) Unread) ≡ Asks (Test test) → text_of test ≡ spaced (word ∷ words)
     by_note true is = absurd (cc)
-    by_note false is = by_quit (bytes_eq word (codes "quit")) is
+    by_note false is = by_command (command_by word words) refl is
 
 pub line-text : (line : List ℕ) (test : TestCommand) → command_of line ≡ Asks (Test test) → text_of test ≡ spaced (words_of line)
 unfolding command_of

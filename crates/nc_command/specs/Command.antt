@@ -1,5 +1,5 @@
 -- The session language: what a line of a session asks, and the text of a test.
-use Rattle.std.specs.Prelude.{◌≡◌, ℕ, ◌/◌, ◌%◌, Bool, false, ◌==◌, nat_lt, List, [], ◌∷◌, length, Option, Some, None, Result, Ok, Err, option_and_then, if◌then◌else◌, codes}
+use Rattle.std.specs.Prelude.{◌≡◌, ℕ, ◌/◌, ◌%◌, Bool, false, ◌==◌, nat_lt, List, [], ◌∷◌, length, Option, Some, None, Result, Ok, Err, option_and_then, codes, if◌then◌else◌}
 use Rattle.std.specs.List.{join_with_byte}
 use Rattle.std.specs.Option.{option_map, option_map_or}
 use Rattle.std.specs.Str.{bytes_eq}
@@ -12,7 +12,7 @@ use Rattle.nc_lines.specs.Lines.{words_of}
 use Rattle.nc_lines.specs.Numbers.{number_of, address_of, prefix_of}
 use Rattle.nc_command.specs.declared.TheConstants.{LINE_LIMIT, MOST_NUMBER}
 use Rattle.nc_command.specs.declared.command.Command.{Command}
-use Rattle.nc_command.specs.declared.command.Command.TheVariants.{Test, Quit}
+use Rattle.nc_command.specs.declared.command.Command.TheVariants.{Test, Show, Lcov, Json, Quit}
 use Rattle.nc_command.specs.declared.fault.CommandFault.{CommandFault}
 use Rattle.nc_command.specs.declared.fault.CommandFault.TheVariants.{Long, Syntax, Memory}
 
@@ -69,18 +69,29 @@ test_of word words =
     else (if bytes_eq word (codes "element") then line_test_of Element words
     else None)))))
 
--- `quit` and nothing behind it
-abbrev pub quit_of : List (List ℕ) → Line
-quit_of [] = Asks Quit
-quit_of (word ∷ words) = Unread
+-- a command that is one word, and nothing behind it
+abbrev pub alone : Command → List (List ℕ) → Option Command
+alone command [] = Some command
+alone command (word ∷ words) = None
+
+-- the name of a router behind `show`, and nothing more
+abbrev pub show_by : List (List ℕ) → Option Command
+show_by (name ∷ []) = Some (Show name)
+show_by words = None
+
+-- the command that a first word and the words behind it make, if they make one
+abbrev pub command_by : List ℕ → List (List ℕ) → Option Command
+command_by word words =
+    if bytes_eq word (codes "quit") then alone Quit words
+    else (if bytes_eq word (codes "show") then show_by words
+    else (if bytes_eq word (codes "lcov") then alone Lcov words
+    else (if bytes_eq word (codes "json") then alone Json words
+    else option_map Test (test_of word words))))
 
 -- what the words of a line ask
 abbrev pub asked_by : List (List ℕ) → Line
 asked_by [] = Passed
-asked_by (word ∷ words) =
-    if begins_note word then Passed
-    else (if bytes_eq word (codes "quit") then quit_of words
-    else option_map_or (λ test. Asks (Test test)) (test_of word words) Unread)
+asked_by (word ∷ words) = if begins_note word then Passed else option_map_or Asks (command_by word words) Unread
 
 -- what a line of a session is, by its bytes
 unfoldable pub command_of : List ℕ → Line

@@ -1,10 +1,16 @@
-use nc_types::TestCommand;
+use nc_types::{TestCommand, Text};
 
 /// What a line of a session asks.
 #[derive(Debug, Drop)]
 pub enum Command {
     /// A test, for facts of the network.
     Test(TestCommand),
+    /// A listing of the file of the router of this name, with the mark of each line.
+    Show(Text),
+    /// An LCOV tracefile of all files.
+    Lcov,
+    /// The marks of all lines as a JSON object.
+    Json,
     /// That the session ends.
     Quit,
 }

@@ -4,7 +4,7 @@ ghost use Rattle.std.specs.Prelude.{◌≡◌, ℕ, List, Option, IfOk, codes};
 ghost use Rattle.std.specs.Option.{option_map};
 ghost use Rattle.nc_lines.specs.Lines.{words_of};
 ghost use Rattle.nc_command.specs.Command.{address_behind, prefix_test_of, address_test_of};
-ghost use Rattle.nc_command.specs.Command.{line_test_of, test_of, command_of, IsRead};
+ghost use Rattle.nc_command.specs.Command.{line_test_of, test_of, alone, show_by, command_by, command_of, IsRead};
 ghost use Rattle.nc_types.specs.Cidr.{Cidr};
 ghost use Rattle.nc_types.specs.declared.addr.Addr.{Addr};
 ghost use Rattle.nc_types.specs.declared.command.TestCommand.{TestCommand};
@@ -171,6 +171,52 @@ fn read_test(alloc: Global, word: &[u8], rest: &[u8]) -> Result<Option<TestComma
     Ok(None)
 }
 
+// A command that is one word, where nothing stands behind it.
+fn alone(command: Command, rest: &[u8]) -> Option<Command>
+    ensures { result ≡ alone command (words_of rest.now) }
+{
+    match cut_word(rest) {
+        Some(_) => None,
+        None => Some(command),
+    }
+}
+
+// The command that the words behind `show` make, if they make one.
+fn read_show(alloc: Global, rest: &[u8]) -> Result<Option<Command>, AllocError>
+    ensures { IfOk result (λ command. command ≡ show_by (words_of rest.now)) }
+{
+    let Some((name, more)) = cut_word(rest) else {
+        return Ok(None);
+    };
+    if cut_word(more).is_some() {
+        return Ok(None);
+    }
+    let name = Text::new(alloc, name)?;
+    Ok(Some(Command::Show(name)))
+}
+
+// The command that a first word and the words behind it make, if they make one.
+fn read_words(alloc: Global, word: &[u8], rest: &[u8]) -> Result<Option<Command>, AllocError>
+    ensures { IfOk result (λ command. command ≡ command_by word.now (words_of rest.now)) }
+{
+    if word == b"quit".as_slice() {
+        return Ok(alone(Command::Quit, rest));
+    }
+    if word == b"show".as_slice() {
+        return read_show(alloc, rest);
+    }
+    if word == b"lcov".as_slice() {
+        return Ok(alone(Command::Lcov, rest));
+    }
+    if word == b"json".as_slice() {
+        return Ok(alone(Command::Json, rest));
+    }
+    let Some(test) = read_test(alloc, word, rest)? else {
+        return Ok(None);
+    };
+    Ok(Some(Command::Test(test)))
+}
+
 /// What a line asks, given without its line end; `None` where it is blank or its first word begins with
 /// `#`, so that it is passed over.
 ///
@@ -191,14 +237,8 @@ pub fn read_command(alloc: Global, line: &[u8]) -> Result<Option<Command>, Comma
     if word.first() == Some(&b'#') {
         return Ok(None);
     }
-    if word == b"quit".as_slice() {
-        return match cut_word(rest) {
-            Some(_) => Err(CommandFault::Syntax),
-            None => Ok(Some(Command::Quit)),
-        };
-    }
-    let Some(test) = read_test(alloc, word, rest)? else {
+    let Some(command) = read_words(alloc, word, rest)? else {
         return Err(CommandFault::Syntax);
     };
-    Ok(Some(Command::Test(test)))
+    Ok(Some(command))
 }

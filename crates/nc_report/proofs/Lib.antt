@@ -1,3 +1,5 @@
 pub mod Lists
 pub mod Ascii
+mod Counting
+mod Showing
 pub mod ObjectText

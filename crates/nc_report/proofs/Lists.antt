@@ -1,10 +1,11 @@
 -- What is written place by place.
-use Rattle.std.proofs.Common.{◌≡◌, ℕ, ◌+◌, List, [], ◌∷◌, ◌++◌, map, sym, ap, ◌∙◌, append-nil, append_assoc, arith}
+use Rattle.std.proofs.Common.{◌≡◌, ℕ, ◌+◌, List, [], ◌∷◌, ◌++◌, map, refl, sym, ap, ◌∙◌, append-nil, append_assoc, arith}
 use Rattle.std.specs.List.{flat_map}
 use Rattle.std.proofs.lemmas.List.Concat.{flat_map-append}
 use Rattle.std.proofs.lemmas.List.Folds.{flat_map-map}
 use Rattle.std.proofs.lemmas.List.FromFn.{map-range_with_len_more}
-use Rattle.nc_report.specs.Marked.{places}
+use Rattle.nc_report.specs.Texts.{Sheet, lcov_of, places}
+use Rattle.nc_report.specs.Views.{FileView}
 
 -- with one place more
 pub places-more : (k : ℕ) → map (λ (j : ℕ). j) (places (k + 1)) ≡ map (λ (j : ℕ). j) (places k) ++ k ∷ []
@@ -25,3 +26,9 @@ five-pieces old head name lines rest first second third fourth new a b c d e =
   where
     regroup : (a b c d e f : List ℕ) → ((((a ++ b) ++ c) ++ d) ++ e) ++ f ≡ a ++ (b ++ (c ++ (d ++ (e ++ f))))
     regroup a b c d e f = simp append_assoc
+
+-- no file is left
+pub lcov-none : (sheets : List Sheet) (files : List FileView) → files ≡ [] → lcov_of sheets files ≡ []
+lcov-none [] files none = refl
+lcov-none (s ∷ ss) [] none = refl
+lcov-none (s ∷ ss) (f ∷ fs) none = absurd (cc)

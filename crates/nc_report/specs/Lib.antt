@@ -1,4 +1,5 @@
-pub mod Marked
 pub mod Views
 pub mod Texts
+pub mod Sheets
+pub mod Shown
 pub mod Values

@@ -1,38 +1,35 @@
 //! An LCOV tracefile.
 
-ghost use Rattle.std.specs.Prelude.{◌≡◌, ◌++◌, length, map, string_bytes, OnOk, IfOk};
+ghost use Rattle.std.specs.Prelude.{◌≡◌, ◌++◌, map, string_bytes, OnOk, IfOk};
 ghost use Rattle.std.specs.List.{flat_map};
-ghost use Rattle.nc_types.specs.Network.{element_count};
-ghost use Rattle.nc_marks.specs.Marks.{marked_elements};
-ghost use Rattle.nc_report.specs.Marked.{hit_of, hits_of, hits_at, listed};
-ghost use Rattle.nc_report.specs.Texts.{ending, hit_count, hit_line, lcov_from, section_text};
+ghost use Rattle.nc_report.specs.Sheets.{sheet_view};
+ghost use Rattle.nc_report.specs.Texts.{ending, hit_count, hit_line, hit_of, hits_in, hits_of, lcov_of, listed, section_text};
 ghost use Rattle.nc_report.specs.Views.{file_view};
 
 use crate::file::LoadedFile;
-use nc_marks::mark::{Mark, Marks};
-use nc_types::{Network, RouterId};
+use crate::report::Sheet;
 use std::alloc::{AllocError, Global};
 
 /// A line that is counted, and how often it was hit.
 #[derive(Clone, Copy, Debug)]
 pub(crate) struct Hit {
-    pub(crate) line: u32,
+    pub(crate) line: usize,
     pub(crate) count: u32,
 }
 
-// How often a line of a mark was hit; `None` where it isn't counted.
-fn hits_of(mark: Mark) -> Option<u32>
-    ensures { result ≡ hits_of mark }
+// How often a line of a letter was hit; `None` where it isn't counted.
+fn hits_of(letter: u8) -> Option<u32>
+    ensures { result ≡ hits_of letter }
 {
-    match mark {
-        Mark::Strong | Mark::Weak => Some(1),
-        Mark::Uncovered => Some(0),
-        Mark::Outside => None,
+    match letter {
+        b'S' | b'W' => Some(1),
+        b'U' => Some(0),
+        _ => None,
     }
 }
 
 // Adds a line, if it is counted.
-fn push_hit(hits: &mut Vec<Hit>, line: u32, count: Option<u32>) -> Result<(), AllocError>
+fn push_hit(hits: &mut Vec<Hit>, line: usize, count: Option<u32>) -> Result<(), AllocError>
     ensures { OnOk result (hits.new.items ≡ hits.old.items ++ listed (hit_of line count)) }
 {
     if let Some(count) = count {
@@ -42,20 +39,12 @@ fn push_hit(hits: &mut Vec<Hit>, line: u32, count: Option<u32>) -> Result<(), Al
 }
 
 // The lines of a router's file that are counted.
-fn hits_at(
-    alloc: Global,
-    network: &Network,
-    marks: &Marks,
-    router: RouterId,
-    count: u32,
-) -> Result<Vec<Hit>, AllocError>
-    requires { marked_elements marks.now ≡ element_count network.now }
-    ensures { IfOk result (λ hits. hits.items ≡ hits_at network.now marks.now router.0 count) }
+fn hits_in(alloc: Global, letters: &[u8]) -> Result<Vec<Hit>, AllocError>
+    ensures { IfOk result (λ hits. hits.items ≡ hits_in letters.now) }
 {
     let mut hits = Vec::new(alloc);
-    'lines: for place in 0..count {
-        let mark = marks.of_line(network, router, place + 1);
-        push_hit(&mut hits, place + 1, hits_of(mark))?;
+    'letters: for (place, letter) in letters.iter().enumerate() {
+        push_hit(&mut hits, place + 1, hits_of(*letter))?;
     }
     Ok(hits)
 }
@@ -113,30 +102,22 @@ fn push_section(
     Ok(())
 }
 
-/// The tracefile of all files, which are those of the routers in order: a strong or weak line was hit once, an
-/// uncovered one never, and lines outside aren't counted. A file's name stands as it was given. The marks are
-/// those of the elements of the network.
-///
-/// # Errors
-///
-/// That memory is refused.
-pub fn lcov_text(
+/// Appends the sections of the routers' files, in order.
+pub(crate) fn push_sections(
     alloc: Global,
-    network: &Network,
-    marks: &Marks,
+    out: &mut Vec<u8>,
+    sheets: &[Sheet],
     files: &[LoadedFile],
-) -> Result<Vec<u8>, AllocError>
-    requires marked { marked_elements marks.now ≡ element_count network.now }
-    requires files { length files.now ≡ length network.now }
-    ensures { IfOk result (λ text. text.items
-        ≡ lcov_from network.now marks.now 0 (map file_view files.now)) }
+) -> Result<(), AllocError>
+    ensures { OnOk result (out.new.items ≡ out.old.items
+        ++ lcov_of (map sheet_view sheets.now) (map file_view files.now)) }
 {
-    let _routers = network.routers();
-    let mut out = Vec::new(alloc);
-    'files: for (place, file) in files.iter().enumerate() {
-        let router = RouterId(place as u32);
-        let hits = hits_at(alloc, network, marks, router, file.lines.count())?;
-        push_section(alloc, &mut out, file.name.bytes(), &hits)?;
+    'sheets: for (place, sheet) in sheets.iter().enumerate() {
+        let Some(file) = files.get(place) else {
+            return Ok(());
+        };
+        let hits = hits_in(alloc, &sheet.letters)?;
+        push_section(alloc, out, file.name.bytes(), &hits)?;
     }
-    Ok(out)
+    Ok(())
 }

@@ -21,8 +21,8 @@ use Rattle.nc_command.specs.declared.command.Command.TheVariants.{Test}
 use Rattle.nc_command.specs.Command.{Asks, text_of}
 use Rattle.nc_session.specs.declared.TheConstants.{TEST_LIMIT, FACT_LIMIT}
 use Rattle.nc_session.specs.declared.work.Work.{Work}
-use Rattle.nc_session.specs.Texts.{line_of}
-use Rattle.nc_session.specs.Session.{KeptTest, State, IsReply, Refuses, Counts, Tests, Lined, Named, has_line, router_of, asked_in}
+use Rattle.nc_report.specs.Texts.{line_of}
+use Rattle.nc_session.specs.Session.{KeptTest, State, IsReply, Refuses, Counts, Tests, Lined, Named, has_line, unknown_of, router_of, asked_in}
 use Rattle.nc_session.specs.Engine.{Infers, InfersAll, asked_for}
 use Rattle.nc_session.specs.Work.{IsWork, Takes, Replies, Counted, test_view, tests_of}
 use Rattle.nc_session.proofs.Working.{asked-more}
@@ -103,9 +103,9 @@ unnamed number (Some r) router out is = absurd (cc)
 
 -- a test whose router isn't there
 pub unknown : (s : StateView) (tests : List KeptTest) (test : TestCommand) → router_named s.routers (router_of test) ≡ None
-    → Named s (router_named s.routers (router_of test)) (record { tests = tests }) test (line_of (codes "refused router " ++ router_of test)) (record { tests = tests })
+    → Named s (router_named s.routers (router_of test)) (record { tests = tests }) test (line_of (unknown_of (router_of test))) (record { tests = tests })
 unknown s tests test none =
-    subst (λ (r : Option ℕ). Named s r (record { tests = tests }) test (line_of (codes "refused router " ++ router_of test)) (record { tests = tests })) (sym none) (refl, refl)
+    subst (λ (r : Option ℕ). Named s r (record { tests = tests }) test (line_of (unknown_of (router_of test))) (record { tests = tests })) (sym none) (refl, refl)
 
 -- a test of a line that no element has asks for no fact
 pub none-lined : (s : StateView) (router : ℕ) (test : TestCommand) → router_named s.routers (router_of test) ≡ Some router → has_line s router test ≡ false → tested_facts s test ≡ []

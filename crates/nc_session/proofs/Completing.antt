@@ -3,7 +3,7 @@ use Rattle.std.proofs.Common.{◌≡◌, ◌⊎◌, ℕ, ◌<◌, Bool, true, co
 use Rattle.std.specs.Option.{option_map_or}
 use Rattle.nc_outside.specs.Named.{Named}
 use Rattle.nc_outside.specs.Counts.{Faults, Rose}
-use Rattle.nc_tables.specs.State.{StateView}
+use Rattle.nc_session.specs.File.{LoadedView}
 use Rattle.nc_types.specs.declared.TheConstants.{ROUTER_LIMIT}
 use Rattle.nc_session.specs.declared.status.Status.{Status}
 use Rattle.nc_session.specs.declared.status.Status.TheVariants.{Done, Config, Usage, Unstable, InputFault, OutputFault, FileFault, Memory, Limit}
@@ -15,7 +15,7 @@ use Rattle.nc_session.specs.Causes.{IsLimitOrUntold, files_of, status_of, Settle
 use Rattle.nc_session.specs.Ending.{Seen, IsNamingFew, EndsAs}
 
 abbrev Outcome : Type 0
-Outcome = Result StateView Refusal
+Outcome = Result LoadedView Refusal
 
 -- ---- the files that the words name
 
@@ -49,15 +49,15 @@ abbrev IsComplete : Outcome → List ℕ → Status → Type 0
 IsComplete loaded session status = (status ≡ status_of loaded session) ⊎ (status ≡ Memory)
 
 by_refusal : (loaded : Outcome) (session : List ℕ) (status : Status) → ((status ≡ Done) ⊎ ((status ≡ Limit) ⊎ (status ≡ InputFault)) → ⊥) → Settles loaded status → IsComplete loaded session status
-by_refusal (Ok state) session status other settles = absurd (other settles)
+by_refusal (Ok loaded) session status other settles = absurd (other settles)
 by_refusal (Err refusal) session status other settles = inl settles
 
 within_done : (loaded : Outcome) (session : List ℕ) → is_within session ≡ true → Settles loaded Done → IsComplete loaded session Done
-within_done (Ok state) session within settles = inl (sym (ap (λ (b : Bool). cond b Done Limit) within))
+within_done (Ok loaded) session within settles = inl (sym (ap (λ (b : Bool). cond b Done Limit) within))
 within_done (Err refusal) session within settles = inl settles
 
 over_limit : (loaded : Outcome) (session : List ℕ) → IsOverLimit loaded session → Settles loaded Limit → IsComplete loaded session Limit
-over_limit (Ok state) session over settles = inl (sym (ap (λ (b : Bool). cond b Done Limit) over))
+over_limit (Ok loaded) session over settles = inl (sym (ap (λ (b : Bool). cond b Done Limit) over))
 over_limit (Err refusal) session over settles = inl settles
 
 other_usage : (Usage ≡ Done) ⊎ ((Usage ≡ Limit) ⊎ (Usage ≡ InputFault)) → ⊥

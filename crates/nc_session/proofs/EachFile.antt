@@ -8,7 +8,7 @@ use Rattle.std.proofs.lemmas.List.{take_more, drop_more, take-append-drop, map-a
 use Rattle.nc_session.specs.declared.refusal.LoadFault.{LoadFault}
 use Rattle.nc_session.specs.declared.refusal.LoadFault.TheVariants.{Outside, Over, Bad, Memory}
 use Rattle.nc_session.specs.declared.refusal.LoadFault.TheVariants as faults
-use Rattle.nc_session.specs.File.{FileView}
+use Rattle.nc_report.specs.Views.{FileView}
 use Rattle.nc_session.specs.Load.{Refusal, TooMany, Missing, Faulty, Unsettled, load_content, load_each, file_named, file_of, and_then, before_all}
 use Rattle.nc_session.specs.Causes.{EntersInTurn, EntersEach}
 use Rattle.nc_session.specs.Loading.{IsFault, IsMissingOf, HasFaultCause, AddsFile, AreFilesNamed}

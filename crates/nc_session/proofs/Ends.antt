@@ -5,7 +5,7 @@ use Rattle.std.specs.Option.{option_map_or}
 use Rattle.std.specs.Io.KnownBytes.{Appends, Keeps}
 use Rattle.nc_outside.specs.Named.{Named}
 use Rattle.nc_outside.specs.Counts.{Rose, Follows}
-use Rattle.nc_tables.specs.State.{StateView}
+use Rattle.nc_session.specs.File.{LoadedView}
 use Rattle.nc_types.specs.declared.TheConstants.{ROUTER_LIMIT}
 use Rattle.nc_session.specs.declared.refusal.LoadFault.{LoadFault}
 use Rattle.nc_session.specs.declared.refusal.LoadFault.TheVariants as load
@@ -24,7 +24,7 @@ use Rattle.nc_session.specs.Ending.{SinkSeen, Says, Silent, EndsRefused, Seen, N
 use Rattle.nc_session.proofs.Options.{some_of, some_more, keeps_same, writes, writes_none, writes_more}
 
 abbrev Outcome : Type 0
-Outcome = Result StateView Refusal
+Outcome = Result LoadedView Refusal
 
 -- the load of words that name files, and of words that don't
 pub load_is : (words : List (List ℕ)) (request : RequestView) (files : List Named) → request_of words ≡ Some request → load words files ≡ load_request request files
@@ -154,32 +154,32 @@ module _ (words : List (List ℕ)) (before now : Seen) (result : Status) where
     refused_ends (load.Unsettled rounds) source is cause few (inr silent) = silent_memory cause source silent
 
     -- the files give a network
-    module _ (few : length request.files ≤ ROUTER_LIMIT) (state : StateView) (files : now.faults ≡ before.faults) (is : IfSome before.files (λ fs. load_request request fs ≡ Ok state)) where
-      ready : IsLoadOf words before.files (Ok state)
-      ready = is_load (Ok state) is
+    module _ (few : length request.files ≤ ROUTER_LIMIT) (loaded : LoadedView) (files : now.faults ≡ before.faults) (is : IfSome before.files (λ fs. load_request request fs ≡ Ok loaded)) where
+      ready : IsLoadOf words before.files (Ok loaded)
+      ready = is_load (Ok loaded) is
 
       quiet_by : now.failures.source ≡ before.failures.source → now.failures.sink ≡ before.failures.sink → NoFault before now
       quiet_by source sink = record { files = files; source = source; sink = sink }
 
       -- what was written for the session
       abbrev ServesBy : Status → List ℕ → Type 0
-      ServesBy status session = Writes before.told.written now.told.written (λ bytes. Serves state session status bytes)
+      ServesBy status session = Writes before.told.written now.told.written (λ bytes. Serves loaded session status bytes)
 
-      told_by : (status : Status) → Settles (Ok state) status → IfSome before.told.rest (ServesBy status) → IsTold words before now status
-      told_by status settles written = by_load words before.files (Ok state) (IsSaid before now status) ready (settles, written)
+      told_by : (status : Status) → Settles (Ok loaded) status → IfSome before.told.rest (ServesBy status) → IsTold words before now status
+      told_by status settles written = by_load words before.files (Ok loaded) (IsSaid before now status) ready (settles, written)
 
-      begun_by : IfSome before.told.rest (λ session. Writes before.told.written now.told.written (Begins state session)) → IsBrokenOff words before now
+      begun_by : IfSome before.told.rest (λ session. Writes before.told.written now.told.written (Begins loaded session)) → IsBrokenOff words before now
       begun_by begun =
-          by_load words before.files (Ok state) (IsBegunFor before now) ready
-          (some_more before.told.rest (λ session. Writes before.told.written now.told.written (Begins state session)) (λ session. Writes before.told.written now.told.written (IsBeginning (Ok state) session))
-          (λ session. writes_more before.told.written now.told.written (Begins state session) (IsBeginning (Ok state) session) (λ bytes begins. inr begins)) begun)
+          by_load words before.files (Ok loaded) (IsBegunFor before now) ready
+          (some_more before.told.rest (λ session. Writes before.told.written now.told.written (Begins loaded session)) (λ session. Writes before.told.written now.told.written (IsBeginning (Ok loaded) session))
+          (λ session. writes_more before.told.written now.told.written (Begins loaded session) (IsBeginning (Ok loaded) session) (λ bytes begins. inr begins)) begun)
 
-      open_of_cut : (rest left : Option (List ℕ)) → Takes rest left (IsCutShort state before.told.written now.told.written) → Takes rest left IsOpenSession
+      open_of_cut : (rest left : Option (List ℕ)) → Takes rest left (IsCutShort loaded before.told.written now.told.written) → Takes rest left IsOpenSession
       open_of_cut None left takes = tt
       open_of_cut (Some r) None takes = takes
       open_of_cut (Some r) (Some l) takes = (takes.0, takes.1, record { few = takes.2.few; goes = takes.2.goes })
 
-      pub served_ends : (status : Status) → Leaves state before.told now.told status → FailsAs before.failures now.failures status → EndsAs words before now status
+      pub served_ends : (status : Status) → Leaves loaded before.told now.told status → FailsAs before.failures now.failures status → EndsAs words before now status
       served_ends Done leaves fails = (
         quiet_by fails.0 fails.1,
         told_by Done (inl refl) (some_more before.told.rest (λ session. (is_within session ≡ true) × ServesBy Done session) (ServesBy Done) (λ session both. both.1) leaves.0),
@@ -190,7 +190,7 @@ module _ (words : List (List ℕ)) (before now : Seen) (result : Status) where
         quiet_by fails.0 fails.1,
         told_by Limit (inr (inl refl)) (some_more before.told.rest (λ session. (is_within session ≡ false) × ServesBy Limit session) (ServesBy Limit) (λ session both. both.1) leaves),
         (request, named),
-        by_load words before.files (Ok state) (λ l. IfSome before.told.rest (λ session. IsOverLimit l session)) ready
+        by_load words before.files (Ok loaded) (λ l. IfSome before.told.rest (λ session. IsOverLimit l session)) ready
             (some_more before.told.rest (λ session. (is_within session ≡ false) × ServesBy Limit session) (λ session. is_within session ≡ false) (λ session both. both.0) leaves),
       )
       served_ends InputFault leaves fails = (
@@ -200,8 +200,8 @@ module _ (words : List (List ℕ)) (before now : Seen) (result : Status) where
         (request, named, few),
         record {
           taken = open_of_cut before.told.rest now.told.rest leaves;
-          settles = by_load words before.files (Ok state) (λ l. Settles l InputFault) ready (inr (inr refl));
-          answers = by_load words before.files (Ok state) (λ l. AnswersTaken l before.told.rest now.told.rest before.told.written now.told.written) ready leaves;
+          settles = by_load words before.files (Ok loaded) (λ l. Settles l InputFault) ready (inr (inr refl));
+          answers = by_load words before.files (Ok loaded) (λ l. AnswersTaken l before.told.rest now.told.rest before.told.written now.told.written) ready leaves;
         },
       )
       served_ends OutputFault leaves fails = (files, fails.0, fails.1, begun_by leaves)
@@ -252,16 +252,16 @@ refused_outside names (load.Unsettled rounds) before now result (inl (inr failed
 refused_outside names (load.Unsettled rounds) before now result (inr silent) is = let both : Memory ≡ FileFault = sym silent.0 ∙ is in absurd cc
 
 -- a session that was served doesn't end before it is read
-pub served_late : (state : StateView) (before now : Told) (status : Status) → Leaves state before now status → IsEarly status → ⊥
-served_late state before now Done leaves early = early
-served_late state before now Limit leaves early = early
-served_late state before now InputFault leaves early = early
-served_late state before now OutputFault leaves early = early
-served_late state before now Memory leaves early = early
-served_late state before now Config leaves early = leaves
-served_late state before now Usage leaves early = leaves
-served_late state before now Unstable leaves early = leaves
-served_late state before now FileFault leaves early = leaves
+pub served_late : (loaded : LoadedView) (before now : Told) (status : Status) → Leaves loaded before now status → IsEarly status → ⊥
+served_late loaded before now Done leaves early = early
+served_late loaded before now Limit leaves early = early
+served_late loaded before now InputFault leaves early = early
+served_late loaded before now OutputFault leaves early = early
+served_late loaded before now Memory leaves early = early
+served_late loaded before now Config leaves early = leaves
+served_late loaded before now Usage leaves early = leaves
+served_late loaded before now Unstable leaves early = leaves
+served_late loaded before now FileFault leaves early = leaves
 
 -- what was said to words that name no file is no status of files or of a session
 pub usage_other : (text : List ℕ) (before now : SinkSeen) (result : Status) → Says Usage text before now result → (IsLate result → ⊥) × (result ≢ FileFault)

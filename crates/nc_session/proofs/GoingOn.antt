@@ -17,17 +17,18 @@ use Rattle.nc_graph.specs.Derivation.{IsStrong, IsInSome, strong, occurs}
 use Rattle.nc_marks.specs.Marks.{IsMark}
 use Rattle.nc_marks.specs.declared.mark.Mark.{Mark}
 use Rattle.nc_marks.specs.declared.mark.Mark.TheVariants.{Strong, Weak, Uncovered, Outside}
-use Rattle.nc_tables.specs.State.{StateView}
 use Rattle.nc_fact.specs.declared.fact.Fact.{Fact}
 use Rattle.nc_fact.specs.Facts.{holds}
 use Rattle.nc_fact.specs.Tested.{tested_facts, named_facts}
 use Rattle.nc_rules.specs.Rules.{flow_of}
-use Rattle.nc_command.specs.declared.command.Command.TheVariants.{Test, Quit}
+use Rattle.nc_command.specs.declared.command.Command.TheVariants.{Test, Show, Lcov, Json, Quit}
 use Rattle.nc_command.specs.Command.{Line, Passed, TooLong, Unread, Asks, command_of, text_of}
 use Rattle.nc_session.specs.declared.TheConstants.{TEST_LIMIT, FACT_LIMIT}
-use Rattle.nc_session.specs.Texts.{Sheet, letter, line_of, accepted_of, report_of}
-use Rattle.nc_session.specs.Marks.{AreLineMarks, IsSheet, IsReport}
-use Rattle.nc_session.specs.Session.{KeptTest, live_test, State, no_tests, asked_in, live_in, router_of, IsReply, Counts, Tests, Lined, Named as IsNamed, has_line, Answers, Run}
+use Rattle.nc_report.specs.Texts.{Sheet, letter, line_of, report_of, lcov_of, json_of}
+use Rattle.nc_session.specs.Session.{accepted_of}
+use Rattle.nc_session.specs.File.{LoadedView}
+use Rattle.nc_session.specs.Marks.{AreLineMarks, IsSheet, IsFormOf}
+use Rattle.nc_session.specs.Session.{KeptTest, live_test, State, no_tests, asked_in, live_in, router_of, IsReply, Counts, Tests, Lined, Named as IsNamed, has_line, unknown_of, Tells, Shows, listing_at, Answers, Run}
 use Rattle.nc_session.specs.Leaving.{GoesOn}
 
 -- ---- lists that are made
@@ -108,7 +109,7 @@ module _ (g : Flow Fact) (strongs : (e : ℕ) (f : Fact) → g.holds f ≡ true 
     mark_of_line None = (Outside, tt)
     mark_of_line (Some e) = element_mark tested hold e
 
-    -- the marks of a router's lines, its sheet, and the report
+    -- the marks of a router's lines, its sheet, and a form of all sheets
     abbrev marks_at : ℕ → ℕ → List Mark
     marks_at router lines = made (λ k. (mark_of_line (owner_at routers router (k + 1))).0) lines
 
@@ -126,14 +127,16 @@ module _ (g : Flow Fact) (strongs : (e : ℕ) (f : Fact) → g.holds f ≡ true 
     unfolding sheet_at
     is_sheet router c = record { name = refl; marks = marks_at router c.line_count; are_marks = are_marks router c.line_count; letters = refl }
 
-    a_report : (report : List ℕ) × IsReport g tested routers report
-    a_report = (
-      report_of (placed sheet_at routers),
+    a_form : (form : List Sheet → List ℕ) → (text : List ℕ) × IsFormOf g tested routers form text
+    a_form form = (
+      form (placed sheet_at routers),
       record {
         sheets = placed sheet_at routers;
-        count = length-placed sheet_at routers;
-        each = λ router c s at made. subst (IsSheet g tested routers router c) (sym (placed-at sheet_at routers router c s at made)) (is_sheet router c);
-        text = refl;
+        are = record {
+          count = length-placed sheet_at routers;
+          each = λ router c s at made. subst (IsSheet g tested routers router c) (sym (placed-at sheet_at routers router c s at made)) (is_sheet router c);
+        };
+        text_is = refl;
       },
     )
 
@@ -154,75 +157,86 @@ all_live P (t ∷ tests) all = on t.live (all_front P t.facts (asked_in tests) a
     on true these rest = All-append P t.facts (live_in tests) these rest
     on false these rest = rest
 
-module _ (s : StateView) where
+module _ (network : LoadedView) where
   -- the facts of all tests hold
   abbrev Holds : State → Type 0
-  Holds st = Hold (flow_of s) (asked_in st.tests)
+  Holds st = Hold (flow_of network.state) (asked_in st.tests)
 
-  tested_hold : (test : TestCommand) → Hold (flow_of s) (tested_facts s test)
+  tested_hold : (test : TestCommand) → Hold (flow_of network.state) (tested_facts network.state test)
   unfolding flow_of tested_facts
   tested_hold test =
-      let named = named_facts s test in
-      all_by_in (λ (f : Fact). holds s f ≡ true) (filter (holds s) named) (λ f i. (in_by_filter (holds s) named f i).1)
+      let named = named_facts network.state test in
+      all_by_in (λ (f : Fact). holds network.state f ≡ true) (filter (holds network.state) named) (λ f i. (in_by_filter (holds network.state) named f i).1)
 
   one_more : (tests : List KeptTest) (facts : List Fact) → asked_in (tests ++ live_test facts ∷ []) ≡ asked_in tests ++ facts
   one_more tests facts =
       flat_map-append (λ t. t.facts) tests (live_test facts ∷ []) ∙ ap (λ (fs : List Fact). asked_in tests ++ fs) (append-nil facts)
 
-  more_hold : (st : State) (facts : List Fact) → Holds st → Hold (flow_of s) facts → Hold (flow_of s) (asked_in st.tests ++ facts)
-  more_hold st facts hold these = All-append (λ f. (flow_of s).holds f ≡ true) (asked_in st.tests) facts hold these
+  more_hold : (st : State) (facts : List Fact) → Holds st → Hold (flow_of network.state) facts → Hold (flow_of network.state) (asked_in st.tests ++ facts)
+  more_hold st facts hold these = All-append (λ f. (flow_of network.state).holds f ≡ true) (asked_in st.tests) facts hold these
 
-  accepted_hold : (st : State) (facts : List Fact) → Holds st → Hold (flow_of s) facts → Holds (record { tests = st.tests ++ live_test facts ∷ [] })
-  accepted_hold st facts hold these = subst (Hold (flow_of s)) (sym (one_more st.tests facts)) (more_hold st facts hold these)
+  accepted_hold : (st : State) (facts : List Fact) → Holds st → Hold (flow_of network.state) facts → Holds (record { tests = st.tests ++ live_test facts ∷ [] })
+  accepted_hold st facts hold these = subst (Hold (flow_of network.state)) (sym (one_more st.tests facts)) (more_hold st facts hold these)
 
   -- ---- a step keeps that they hold
 
-  counts_keep : (room : Bool) (old : State) (facts reply : _) (new : State) → Hold (flow_of s) facts → Holds old → Counts s room old facts reply new → Holds new
+  counts_keep : (room : Bool) (old : State) (facts reply : _) (new : State) → Hold (flow_of network.state) facts → Holds old → Counts network.state room old facts reply new → Holds new
   counts_keep true old facts reply new these hold (inl over) = subst Holds (sym over.1.1) hold
   counts_keep true old facts reply new these hold (inr took) = subst Holds (sym took.1) (accepted_hold old facts hold these)
   counts_keep false old facts reply new these hold full = subst Holds (sym full.1) hold
 
-  tests_keep : (old : State) (facts : List Fact) (text reply : List ℕ) (new : State) → Hold (flow_of s) facts → Holds old → Tests s old facts text reply new → Holds new
+  tests_keep : (old : State) (facts : List Fact) (text reply : List ℕ) (new : State) → Hold (flow_of network.state) facts → Holds old → Tests network.state old facts text reply new → Holds new
   tests_keep old [] text reply new these hold absent = subst Holds (sym absent.1) hold
   tests_keep old (fact ∷ facts) text reply new these hold counted = counts_keep (nat_lt (length old.tests) TEST_LIMIT) old (fact ∷ facts) reply new these hold counted
 
-  lined_keep : (there : Bool) (old : State) (test : TestCommand) (reply : List ℕ) (new : State) → Holds old → Lined s there old test reply new → Holds new
+  lined_keep : (there : Bool) (old : State) (test : TestCommand) (reply : List ℕ) (new : State) → Holds old → Lined network.state there old test reply new → Holds new
   lined_keep false old test reply new hold unlined = subst Holds (sym unlined.1) hold
-  lined_keep true old test reply new hold tested = tests_keep old (tested_facts s test) (text_of test) reply new (tested_hold test) hold tested
+  lined_keep true old test reply new hold tested = tests_keep old (tested_facts network.state test) (text_of test) reply new (tested_hold test) hold tested
 
-  named_keep : (router : Option ℕ) (old : State) (test : TestCommand) (reply : List ℕ) (new : State) → Holds old → IsNamed s router old test reply new → Holds new
+  named_keep : (router : Option ℕ) (old : State) (test : TestCommand) (reply : List ℕ) (new : State) → Holds old → IsNamed network.state router old test reply new → Holds new
   named_keep None old test reply new hold unknown = subst Holds (sym unknown.1) hold
-  named_keep (Some router) old test reply new hold lined = lined_keep (has_line s router test) old test reply new hold lined
+  named_keep (Some router) old test reply new hold lined = lined_keep (has_line network.state router test) old test reply new hold lined
 
-  answer_keeps : (old : State) (line : Line) (reply : List ℕ) (new : State) → Holds old → Answers s old line reply new → Holds new
+  shows_keep : (router : Option ℕ) (old : State) (name reply : List ℕ) (new : State) → Holds old → Shows network router old name reply new → Holds new
+  shows_keep None old name reply new hold unknown = subst Holds (sym unknown.1) hold
+  shows_keep (Some router) old name reply new hold told = subst Holds (sym told.1) hold
+
+  answer_keeps : (old : State) (line : Line) (reply : List ℕ) (new : State) → Holds old → Answers network old line reply new → Holds new
   answer_keeps old Passed reply new hold a = subst Holds (sym a.1) hold
   answer_keeps old TooLong reply new hold a = subst Holds (sym a.1) hold
   answer_keeps old Unread reply new hold a = subst Holds (sym a.1) hold
   answer_keeps old (Asks Quit) reply new hold a = subst Holds (sym a.1) hold
-  answer_keeps old (Asks (Test test)) reply new hold a = named_keep (router_named s.routers (router_of test)) old test reply new hold a
+  answer_keeps old (Asks (Show name)) reply new hold a = shows_keep (router_named network.state.routers name) old name reply new hold a
+  answer_keeps old (Asks Lcov) reply new hold a = subst Holds (sym a.1) hold
+  answer_keeps old (Asks Json) reply new hold a = subst Holds (sym a.1) hold
+  answer_keeps old (Asks (Test test)) reply new hold a = named_keep (router_named network.state.routers (router_of test)) old test reply new hold a
 
-  run_keeps : (old : State) (lines : List (List ℕ)) (replies : List ℕ) (last : State) → Holds old → Run s old lines replies last → Holds last
+  run_keeps : (old : State) (lines : List (List ℕ)) (replies : List ℕ) (last : State) → Holds old → Run network old lines replies last → Holds last
   run_keeps old [] replies last hold run = subst Holds (sym run.1) hold
   run_keeps old (line ∷ lines) replies last hold run = run_keeps run.1 lines run.2 last (answer_keeps old (command_of line) run.0 run.1 hold run.3) run.4
 
   -- ---- there is a reply
 
-  module _ (strongs : (e : ℕ) (f : Fact) → (flow_of s).holds f ≡ true → IsStrong (flow_of s) e f ↔ (strong (flow_of s) e f ≡ true))
-      (somes : (e : ℕ) (f : Fact) → (flow_of s).holds f ≡ true → IsInSome (flow_of s) e f ↔ (occurs (flow_of s) e f ≡ true))
-      (exists : (fs : List Fact) → Hold (flow_of s) fs → (xs : List Fact) × IsClosure (flow_of s) fs xs)
-      (decided : (n : ℕ) (fs xs : List Fact) → IsClosure (flow_of s) fs xs → ReachesMoreThan (flow_of s) n fs ↔ (n < length xs)) where
-    a_reply : (tests : List KeptTest) → Hold (flow_of s) (asked_in tests) → (reply : List ℕ) × IsReply s tests reply
+  module _ (strongs : (e : ℕ) (f : Fact) → (flow_of network.state).holds f ≡ true → IsStrong (flow_of network.state) e f ↔ (strong (flow_of network.state) e f ≡ true))
+      (somes : (e : ℕ) (f : Fact) → (flow_of network.state).holds f ≡ true → IsInSome (flow_of network.state) e f ↔ (occurs (flow_of network.state) e f ≡ true))
+      (exists : (fs : List Fact) → Hold (flow_of network.state) fs → (xs : List Fact) × IsClosure (flow_of network.state) fs xs)
+      (decided : (n : ℕ) (fs xs : List Fact) → IsClosure (flow_of network.state) fs xs → ReachesMoreThan (flow_of network.state) n fs ↔ (n < length xs)) where
+    form_some : (form : List Sheet → List ℕ) (tests : List KeptTest) → Hold (flow_of network.state) (asked_in tests)
+        → (text : List ℕ) × IsFormOf (flow_of network.state) (live_in tests) network.state.routers form text
+    form_some form tests hold = a_form (flow_of network.state) strongs somes (live_in tests) (all_live (λ f. (flow_of network.state).holds f ≡ true) tests hold) network.state.routers form
+
+    a_reply : (tests : List KeptTest) → Hold (flow_of network.state) (asked_in tests) → (reply : List ℕ) × IsReply network.state tests reply
     a_reply tests hold =
         let closed = exists (asked_in tests) hold in
-        let report = a_report (flow_of s) strongs somes (live_in tests) (all_live (λ f. (flow_of s).holds f ≡ true) tests hold) s.routers in (
+        let report = form_some report_of tests hold in (
           accepted_of (length tests) (length closed.0) ++ report.0,
           record { asked = closed.0; closure = closed.1; report = report.0; is_report = report.1; text = refl },
         )
 
-    counts_some : (room : Bool) (old : State) (facts : List Fact) → Hold (flow_of s) facts → Holds old → (reply : List ℕ) × (new : State) × Counts s room old facts reply new
+    counts_some : (room : Bool) (old : State) (facts : List Fact) → Hold (flow_of network.state) facts → Holds old → (reply : List ℕ) × (new : State) × Counts network.state room old facts reply new
     counts_some false old facts these hold = (line_of (codes "refused limit tests"), old, (refl, refl))
     counts_some true old facts these hold =
-        let all : Hold (flow_of s) (asked_in old.tests ++ facts) = more_hold old facts hold these in
+        let all : Hold (flow_of network.state) (asked_in old.tests ++ facts) = more_hold old facts hold these in
         let closed = exists (asked_in old.tests ++ facts) all in
         let next : State = record { tests = old.tests ++ live_test facts ∷ [] } in
         let test = decided FACT_LIMIT (asked_in old.tests ++ facts) closed.0 closed.1 in
@@ -233,32 +247,42 @@ module _ (s : StateView) where
               (reply.0, next, inr ((λ more. let many : FACT_LIMIT < length closed.0 = test.0 more in absurd (omega arith)), refl, reply.1))
         ]
 
-    tests_some : (old : State) (facts : List Fact) (text : List ℕ) → Hold (flow_of s) facts → Holds old → (reply : List ℕ) × (new : State) × Tests s old facts text reply new
+    tests_some : (old : State) (facts : List Fact) (text : List ℕ) → Hold (flow_of network.state) facts → Holds old → (reply : List ℕ) × (new : State) × Tests network.state old facts text reply new
     tests_some old [] text these hold = (line_of (codes "refused absent " ++ text), old, (refl, refl))
     tests_some old (fact ∷ facts) text these hold = counts_some (nat_lt (length old.tests) TEST_LIMIT) old (fact ∷ facts) these hold
 
-    lined_some : (there : Bool) (old : State) (test : TestCommand) → Holds old → (reply : List ℕ) × (new : State) × Lined s there old test reply new
+    lined_some : (there : Bool) (old : State) (test : TestCommand) → Holds old → (reply : List ℕ) × (new : State) × Lined network.state there old test reply new
     lined_some false old test hold = (line_of (codes "refused line"), old, (refl, refl))
-    lined_some true old test hold = tests_some old (tested_facts s test) (text_of test) (tested_hold test) hold
+    lined_some true old test hold = tests_some old (tested_facts network.state test) (text_of test) (tested_hold test) hold
 
-    named_some : (router : Option ℕ) (old : State) (test : TestCommand) → Holds old → (reply : List ℕ) × (new : State) × IsNamed s router old test reply new
-    named_some None old test hold = (line_of (codes "refused router " ++ router_of test), old, (refl, refl))
-    named_some (Some router) old test hold = lined_some (has_line s router test) old test hold
+    named_some : (router : Option ℕ) (old : State) (test : TestCommand) → Holds old → (reply : List ℕ) × (new : State) × IsNamed network.state router old test reply new
+    named_some None old test hold = (line_of (unknown_of (router_of test)), old, (refl, refl))
+    named_some (Some router) old test hold = lined_some (has_line network.state router test) old test hold
 
-    answer_some : (old : State) (line : Line) → Holds old → (reply : List ℕ) × (new : State) × Answers s old line reply new
+    tells_some : (form : List Sheet → List ℕ) (old : State) → Holds old → (reply : List ℕ) × (new : State) × Tells network form old reply new
+    tells_some form old hold = let made = form_some form old.tests hold in (made.0, old, (made.1, refl))
+
+    shows_some : (router : Option ℕ) (old : State) (name : List ℕ) → Holds old → (reply : List ℕ) × (new : State) × Shows network router old name reply new
+    shows_some None old name hold = (line_of (unknown_of name), old, (refl, refl))
+    shows_some (Some router) old name hold = tells_some (listing_at network router) old hold
+
+    answer_some : (old : State) (line : Line) → Holds old → (reply : List ℕ) × (new : State) × Answers network old line reply new
     answer_some old Passed hold = ([], old, (refl, refl))
     answer_some old TooLong hold = (line_of (codes "refused long"), old, (refl, refl))
     answer_some old Unread hold = (line_of (codes "refused syntax"), old, (refl, refl))
     answer_some old (Asks Quit) hold = ([], old, (refl, refl))
-    answer_some old (Asks (Test test)) hold = named_some (router_named s.routers (router_of test)) old test hold
+    answer_some old (Asks (Show name)) hold = shows_some (router_named network.state.routers name) old name hold
+    answer_some old (Asks Lcov) hold = tells_some (λ sheets. lcov_of sheets network.files) old hold
+    answer_some old (Asks Json) hold = tells_some json_of old hold
+    answer_some old (Asks (Test test)) hold = named_some (router_named network.state.routers (router_of test)) old test hold
 
-    run_some : (old : State) (lines : List (List ℕ)) → Holds old → (replies : List ℕ) × (last : State) × Run s old lines replies last
+    run_some : (old : State) (lines : List (List ℕ)) → Holds old → (replies : List ℕ) × (last : State) × Run network old lines replies last
     run_some old [] hold = ([], old, (refl, refl))
     run_some old (line ∷ lines) hold =
         let step = answer_some old (command_of line) hold in
         let more = run_some step.1 lines (answer_keeps old (command_of line) step.0 step.1 hold step.2) in
         (step.0 ++ more.0, more.1, (step.0, step.1, more.0, step.2, more.2, refl))
 
-    pub session_goes_on : GoesOn s
+    pub session_goes_on : GoesOn network
     session_goes_on lines more replies last run =
-        run_some last more (run_keeps no_tests lines replies last (All-nil (λ f. (flow_of s).holds f ≡ true)) run)
+        run_some last more (run_keeps no_tests lines replies last (All-nil (λ f. (flow_of network.state).holds f ≡ true)) run)

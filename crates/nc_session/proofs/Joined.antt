@@ -19,7 +19,8 @@ use Rattle.nc_network.specs.Told.{IsTold, fault_of, router_of}
 use Rattle.nc_network.specs.declared.fault.JoinFault.{JoinFault}
 use Rattle.nc_network.specs.declared.fault.JoinFault.TheVariants as joins
 use Rattle.nc_types.specs.declared.TheConstants.{LINE_LIMIT}
-use Rattle.nc_session.specs.File.{FileView, AreFilesOf}
+use Rattle.nc_report.specs.Views.{FileView}
+use Rattle.nc_session.specs.File.{AreFilesOf}
 use Rattle.nc_session.specs.Load.{Unsettled, load_judged, load_settled}
 use Rattle.nc_session.specs.Loading.{IsFault, IsConfigured, AreBeside, joining_fault}
 

@@ -6,12 +6,11 @@ mod Joined
 mod AllFiles
 mod Taking
 mod Entering
+mod WithFiles
 mod Ends
 mod Completing
 mod Closing
 mod Reporting
-mod Counting
-mod Showing
 mod Working
 mod Replying
 mod Answering

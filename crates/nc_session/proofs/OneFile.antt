@@ -7,7 +7,7 @@ use Rattle.nc_outside.specs.Named.{Named, Enters, content_of}
 use Rattle.nc_session.specs.declared.TheConstants.{FILE_LIMIT}
 use Rattle.nc_session.specs.declared.refusal.LoadFault.{LoadFault}
 use Rattle.nc_session.specs.declared.load.FileRead.{FileRead}
-use Rattle.nc_session.specs.File.{FileView}
+use Rattle.nc_report.specs.Views.{FileView}
 use Rattle.nc_session.specs.Reading.{IsRead}
 use Rattle.nc_session.specs.Load.{TooMany, load_lines, load_content, file_of}
 use Rattle.nc_session.specs.declared.refusal.Quantity.TheVariants.{Bytes}

@@ -19,13 +19,15 @@ use Rattle.nc_tables.specs.Settling.{settled}
 use Rattle.nc_fact.specs.declared.fact.Fact.{Fact}
 use Rattle.nc_fact.specs.Tested.{tested_facts}
 use Rattle.nc_rules.specs.Rules.{flow_of}
-use Rattle.nc_command.specs.declared.command.Command.TheVariants.{Test, Quit}
+use Rattle.nc_command.specs.declared.command.Command.TheVariants.{Test, Show, Lcov, Json, Quit}
 use Rattle.nc_command.specs.Command.{Line, Passed, TooLong, Unread, Asks, command_of, text_of}
 use Rattle.nc_session.specs.declared.TheConstants.{TEST_LIMIT}
 use Rattle.nc_session.specs.declared.status.Status.{Status}
-use Rattle.nc_session.specs.Texts.{Sheet, letter, accepted_of, report_of}
-use Rattle.nc_session.specs.Marks.{AreLineMarks, IsSheet, IsReport}
-use Rattle.nc_session.specs.Session.{KeptTest, State, no_tests, asked_in, live_in, router_of, until_quit, IsReply, Counts, Tests, Lined, Named as IsNamed, has_line, Answers, Run, AreReplies}
+use Rattle.nc_report.specs.Texts.{Sheet, letter, report_of, lcov_of, json_of}
+use Rattle.nc_session.specs.Session.{accepted_of}
+use Rattle.nc_session.specs.File.{LoadedView}
+use Rattle.nc_session.specs.Marks.{AreLineMarks, IsSheet, IsFormOf}
+use Rattle.nc_session.specs.Session.{KeptTest, State, no_tests, asked_in, live_in, router_of, until_quit, IsReply, Counts, Tests, Lined, Named as IsNamed, has_line, Tells, Shows, listing_at, Answers, Run, AreReplies}
 use Rattle.nc_session.specs.Load.{Refusal, load}
 use Rattle.nc_session.specs.Refusals.{long_session_text}
 use Rattle.nc_session.specs.Output.{ServesWithin, Concludes, Output, is_within, served_lines}
@@ -77,7 +79,7 @@ lists_once Is once (c ∷ cs) (x ∷ xs) (y ∷ ys) m n p q =
     ∙ ap (λ l. y ∷ l) (
     lists_once (λ k d s. Is (suc k) d s) (λ k d s t. once (suc k) d s t) cs xs ys (omega (arith, m)) (omega (arith, n)) (λ k d s at made. p (suc k) d s at made) (λ k d s at made. q (suc k) d s at made))
 
--- ---- one report
+-- ---- one form of the marks
 
 module _ (g : Flow Fact) (tested : List Fact) (routers : List ConfigView) where
   line_marks_once : (router lines : ℕ) (ms ns : List Mark) → AreLineMarks g tested routers router lines ms → AreLineMarks g tested routers router lines ns → ms ≡ ns
@@ -94,65 +96,75 @@ module _ (g : Flow Fact) (tested : List Fact) (routers : List ConfigView) where
       ap (λ (n : List ℕ). sheet_by n s.letters) (p.name ∙ sym q.name)
       ∙ ap (sheet_by t.name) (p.letters ∙ ap (map letter) marks ∙ sym q.letters)
 
-  report_once : (r s : List ℕ) → IsReport g tested routers r → IsReport g tested routers s → r ≡ s
-  report_once r s p q =
-      p.text ∙ ap report_of (lists_once (IsSheet g tested routers) sheet_once routers p.sheets q.sheets p.count q.count p.each q.each) ∙ sym q.text
+  form_once : (form : List Sheet → List ℕ) (r s : List ℕ) → IsFormOf g tested routers form r → IsFormOf g tested routers form s → r ≡ s
+  form_once form r s p q =
+      p.text_is ∙ ap form (lists_once (IsSheet g tested routers) sheet_once routers p.sheets q.sheets p.are.count q.are.count p.are.each q.are.each) ∙ sym q.text_is
 
 -- ---- one reply
 
-module _ (lengths : (g : Flow Fact) → IsFlow g → (fs xs ys : List Fact) → IsClosure g fs xs → IsClosure g fs ys → length xs ≡ length ys) (s : StateView) (lawful : IsFlow (flow_of s)) where
+module _ (lengths : (g : Flow Fact) → IsFlow g → (fs xs ys : List Fact) → IsClosure g fs xs → IsClosure g fs ys → length xs ≡ length ys) (network : LoadedView) (lawful : IsFlow (flow_of network.state)) where
   -- the same reply, and the same is kept
   abbrev Same : List ℕ → List ℕ → State → State → Type 0
   Same r t m n = (r ≡ t) × (m ≡ n)
 
-  reply_once : (tests : List KeptTest) (r t : List ℕ) → IsReply s tests r → IsReply s tests t → r ≡ t
+  reply_once : (tests : List KeptTest) (r t : List ℕ) → IsReply network.state tests r → IsReply network.state tests t → r ≡ t
   reply_once tests r t p q =
-      let count : length p.asked ≡ length q.asked = lengths (flow_of s) lawful (asked_in tests) p.asked q.asked p.closure q.closure in
-      let report : p.report ≡ q.report = report_once (flow_of s) (live_in tests) s.routers p.report q.report p.is_report q.is_report in
+      let count : length p.asked ≡ length q.asked = lengths (flow_of network.state) lawful (asked_in tests) p.asked q.asked p.closure q.closure in
+      let report : p.report ≡ q.report = form_once (flow_of network.state) (live_in tests) network.state.routers report_of p.report q.report p.is_report q.is_report in
       p.text
       ∙ ap (λ (n : ℕ). accepted_of (length tests) n ++ p.report) count
       ∙ ap (λ (l : List ℕ). accepted_of (length tests) (length q.asked) ++ l) report
       ∙ sym q.text
 
-  counts_once : (room : Bool) (old : State) (facts : List Fact) (r t : List ℕ) (m n : State) → Counts s room old facts r m → Counts s room old facts t n → Same r t m n
+  counts_once : (room : Bool) (old : State) (facts : List Fact) (r t : List ℕ) (m n : State) → Counts network.state room old facts r m → Counts network.state room old facts t n → Same r t m n
   counts_once false old facts r t m n p q = (p.0 ∙ sym q.0, p.1 ∙ sym q.1)
   counts_once true old facts r t m n (inl p) (inl q) = (p.1.0 ∙ sym q.1.0, p.1.1 ∙ sym q.1.1)
   counts_once true old facts r t m n (inl p) (inr q) = absurd (q.0 p.0)
   counts_once true old facts r t m n (inr p) (inl q) = absurd (p.0 q.0)
   counts_once true old facts r t m n (inr p) (inr q) =
       let same : m ≡ n = p.1 ∙ sym q.1 in
-      (reply_once m.tests r t p.2 (subst (λ (kept : State). IsReply s kept.tests t) (sym same) q.2), same)
+      (reply_once m.tests r t p.2 (subst (λ (kept : State). IsReply network.state kept.tests t) (sym same) q.2), same)
 
-  tests_once : (old : State) (facts : List Fact) (text r t : List ℕ) (m n : State) → Tests s old facts text r m → Tests s old facts text t n → Same r t m n
+  tests_once : (old : State) (facts : List Fact) (text r t : List ℕ) (m n : State) → Tests network.state old facts text r m → Tests network.state old facts text t n → Same r t m n
   tests_once old [] text r t m n p q = (p.0 ∙ sym q.0, p.1 ∙ sym q.1)
   tests_once old (fact ∷ facts) text r t m n p q = counts_once (nat_lt (length old.tests) TEST_LIMIT) old (fact ∷ facts) r t m n p q
 
-  lined_once : (there : Bool) (old : State) (test : TestCommand) (r t : List ℕ) (m n : State) → Lined s there old test r m → Lined s there old test t n → Same r t m n
+  lined_once : (there : Bool) (old : State) (test : TestCommand) (r t : List ℕ) (m n : State) → Lined network.state there old test r m → Lined network.state there old test t n → Same r t m n
   lined_once false old test r t m n p q = (p.0 ∙ sym q.0, p.1 ∙ sym q.1)
-  lined_once true old test r t m n p q = tests_once old (tested_facts s test) (text_of test) r t m n p q
+  lined_once true old test r t m n p q = tests_once old (tested_facts network.state test) (text_of test) r t m n p q
 
-  named_once : (router : Option ℕ) (old : State) (test : TestCommand) (r t : List ℕ) (m n : State) → IsNamed s router old test r m → IsNamed s router old test t n → Same r t m n
+  named_once : (router : Option ℕ) (old : State) (test : TestCommand) (r t : List ℕ) (m n : State) → IsNamed network.state router old test r m → IsNamed network.state router old test t n → Same r t m n
   named_once None old test r t m n p q = (p.0 ∙ sym q.0, p.1 ∙ sym q.1)
-  named_once (Some router) old test r t m n p q = lined_once (has_line s router test) old test r t m n p q
+  named_once (Some router) old test r t m n p q = lined_once (has_line network.state router test) old test r t m n p q
 
-  answer_once : (old : State) (line : Line) (r t : List ℕ) (m n : State) → Answers s old line r m → Answers s old line t n → Same r t m n
+  tells_once : (form : List Sheet → List ℕ) (old : State) (r t : List ℕ) (m n : State) → Tells network form old r m → Tells network form old t n → Same r t m n
+  tells_once form old r t m n p q = (form_once (flow_of network.state) (live_in old.tests) network.state.routers form r t p.0 q.0, p.1 ∙ sym q.1)
+
+  shows_once : (router : Option ℕ) (old : State) (name r t : List ℕ) (m n : State) → Shows network router old name r m → Shows network router old name t n → Same r t m n
+  shows_once None old name r t m n p q = (p.0 ∙ sym q.0, p.1 ∙ sym q.1)
+  shows_once (Some router) old name r t m n p q = tells_once (listing_at network router) old r t m n p q
+
+  answer_once : (old : State) (line : Line) (r t : List ℕ) (m n : State) → Answers network old line r m → Answers network old line t n → Same r t m n
   answer_once old Passed r t m n p q = (p.0 ∙ sym q.0, p.1 ∙ sym q.1)
   answer_once old TooLong r t m n p q = (p.0 ∙ sym q.0, p.1 ∙ sym q.1)
   answer_once old Unread r t m n p q = (p.0 ∙ sym q.0, p.1 ∙ sym q.1)
   answer_once old (Asks Quit) r t m n p q = (p.0 ∙ sym q.0, p.1 ∙ sym q.1)
-  answer_once old (Asks (Test test)) r t m n p q = named_once (router_named s.routers (router_of test)) old test r t m n p q
+  answer_once old (Asks (Show name)) r t m n p q = shows_once (router_named network.state.routers name) old name r t m n p q
+  answer_once old (Asks Lcov) r t m n p q = tells_once (λ sheets. lcov_of sheets network.files) old r t m n p q
+  answer_once old (Asks Json) r t m n p q = tells_once json_of old r t m n p q
+  answer_once old (Asks (Test test)) r t m n p q = named_once (router_named network.state.routers (router_of test)) old test r t m n p q
 
-  run_once : (old : State) (lines : List (List ℕ)) (r t : List ℕ) (m n : State) → Run s old lines r m → Run s old lines t n → r ≡ t
+  run_once : (old : State) (lines : List (List ℕ)) (r t : List ℕ) (m n : State) → Run network old lines r m → Run network old lines t n → r ≡ t
   run_once old [] r t m n p q = p.0 ∙ sym q.0
   run_once old (line ∷ lines) r t m n p q =
       let step : Same p.0 q.0 p.1 q.1 = answer_once old (command_of line) p.0 q.0 p.1 q.1 p.3 q.3 in
-      let rest : p.2 ≡ q.2 = run_once p.1 lines p.2 q.2 m n p.4 (subst (λ (kept : State). Run s kept lines q.2 n) (sym step.1) q.4) in
+      let rest : p.2 ≡ q.2 = run_once p.1 lines p.2 q.2 m n p.4 (subst (λ (kept : State). Run network kept lines q.2 n) (sym step.1) q.4) in
       p.5 ∙ ap (λ (l : List ℕ). l ++ p.2) step.0 ∙ ap (λ (l : List ℕ). q.0 ++ l) rest ∙ sym q.5
 
-  replies_once : (lines : List (List ℕ)) (r t : List ℕ) → AreReplies s lines r → AreReplies s lines t → r ≡ t
+  replies_once : (lines : List (List ℕ)) (r t : List ℕ) → AreReplies network lines r → AreReplies network lines t → r ≡ t
   replies_once lines r t p q = run_once no_tests (until_quit lines) r t p.last q.last p.run q.run
 
-  replied_once : (session : List ℕ) (within : Bool) (m n : Status) (r t : List ℕ) → ServesWithin s session within m r → ServesWithin s session within n t → (m ≡ n) × (r ≡ t)
+  replied_once : (session : List ℕ) (within : Bool) (m n : Status) (r t : List ℕ) → ServesWithin network session within m r → ServesWithin network session within n t → (m ≡ n) × (r ≡ t)
   replied_once session true m n r t p q = (p.0 ∙ sym q.0, replies_once (served_lines session) r t p.1 q.1)
   replied_once session false m n r t p q =
       let replies : p.1 ≡ q.1 = replies_once (served_lines session) p.1 q.1 p.2 q.2 in
@@ -164,11 +176,11 @@ module _ (formed : (lines : List (List ℕ)) (c : ConfigView) → configuration 
     (lawful : (routers : List ConfigView) (rounds : ℕ) (s : StateView) → IsValid routers → length routers ≤ ROUTER_LIMIT → settled rounds routers ≡ Some s → IsState s)
     (flows : (s : StateView) → IsState s → IsFlow (flow_of s))
     (lengths : (g : Flow Fact) → IsFlow g → (fs xs ys : List Fact) → IsClosure g fs xs → IsClosure g fs ys → length xs ≡ length ys) where
-  concludes_once : (loaded : Result StateView Refusal) (session : List ℕ) (m n : Status) (r t : List ℕ) → ((state : StateView) → loaded ≡ Ok state → IsState state)
+  concludes_once : (loaded : Result LoadedView Refusal) (session : List ℕ) (m n : Status) (r t : List ℕ) → ((network : LoadedView) → loaded ≡ Ok network → IsState network.state)
       → Concludes loaded session m r → Concludes loaded session n t → (m ≡ n) × (r ≡ t)
   concludes_once (Err refusal) session m n r t state p q = (p.0 ∙ sym q.0, p.1 ∙ sym q.1)
-  concludes_once (Ok s) session m n r t state p q =
-      replied_once lengths s (flows s (state s refl)) session (is_within session) m n r t p q
+  concludes_once (Ok network) session m n r t state p q =
+      replied_once lengths network (flows network.state (state network refl)) session (is_within session) m n r t p q
 
   pub one_output : (words : List (List ℕ)) (files : List Named) (session : List ℕ) (m n : Status) (r t : List ℕ) → Output words files session m r → Output words files session n t → (m ≡ n) × (r ≡ t)
   one_output words files session m n r t p q = concludes_once (load words files) session m n r t (loaded_state formed lawful words files) p q

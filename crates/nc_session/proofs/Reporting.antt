@@ -1,4 +1,4 @@
--- The sheets that are made of the marks of elements are those of a report.
+-- The sheets that are made of the marks of elements are those of which reports are forms.
 use Rattle.std.proofs.Common.{◌≡◌, ℕ, suc, zero, ◌+◌, ◌<◌, List, [], ◌∷◌, length, map, Some, slice_get, slice_index_or, refl, sym, ap, ◌∙◌, subst, zero-add, arith}
 use Rattle.std.proofs.lemmas.Simd.{map-map}
 use Rattle.std.proofs.lemmas.List.FromFn.{length-map-range_with_len, get_or-map-range_with_len}
@@ -12,9 +12,9 @@ use Rattle.nc_marks.specs.declared.mark.Mark.TheVariants.{Outside}
 use Rattle.nc_marks.specs.Marks.{ElementMarks, AreMarks, IsMark, mark_of}
 use Rattle.nc_marks.proofs.OwnerLemmas.{owner-within}
 use Rattle.nc_fact.specs.declared.fact.Fact.{Fact}
-use Rattle.nc_session.specs.Texts.{Sheet, letter, report_of}
-use Rattle.nc_session.specs.Marks.{AreLineMarks, IsSheet, IsReport}
-use Rattle.nc_session.specs.Sheets.{letters_from, sheets_from}
+use Rattle.nc_report.specs.Texts.{Sheet, letter}
+use Rattle.nc_session.specs.Marks.{AreLineMarks, IsSheet, IsFormOf}
+use Rattle.nc_report.specs.Sheets.{letters_from, sheets_from}
 
 module _ (g : Flow Fact) (tested : List Fact) (routers : List ConfigView) (m : ElementMarks) (are : AreMarks g tested (element_count routers) m) where
   owned : (router line : ℕ) → ForSome (owner_at routers router line) (λ e. e < element_count routers)
@@ -60,10 +60,12 @@ module _ (g : Flow Fact) (tested : List Fact) (routers : List ConfigView) (m : E
       sym first ∙ ap (made_of from) same ∙ ap (λ (n : ℕ). made_of n c) (omega arith)
   sheet-at from (d ∷ ds) (suc place) c s at made = sheet-at (from + 1) ds place c s at made ∙ ap (λ (n : ℕ). made_of n c) (omega arith)
 
-  pub report-is : IsReport g tested routers (report_of (sheets_from routers m 0 routers))
-  report-is = record {
+  pub form-is : (form : List Sheet → List ℕ) → IsFormOf g tested routers form (form (sheets_from routers m 0 routers))
+  form-is form = record {
     sheets = sheets_from routers m 0 routers;
-    count = sheets-length 0 routers;
-    each = λ router c s at made. subst (IsSheet g tested routers router c) (sym (sheet-at 0 routers router c s at made ∙ ap (λ (n : ℕ). made_of n c) (zero-add router))) (sheet-is router c);
-    text = refl;
+    are = record {
+      count = sheets-length 0 routers;
+      each = λ router c s at made. subst (IsSheet g tested routers router c) (sym (sheet-at 0 routers router c s at made ∙ ap (λ (n : ℕ). made_of n c) (zero-add router))) (sheet-is router c);
+    };
+    text_is = refl;
   }

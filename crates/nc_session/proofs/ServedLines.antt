@@ -5,9 +5,9 @@ use Rattle.std.specs.Io.KnownBytes.{Appends}
 use Rattle.std.proofs.KnownBytes.{Appends-trans, Appends-nil}
 use Rattle.std.proofs.lemmas.Bool.{lt-ltb, ltb-true, or_left, or_right, or_from}
 use Rattle.std.proofs.lemmas.List.Folds.{list_any-append}
-use Rattle.nc_tables.specs.State.{StateView}
+use Rattle.nc_session.specs.File.{LoadedView}
 use Rattle.nc_command.specs.declared.TheConstants as command
-use Rattle.nc_command.specs.declared.command.Command.TheVariants.{Test, Quit}
+use Rattle.nc_command.specs.declared.command.Command.TheVariants.{Test, Show, Lcov, Json, Quit}
 use Rattle.nc_command.specs.Command.{Line, Passed, TooLong, Unread, Asks, command_of, asked_by}
 use Rattle.nc_command.specs.declared.cutter.Cut.TheVariants as cut
 use Rattle.nc_command.specs.Cutting.{cut_of}
@@ -18,27 +18,27 @@ use Rattle.nc_session.specs.declared.reading.Stop as stop
 use Rattle.nc_session.specs.Session.{State, Step, Answers, Run, ends, is_quit, until_quit}
 use Rattle.nc_session.specs.Output.{has_quit}
 use Rattle.nc_session.specs.Engine.{Progress, flow_behind, Turns}
-use Rattle.nc_session.specs.Texts.{line_of}
+use Rattle.nc_report.specs.Texts.{line_of}
 use Rattle.nc_session.specs.Serving.{AppendsFront, AppendsPart, EndsWith, AreServed, ArePending, AreEnded, AreBroken, AreAnswered, ServesLines, AnswersLine}
 
 -- ---- runs, and the lines up to the end of a session
 
-pub run_then : (s : StateView) (a b c : State) (xs ys : List (List ℕ)) (r q : List ℕ) → Run s a xs r b → Run s b ys q c → Run s a (xs ++ ys) (r ++ q) c
-run_then s a b c [] ys r q first second =
-    subst (λ (l : List ℕ). Run s a ys l c) (sym (ap (λ (l : List ℕ). l ++ q) first.0)) (subst (λ (st : State). Run s st ys q c) first.1 second)
-run_then s a b c (x ∷ xs) ys r q first second = (
+pub run_then : (n : LoadedView) (a b c : State) (xs ys : List (List ℕ)) (r q : List ℕ) → Run n a xs r b → Run n b ys q c → Run n a (xs ++ ys) (r ++ q) c
+run_then n a b c [] ys r q first second =
+    subst (λ (l : List ℕ). Run n a ys l c) (sym (ap (λ (l : List ℕ). l ++ q) first.0)) (subst (λ (st : State). Run n st ys q c) first.1 second)
+run_then n a b c (x ∷ xs) ys r q first second = (
   first.0,
   first.1,
   first.2 ++ q,
   first.3,
-  run_then s first.1 b c xs ys first.2 q first.4 second,
+  run_then n first.1 b c xs ys first.2 q first.4 second,
   ap (λ (l : List ℕ). l ++ q) first.5 ∙ append_assoc first.0 first.2 q,
 )
 
 -- one line more
-pub run_line : (s : StateView) (a b c : State) (xs : List (List ℕ)) (line r reply : List ℕ) → Run s a xs r b → Step s b line reply c → Run s a (xs ++ line ∷ []) (r ++ reply) c
-run_line s a b c xs line r reply first step =
-    run_then s a b c xs (line ∷ []) r reply first (reply, c, [], step, (refl, refl), sym (append-nil reply))
+pub run_line : (n : LoadedView) (a b c : State) (xs : List (List ℕ)) (line r reply : List ℕ) → Run n a xs r b → Step n b line reply c → Run n a (xs ++ line ∷ []) (r ++ reply) c
+run_line n a b c xs line r reply first step =
+    run_then n a b c xs (line ∷ []) r reply first (reply, c, [], step, (refl, refl), sym (append-nil reply))
 
 pub until_then : (xs ys : List (List ℕ)) → has_quit xs ≡ false → until_quit (xs ++ ys) ≡ xs ++ until_quit ys
 until_then [] ys none = refl
@@ -111,11 +111,14 @@ some_same : (o : Option Progress) (p q : Progress) → o ≡ Some p → o ≡ So
 some_same o p q e f = let same : Some p ≡ Some q = sym e ∙ f in cc
 
 -- a line that ends the session has no reply
-quit_reply : (s : StateView) (line reply : List ℕ) (a b : State) → is_quit line ≡ true → Step s a line reply b → reply ≡ []
-quit_reply s line reply a b quits step = on (command_of line) quits step
+quit_reply : (n : LoadedView) (line reply : List ℕ) (a b : State) → is_quit line ≡ true → Step n a line reply b → reply ≡ []
+quit_reply n line reply a b quits step = on (command_of line) quits step
   where
-    on : (l : Line) → ends l ≡ true → Answers s a l reply b → reply ≡ []
+    on : (l : Line) → ends l ≡ true → Answers n a l reply b → reply ≡ []
     on (Asks Quit) quits answers = answers.0
+    on (Asks (Show name)) quits answers = absurd cc
+    on (Asks Lcov) quits answers = absurd cc
+    on (Asks Json) quits answers = absurd cc
     on (Asks (Test test)) quits answers = absurd cc
     on Passed quits answers = absurd cc
     on TooLong quits answers = absurd cc
@@ -129,7 +132,7 @@ module _ (from : Progress) (lines : List (List ℕ)) (now : Option Progress) (pe
   pending_served new written = record {
     to = p.to;
     to_is = p.to_is;
-    state = p.state;
+    loaded = p.loaded;
     replies = p.sent ++ pending;
     run = p.run;
     goes = p.goes;
@@ -166,25 +169,25 @@ module _ (from : Progress) (lines : List (List ℕ)) (now : Option Progress) (pe
   pending_less after new some = record {
     to = p.to;
     to_is = p.to_is;
-    state = p.state;
+    loaded = p.loaded;
     sent = p.sent ++ some.part;
-    run = subst (λ (r : List ℕ). Run from.state from.session lines r p.to.session)
+    run = subst (λ (r : List ℕ). Run from.loaded from.session lines r p.to.session)
         (ap (λ (l : List ℕ). p.sent ++ l) some.parts ∙ sym (append_assoc p.sent some.part after)) p.run;
     goes = p.goes;
     written = Appends-trans start mid new p.sent some.part p.written some.written;
   }
 
   -- the reply to a further line is behind them
-  pub pending_more : (line reply : List ℕ) (next : Option Progress) (to : Progress) → is_quit line ≡ false → next ≡ Some to → to.state ≡ p.to.state
-      → Step p.to.state p.to.session line reply to.session → ArePending from (lines ++ line ∷ []) next (pending ++ reply) start mid
-  pending_more line reply next to goes is state step = record {
+  pub pending_more : (line reply : List ℕ) (next : Option Progress) (to : Progress) → is_quit line ≡ false → next ≡ Some to → to.loaded ≡ p.to.loaded
+      → Step p.to.loaded p.to.session line reply to.session → ArePending from (lines ++ line ∷ []) next (pending ++ reply) start mid
+  pending_more line reply next to goes is loaded step = record {
     to = to;
     to_is = is;
-    state = state ∙ p.state;
+    loaded = loaded ∙ p.loaded;
     sent = p.sent;
-    run = subst (λ (r : List ℕ). Run from.state from.session (lines ++ line ∷ []) r to.session) (append_assoc p.sent pending reply)
-        (run_line from.state from.session p.to.session to.session lines line (p.sent ++ pending) reply p.run
-        (subst (λ (s : StateView). Step s p.to.session line reply to.session) p.state step));
+    run = subst (λ (r : List ℕ). Run from.loaded from.session (lines ++ line ∷ []) r to.session) (append_assoc p.sent pending reply)
+        (run_line from.loaded from.session p.to.session to.session lines line (p.sent ++ pending) reply p.run
+        (subst (λ (n : LoadedView). Step n p.to.session line reply to.session) p.loaded step));
     goes = list_any-append is_quit lines (line ∷ []) ∙ or_from (has_quit lines) (is_quit line || false) p.goes (or_from (is_quit line) false goes refl);
     written = p.written;
   }
@@ -194,16 +197,16 @@ module _ (from : Progress) (lines : List (List ℕ)) (now : Option Progress) (pe
     at : t.from ≡ p.to
     at = some_same now t.from p.to t.from_is p.to_is
 
-    step_is : Step p.to.state p.to.session line t.answered.reply t.to.session
-    step_is = subst (λ (q : Progress). Step q.state q.session line t.answered.reply t.to.session) at t.answered.step
+    step_is : Step p.to.loaded p.to.session line t.answered.reply t.to.session
+    step_is = subst (λ (q : Progress). Step q.loaded q.session line t.answered.reply t.to.session) at t.answered.step
 
     line_more : is_quit line ≡ false → ArePending from (lines ++ line ∷ []) next after start mid
     line_more goes = subst (λ (bytes : List ℕ). ArePending from (lines ++ line ∷ []) next bytes start mid) (sym t.answered.text)
-        (pending_more line t.answered.reply next t.to goes t.to_is (t.answered.state ∙ ap (λ (q : Progress). q.state) at) step_is)
+        (pending_more line t.answered.reply next t.to goes t.to_is (t.answered.loaded ∙ ap (λ (q : Progress). q.loaded) at) step_is)
 
     line_none : is_quit line ≡ true → after ≡ pending
     line_none quits =
-        t.answered.text ∙ ap (λ (l : List ℕ). pending ++ l) (quit_reply p.to.state line t.answered.reply p.to.session t.to.session quits step_is) ∙ append-nil pending
+        t.answered.text ∙ ap (λ (l : List ℕ). pending ++ l) (quit_reply p.to.loaded line t.answered.reply p.to.session t.to.session quits step_is) ∙ append-nil pending
 
     pub line_answered : (how : Flow) → how ≡ flow_behind (command_of line) → AnswersLine from lines line next pending after start mid how
     line_answered Go is = line_more (goes_by line is)
@@ -220,8 +223,8 @@ module _ (from : Progress) (lines : List (List ℕ)) (now : Option Progress) (pe
     unfolding command_of
     too_long = ap (λ (b : Bool). cond b TooLong (asked_by (words_of line))) (lt-ltb command.LINE_LIMIT (length line) long)
 
-    long_step : Step p.to.state p.to.session line (line_of (codes "refused long")) p.to.session
-    long_step = subst (λ (l : Line). Answers p.to.state p.to.session l (line_of (codes "refused long")) p.to.session) (sym too_long) (refl, refl)
+    long_step : Step p.to.loaded p.to.session line (line_of (codes "refused long")) p.to.session
+    long_step = subst (λ (l : Line). Answers p.to.loaded p.to.session l (line_of (codes "refused long")) p.to.session) (sym too_long) (refl, refl)
 
     pub long_replied : {E : Type 0} → (after : List ℕ) (r : Result Flow E) → IfOk r (λ how. (how ≡ Go) × (after ≡ pending ++ line_of (codes "refused long")))
         → IfOk r (AnswersLine from lines line now pending after start mid)
@@ -237,9 +240,9 @@ module _ (from : Progress) (lines : List (List ℕ)) (now : Option Progress) (st
   served_pending = record {
     to = a.to;
     to_is = a.to_is;
-    state = a.state;
+    loaded = a.loaded;
     sent = a.replies;
-    run = subst (λ (r : List ℕ). Run from.state from.session lines r a.to.session) (sym (append-nil a.replies)) a.run;
+    run = subst (λ (r : List ℕ). Run from.loaded from.session lines r a.to.session) (sym (append-nil a.replies)) a.run;
     goes = a.goes;
     written = a.written;
   }
@@ -257,7 +260,7 @@ module _ (from : Progress) (lines : List (List ℕ)) (now : Option Progress) (st
       record {
         replies = a.replies;
         last = a.to.session;
-        run = subst (λ (ls : List (List ℕ)). Run from.state from.session ls a.replies a.to.session) (sym up) a.run;
+        run = subst (λ (ls : List (List ℕ)). Run from.loaded from.session ls a.replies a.to.session) (sym up) a.run;
         quits = list_any-append is_quit lines (line ∷ []) ∙ ap (λ (b : Bool). has_quit lines || (b || false)) stops ∙ or_right (has_quit lines) true refl;
         written = a.written;
       }
@@ -269,7 +272,7 @@ module _ (from : Progress) (xs ys : List (List ℕ)) (old new : Option (List ℕ
   ended_on e = record {
     replies = e.replies;
     last = e.last;
-    run = subst (λ (ls : List (List ℕ)). Run from.state from.session ls e.replies e.last) (sym (until_ended xs ys e.quits)) e.run;
+    run = subst (λ (ls : List (List ℕ)). Run from.loaded from.session ls e.replies e.last) (sym (until_ended xs ys e.quits)) e.run;
     quits = quits_more xs ys e.quits;
     written = e.written;
   }
@@ -278,7 +281,7 @@ pub served_answered : (from : Progress) (lines : List (List ℕ)) (now : Option 
 served_answered from lines now old new a = record {
   replies = a.replies;
   last = a.to.session;
-  run = subst (λ (ls : List (List ℕ)). Run from.state from.session ls a.replies a.to.session) (sym (until_all lines a.goes)) a.run;
+  run = subst (λ (ls : List (List ℕ)). Run from.loaded from.session ls a.replies a.to.session) (sym (until_all lines a.goes)) a.run;
   written = a.written;
 }
 

@@ -13,7 +13,6 @@ use Rattle.nc_command.specs.declared.TheConstants.{HELD_LIMIT}
 use Rattle.nc_command.specs.declared.cutter.Cut.{Cut}
 use Rattle.nc_command.specs.Cutting.{cut_of, front_of, held_of}
 use Rattle.nc_command.proofs.CutLemmas.{cut_front, front_more}
-use Rattle.nc_tables.specs.State.{StateView}
 use Rattle.nc_session.specs.declared.TheConstants.{SESSION_LIMIT}
 use Rattle.nc_session.specs.declared.engine.Flow.{Flow}
 use Rattle.nc_session.specs.declared.engine.Flow.TheVariants as flow
@@ -21,7 +20,7 @@ use Rattle.nc_session.specs.declared.reading.Stop.{Stop}
 use Rattle.nc_session.specs.declared.reading.Stop.TheVariants as stop
 use Rattle.nc_session.specs.declared.status.Status.{Status}
 use Rattle.nc_session.specs.declared.status.Status.TheVariants.{Done, Config, Usage, Unstable, InputFault, OutputFault, FileFault, Memory, Limit}
-use Rattle.nc_session.specs.File.{FileView}
+use Rattle.nc_session.specs.File.{LoadedView}
 use Rattle.nc_session.specs.Session.{no_tests, Run, is_quit}
 use Rattle.nc_session.specs.Output.{has_quit}
 use Rattle.nc_session.specs.Engine.{Progress, begin_at}
@@ -147,19 +146,19 @@ one_line xs some = lines_end xs ∙ on (open_of xs) some
     on [] some = absurd (some refl)
     on (b ∷ bs) some = refl
 
-module _ (s : StateView) (files : List FileView) (before : Told) (rest mid new : Option (List ℕ)) (engine : Option Progress) (held : List ℕ) (room : ℕ)
-    (t : IsTaken (begin_at s files) before (told rest mid) engine held room) (ended : IsAtEnd rest) where
+module _ (n : LoadedView) (before : Told) (rest mid new : Option (List ℕ)) (engine : Option Progress) (held : List ℕ) (room : ℕ)
+    (t : IsTaken (begin_at n) before (told rest mid) engine held room) (ended : IsAtEnd rest) where
   few : length t.taken ≤ SESSION_LIMIT
   few = omega (arith, t.count)
 
   -- nothing is open
-  pub nothing_left : held ≡ [] → Leaves s before (told rest mid) Done
+  pub nothing_left : held ≡ [] → Leaves n before (told rest mid) Done
   nothing_left none =
       let empty : open_of t.taken ≡ [] = empty_front (open_of t.taken) (sym t.held_is ∙ none) in
-      let answered : AreAnswered (begin_at s files) (lines_of t.taken) before.written mid =
-      subst (λ (ls : List (List ℕ)). AreAnswered (begin_at s files) ls before.written mid) (sym (no_line t.taken empty))
-      (served_answered (begin_at s files) (whole_lines_of t.taken) engine before.written mid t.served) in
-      end_leaves s files before rest mid t.taken t.consumed few ended answered
+      let answered : AreAnswered (begin_at n) (lines_of t.taken) before.written mid =
+      subst (λ (ls : List (List ℕ)). AreAnswered (begin_at n) ls before.written mid) (sym (no_line t.taken empty))
+      (served_answered (begin_at n) (whole_lines_of t.taken) engine before.written mid t.served) in
+      end_leaves n before rest mid t.taken t.consumed few ended answered
 
   -- the open line is cut
   pub last_cut_is : (cut : Cut) → cut ≡ cut_of held → cut ≡ cut_of (open_of t.taken)
@@ -172,46 +171,46 @@ module _ (s : StateView) (files : List FileView) (before : Told) (rest mid new :
     is_last : last_lines ≡ lines_of t.taken
     is_last = sym (one_line t.taken (λ empty. some (sym (ap length (t.held_is ∙ ap front_of empty)))))
 
-    answered_by : (how : Flow) → ServesLines (begin_at s files) last_lines next before.written new (Ok how) → AreAnswered (begin_at s files) last_lines before.written new
-    answered_by flow.Go served = served_answered (begin_at s files) last_lines next before.written new served
-    answered_by flow.Stop served = ended_answered (begin_at s files) last_lines before.written new served
+    answered_by : (how : Flow) → ServesLines (begin_at n) last_lines next before.written new (Ok how) → AreAnswered (begin_at n) last_lines before.written new
+    answered_by flow.Go served = served_answered (begin_at n) last_lines next before.written new served
+    answered_by flow.Stop served = ended_answered (begin_at n) last_lines before.written new served
 
     -- and answered
-    pub line_left : (how : Flow) → ServesLines (begin_at s files) last_lines next before.written new (Ok how) → Leaves s before (told rest new) Done
+    pub line_left : (how : Flow) → ServesLines (begin_at n) last_lines next before.written new (Ok how) → Leaves n before (told rest new) Done
     line_left how served =
-        end_leaves s files before rest new t.taken t.consumed few ended
-        (subst (λ (ls : List (List ℕ)). AreAnswered (begin_at s files) ls before.written new) is_last (answered_by how served))
+        end_leaves n before rest new t.taken t.consumed few ended
+        (subst (λ (ls : List (List ℕ)). AreAnswered (begin_at n) ls before.written new) is_last (answered_by how served))
 
-    pub line_broken : GoesOn s → (why : Stop) → AreBroken (begin_at s files) last_lines before.written new → Leaves s before (told rest new) (stopped_as why)
+    pub line_broken : GoesOn n → (why : Stop) → AreBroken (begin_at n) last_lines before.written new → Leaves n before (told rest new) (stopped_as why)
     line_broken goes why b = on why
       where
-        on : (why : Stop) → Leaves s before (told rest new) (stopped_as why)
-        on stop.Outside = last_broken s files before rest new t.taken t.consumed few goes ended (subst (λ (ls : List (List ℕ)). AreBroken (begin_at s files) ls before.written new) is_last b)
-        on stop.Memory = last_broken s files before rest new t.taken t.consumed few goes ended (subst (λ (ls : List (List ℕ)). AreBroken (begin_at s files) ls before.written new) is_last b)
+        on : (why : Stop) → Leaves n before (told rest new) (stopped_as why)
+        on stop.Outside = last_broken n before rest new t.taken t.consumed few goes ended (subst (λ (ls : List (List ℕ)). AreBroken (begin_at n) ls before.written new) is_last b)
+        on stop.Memory = last_broken n before rest new t.taken t.consumed few goes ended (subst (λ (ls : List (List ℕ)). AreBroken (begin_at n) ls before.written new) is_last b)
 
 -- ---- a session, piece by piece
 
 -- nothing was taken yet
-pub taken_none : (s : StateView) (files : List FileView) (rest written : Option (List ℕ)) (engine : Option Progress) (held : List ℕ) → engine ≡ Some (begin_at s files) → held ≡ []
-    → IsTaken (begin_at s files) (told rest written) (told rest written) engine held SESSION_LIMIT
-taken_none s files rest written engine held is none = record {
+pub taken_none : (n : LoadedView) (rest written : Option (List ℕ)) (engine : Option Progress) (held : List ℕ) → engine ≡ Some (begin_at n) → held ≡ []
+    → IsTaken (begin_at n) (told rest written) (told rest written) engine held SESSION_LIMIT
+taken_none n rest written engine held is none = record {
   taken = [];
   consumed = Consumes-nil rest;
   held_is = none ∙ sym (ap front_of (open_of_open [] refl));
   served = record {
-    to = begin_at s files;
+    to = begin_at n;
     to_is = is;
-    state = refl;
+    loaded = refl;
     replies = [];
-    run = subst (λ (ls : List (List ℕ)). Run s no_tests ls [] no_tests) (sym (whole_of_open [] refl)) (refl, refl);
+    run = subst (λ (ls : List (List ℕ)). Run n no_tests ls [] no_tests) (sym (whole_of_open [] refl)) (refl, refl);
     goes = ap has_quit (whole_of_open [] refl);
     written = Appends-nil written;
   };
   count = omega arith;
 }
 
-module _ (s : StateView) (files : List FileView) (before : Told) (rest mid : Option (List ℕ)) (engine : Option Progress) (held : List ℕ) (room : ℕ)
-    (t : IsTaken (begin_at s files) before (told rest mid) engine held room) where
+module _ (n : LoadedView) (before : Told) (rest mid : Option (List ℕ)) (engine : Option Progress) (held : List ℕ) (room : ℕ)
+    (t : IsTaken (begin_at n) before (told rest mid) engine held room) where
   module _ (left : Option (List ℕ)) (piece : List ℕ) (consumed : Consumes rest left piece) (few : length piece ≤ room) (new : Option (List ℕ)) where
     further : Consumes before.rest left (t.taken ++ piece)
     further = Consumes-trans before.rest rest left t.taken piece t.consumed consumed
@@ -220,8 +219,8 @@ module _ (s : StateView) (files : List FileView) (before : Told) (rest mid : Opt
     within = omega (arith, length-append t.taken piece, t.count)
 
     -- a piece more was taken
-    pub taken_more : (next : Option Progress) (now : List ℕ) (less : ℕ) → AreServed (begin_at s files) (whole_lines_of (t.taken ++ piece)) next before.written new
-        → now ≡ held_of (t.taken ++ piece) → less + length piece ≡ room → IsTaken (begin_at s files) before (told left new) next now less
+    pub taken_more : (next : Option Progress) (now : List ℕ) (less : ℕ) → AreServed (begin_at n) (whole_lines_of (t.taken ++ piece)) next before.written new
+        → now ≡ held_of (t.taken ++ piece) → less + length piece ≡ room → IsTaken (begin_at n) before (told left new) next now less
     taken_more next now less served held_is count = record {
       taken = t.taken ++ piece;
       consumed = further;
@@ -231,21 +230,21 @@ module _ (s : StateView) (files : List FileView) (before : Told) (rest mid : Opt
     }
 
     -- a line of it ended the session
-    pub taken_quit : AreEnded (begin_at s files) (whole_lines_of (t.taken ++ piece)) before.written new → Leaves s before (told left new) Done
-    taken_quit e = quit_leaves s files before left new (t.taken ++ piece) further within e
+    pub taken_quit : AreEnded (begin_at n) (whole_lines_of (t.taken ++ piece)) before.written new → Leaves n before (told left new) Done
+    taken_quit e = quit_leaves n before left new (t.taken ++ piece) further within e
 
     -- memory or the sink gave out
-    pub taken_broken : GoesOn s → (why : Stop) → AreBroken (begin_at s files) (whole_lines_of (t.taken ++ piece)) before.written new → Leaves s before (told left new) (stopped_as why)
-    taken_broken goes stop.Outside b = broken_leaves s files before left new (t.taken ++ piece) further within goes b
-    taken_broken goes stop.Memory b = broken_leaves s files before left new (t.taken ++ piece) further within goes b
+    pub taken_broken : GoesOn n → (why : Stop) → AreBroken (begin_at n) (whole_lines_of (t.taken ++ piece)) before.written new → Leaves n before (told left new) (stopped_as why)
+    taken_broken goes stop.Outside b = broken_leaves n before left new (t.taken ++ piece) further within goes b
+    taken_broken goes stop.Memory b = broken_leaves n before left new (t.taken ++ piece) further within goes b
 
   -- a read failed
-  pub taken_fault : (left : Option (List ℕ)) → Keeps rest left → Leaves s before (told left mid) InputFault
+  pub taken_fault : (left : Option (List ℕ)) → Keeps rest left → Leaves n before (told left mid) InputFault
   taken_fault left keeps =
-      fault_leaves s files before left mid t.taken (Consumes-kept before.rest rest left t.taken t.consumed keeps) (omega (arith, t.count)) engine t.served
+      fault_leaves n before left mid t.taken (Consumes-kept before.rest rest left t.taken t.consumed keeps) (omega (arith, t.count)) engine t.served
 
   -- a read gave nothing
-  pub taken_end : (left : Option (List ℕ)) (count : ℕ) (into : List ℕ) → count ≡ 0 → Consumes rest left (take count into) → IsTaken (begin_at s files) before (told left mid) engine held room
+  pub taken_end : (left : Option (List ℕ)) (count : ℕ) (into : List ℕ) → count ≡ 0 → Consumes rest left (take count into) → IsTaken (begin_at n) before (told left mid) engine held room
   taken_end left count into none consumed = record {
     taken = t.taken;
     consumed = subst (Consumes before.rest left) (append-nil t.taken)
@@ -256,17 +255,17 @@ module _ (s : StateView) (files : List FileView) (before : Told) (rest mid : Opt
   }
 
 -- an engine that wasn't made leaves nothing
-pub nothing_begun : (s : StateView) (files : List FileView) (rest written : Option (List ℕ)) → GoesOn s → Leaves s (told rest written) (told rest written) Memory
-nothing_begun s files rest written goes =
-    let t : IsTaken (begin_at s files) (told rest written) (told rest written) (Some (begin_at s files)) [] SESSION_LIMIT =
-    taken_none s files rest written (Some (begin_at s files)) [] refl refl in
-    taken_broken s files (told rest written) rest written (Some (begin_at s files)) [] SESSION_LIMIT t rest [] (Consumes-nil rest) (omega arith) written goes stop.Memory
-    (memory_behind (begin_at s files) t.taken [] written written (Some (begin_at s files)) t.served)
+pub nothing_begun : (n : LoadedView) (rest written : Option (List ℕ)) → GoesOn n → Leaves n (told rest written) (told rest written) Memory
+nothing_begun n rest written goes =
+    let t : IsTaken (begin_at n) (told rest written) (told rest written) (Some (begin_at n)) [] SESSION_LIMIT =
+    taken_none n rest written (Some (begin_at n)) [] refl refl in
+    taken_broken n (told rest written) rest written (Some (begin_at n)) [] SESSION_LIMIT t rest [] (Consumes-nil rest) (omega arith) written goes stop.Memory
+    (memory_behind (begin_at n) t.taken [] written written (Some (begin_at n)) t.served)
 
 -- as many bytes as the limit allows were taken, and one more
-module _ (s : StateView) (files : List FileView) (before : Told) (rest mid : Option (List ℕ)) (engine : Option Progress) (held : List ℕ)
-    (t : IsTaken (begin_at s files) before (told rest mid) engine held 0) (left : Option (List ℕ)) (piece : List ℕ) (consumed : Consumes rest left piece) (some : 0 < length piece) (new : Option (List ℕ)) where
-  pub past_leaves : (status : Status) → RefusesRest mid new status → Leaves s before (told left new) status
+module _ (n : LoadedView) (before : Told) (rest mid : Option (List ℕ)) (engine : Option Progress) (held : List ℕ)
+    (t : IsTaken (begin_at n) before (told rest mid) engine held 0) (left : Option (List ℕ)) (piece : List ℕ) (consumed : Consumes rest left piece) (some : 0 < length piece) (new : Option (List ℕ)) where
+  pub past_leaves : (status : Status) → RefusesRest mid new status → Leaves n before (told left new) status
   past_leaves status refuses = on status refuses
     where
       full : length t.taken ≡ SESSION_LIMIT
@@ -275,9 +274,9 @@ module _ (s : StateView) (files : List FileView) (before : Told) (rest mid : Opt
       more : Consumes before.rest left (t.taken ++ piece)
       more = Consumes-trans before.rest rest left t.taken piece t.consumed consumed
 
-      on : (status : Status) → RefusesRest mid new status → Leaves s before (told left new) status
-      on Limit said = limit_leaves s files before left mid new t.taken piece full some more engine t.served said
-      on OutputFault begun = limit_broken s files before left mid new t.taken piece full some more engine t.served begun
+      on : (status : Status) → RefusesRest mid new status → Leaves n before (told left new) status
+      on Limit said = limit_leaves n before left mid new t.taken piece full some more engine t.served said
+      on OutputFault begun = limit_broken n before left mid new t.taken piece full some more engine t.served begun
       on Done refuses = absurd refuses
       on Config refuses = absurd refuses
       on Usage refuses = absurd refuses

@@ -1,5 +1,5 @@
 -- What is loaded is a valid network, and has a state.
-use Rattle.std.proofs.Common.{◌≡◌, ℕ, ◌≤◌, Bool, true, false, cond, nat_le, List, [], ◌∷◌, length, All, Option, Some, None, Result, Ok, Err, refl, ap, ◌∙◌, subst, arith}
+use Rattle.std.proofs.Common.{◌≡◌, ℕ, ◌≤◌, Bool, true, false, cond, nat_le, List, [], ◌∷◌, length, All, Option, Some, None, Result, Ok, Err, map, refl, ap, ◌∙◌, subst, arith}
 use Rattle.std.specs.Option.{option_map_or}
 use Rattle.std.proofs.lemmas.Bool.{leb-true}
 use Rattle.std.proofs.lemmas.List.Elements.{All-cons}
@@ -17,7 +17,9 @@ use Rattle.nc_types.specs.declared.TheConstants.{ROUTER_LIMIT, LINE_LIMIT}
 use Rattle.nc_session.specs.declared.TheConstants.{FILE_LIMIT}
 use Rattle.nc_session.specs.declared.refusal.Quantity.TheVariants.{Routers, Bytes, Lines}
 use Rattle.nc_session.specs.Words.{RequestView, request_of}
-use Rattle.nc_session.specs.Load.{Refusal, WrongWords, TooMany, Unsettled, load, load_result, load_lines, load_content, load_each, and_then, load_judged, load_joined, load_names, load_settled, load_request}
+use Rattle.nc_report.specs.Views.{FileView}
+use Rattle.nc_session.specs.File.{LoadedView}
+use Rattle.nc_session.specs.Load.{Refusal, WrongWords, TooMany, Unsettled, load, load_result, load_lines, load_content, load_each, and_then, load_judged, load_joined, load_names, load_settled, load_request, file_of, with_files}
 
 -- ---- joining
 
@@ -118,11 +120,19 @@ module _ (formed : (lines : List (List ℕ)) (c : ConfigView) → configuration 
   unfolding load_names
   request_settled request files = names_settled request.files files (nat_le (length request.files) ROUTER_LIMIT) refl
 
-  by_request : (asked : Option RequestView) (files : List Named) (state : StateView) → option_map_or (λ request. load_request request files) asked (Err WrongWords) ≡ Ok state → IsState state
+  by_files : (files : List FileView) (settles : Result StateView Refusal) (loaded : LoadedView) → ((state : StateView) → settles ≡ Ok state → IsState state)
+      → with_files files settles ≡ Ok loaded → IsState loaded.state
+  by_files files (Err refusal) loaded holds e = absurd cc
+  by_files files (Ok state) loaded holds e =
+      let same : ◌≡◌ {A = LoadedView} (record { state = state; files = files }) loaded = cc in
+      subst IsState (ap (λ (l : LoadedView). l.state) same) (holds state refl)
+
+  by_request : (asked : Option RequestView) (files : List Named) (loaded : LoadedView) → option_map_or (λ request. load_request request files) asked (Err WrongWords) ≡ Ok loaded → IsState loaded.state
   unfolding IsSettled
-  by_request None files state e = absurd cc
-  by_request (Some request) files state e = request_settled request files request.rounds state e
+  by_request None files loaded e = absurd cc
+  by_request (Some request) files loaded e =
+      by_files (map (file_of files) request.files) (load_settled request.rounds (load_names request.files files)) loaded (λ state. request_settled request files request.rounds state) e
 
   -- what the words and the files load is a state
-  pub loaded_state : (words : List (List ℕ)) (files : List Named) (state : StateView) → load words files ≡ Ok state → IsState state
-  loaded_state words files state e = by_request (request_of words) files state e
+  pub loaded_state : (words : List (List ℕ)) (files : List Named) (loaded : LoadedView) → load words files ≡ Ok loaded → IsState loaded.state
+  loaded_state words files loaded e = by_request (request_of words) files loaded e

@@ -14,8 +14,8 @@ use Rattle.nc_fact.specs.declared.fact.Fact.{Fact}
 use Rattle.nc_rules.specs.Rules.{flow_of}
 use Rattle.nc_session.specs.declared.TheConstants.{FACT_LIMIT}
 use Rattle.nc_session.specs.Session.{KeptTest, live_test, asked_in, live_in}
-use Rattle.nc_session.specs.Texts.{Sheet}
-use Rattle.nc_session.specs.Sheets.{sheets_from}
+use Rattle.nc_report.specs.Texts.{Sheet}
+use Rattle.nc_report.specs.Sheets.{sheets_from}
 use Rattle.nc_session.specs.Work.{IsMarked}
 use Rattle.nc_session.proofs.Closing.{closure-nil, closure-more, nodes-extended, nodes-append}
 

@@ -5,7 +5,7 @@ use Rattle.nc_outside.specs.Named.{Named, content_of}
 use Rattle.nc_outside.specs.Counts.{Entries, entries_after}
 use Rattle.nc_lines.specs.WholeLines.{all_but_last, whole_lines_of}
 use Rattle.nc_types.specs.Config.{ConfigView}
-use Rattle.nc_tables.specs.State.{StateView}
+use Rattle.nc_session.specs.File.{LoadedView}
 use Rattle.nc_session.specs.declared.TheConstants.{FILE_LIMIT, SESSION_LIMIT}
 use Rattle.nc_session.specs.declared.status.Status.{Status}
 use Rattle.nc_session.specs.declared.status.Status.TheVariants.{Done, Config, Usage, Unstable, InputFault, OutputFault, FileFault, Memory, Limit}
@@ -72,23 +72,23 @@ abbrev pub files_of : List (List ℕ) → List (List ℕ)
 files_of words = option_map_or (λ request. request.files) (request_of words) []
 
 -- the status with which a run ends where nothing fails
-abbrev pub status_of : Result StateView Refusal → List ℕ → Status
-status_of (Ok state) session = if is_within session then Done else Limit
+abbrev pub status_of : Result LoadedView Refusal → List ℕ → Status
+status_of (Ok loaded) session = if is_within session then Done else Limit
 status_of (Err refusal) session = refusal_status refusal
 
 -- the statuses that come of a load where nothing failed but the source
-abbrev pub Settles : Result StateView Refusal → Status → Type 0
-Settles (Ok state) status = (status ≡ Done) ⊎ ((status ≡ Limit) ⊎ (status ≡ InputFault))
+abbrev pub Settles : Result LoadedView Refusal → Status → Type 0
+Settles (Ok loaded) status = (status ≡ Done) ⊎ ((status ≡ Limit) ⊎ (status ≡ InputFault))
 Settles (Err refusal) status = status ≡ refusal_status refusal
 
 -- a limit is passed: by the files or what they configure, or by the session
-abbrev pub IsOverLimit : Result StateView Refusal → List ℕ → Type 0
-IsOverLimit (Ok state) session = is_within session ≡ false
+abbrev pub IsOverLimit : Result LoadedView Refusal → List ℕ → Type 0
+IsOverLimit (Ok loaded) session = is_within session ≡ false
 IsOverLimit (Err (TooMany quantity)) session = Unit {0}
 IsOverLimit (Err refusal) session = ⊥
 
 -- the routing of the files doesn't settle
-abbrev pub IsUnsettled : Result StateView Refusal → Type 0
+abbrev pub IsUnsettled : Result LoadedView Refusal → Type 0
 IsUnsettled (Err (Unsettled rounds)) = Unit {0}
 IsUnsettled loaded = ⊥
 
@@ -140,10 +140,10 @@ pub record IsOpenSession (taken : List ℕ) : Type 0 where
   pub goes : has_quit (whole_lines_of taken) ≡ false
 
 -- the source failed behind bytes of a session: the whole lines among them were replied over the state that was loaded
-abbrev pub AnswersTaken : Result StateView Refusal → Option (List ℕ) → Option (List ℕ) → Option (List ℕ) → Option (List ℕ) → Type 0
-AnswersTaken loaded rest left old new = IsOkAnd loaded (λ state. Takes rest left (IsCutShort state old new))
+abbrev pub AnswersTaken : Result LoadedView Refusal → Option (List ℕ) → Option (List ℕ) → Option (List ℕ) → Option (List ℕ) → Type 0
+AnswersTaken loaded rest left old new = IsOkAnd loaded (λ n. Takes rest left (IsCutShort n old new))
 
 -- the bytes are a beginning of what would have been written
-abbrev pub IsBeginning : Result StateView Refusal → List ℕ → List ℕ → Type 0
+abbrev pub IsBeginning : Result LoadedView Refusal → List ℕ → List ℕ → Type 0
 IsBeginning loaded session bytes =
     (bytes ≡ []) ⊎ ((status : Status) × (more : List ℕ) × Concludes loaded session status (bytes ++ more))

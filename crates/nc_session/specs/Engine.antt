@@ -11,19 +11,18 @@ use Rattle.nc_command.specs.Command.{Line, Asks, command_of}
 use Rattle.nc_session.specs.declared.TheConstants.{TEST_LIMIT, FACT_LIMIT}
 use Rattle.nc_session.specs.declared.engine.Flow.{Flow}
 use Rattle.nc_session.specs.declared.engine.Flow.TheVariants.{Go, Stop}
-use Rattle.nc_session.specs.File.{FileView}
+use Rattle.nc_session.specs.File.{LoadedView}
 use Rattle.nc_session.specs.Session.{KeptTest, State, no_tests, Step, asked_in, ends}
 
--- an engine that isn't spent: the state of its network, the routers' files, what is kept of the session, and how many facts were inferred
+-- an engine that isn't spent: its network, what is kept of the session, and how many facts were inferred
 pub record Progress : Type 0 where
-  pub state : StateView
-  pub files : List FileView
+  pub loaded : LoadedView
   pub session : State
   pub asked : ℕ
 
 -- an engine that begins: no test was accepted, and no fact was inferred
-abbrev pub begin_at : StateView → List FileView → Progress
-begin_at s files = record { state = s; files = files; session = no_tests; asked = 0 }
+abbrev pub begin_at : LoadedView → Progress
+begin_at n = record { loaded = n; session = no_tests; asked = 0 }
 
 -- whether the session goes on behind a line
 abbrev pub flow_behind : Line → Flow
@@ -48,14 +47,13 @@ module _ (s : StateView) (tests : List KeptTest) where
   Infers [] before now = now ≡ before
   Infers (fact ∷ facts) before now = InfersAll (fact ∷ facts) before now
 
--- a line is answered: the reply goes to the end of the bytes; state and files stay
+-- a line is answered: the reply goes to the end of the bytes; the network stays
 pub record Answered (old new : Progress) (line before after : List ℕ) : Type 0 where
   pub reply : List ℕ
-  pub step : Step old.state old.session line reply new.session
+  pub step : Step old.loaded old.session line reply new.session
   pub text : after ≡ before ++ reply
-  pub state : new.state ≡ old.state
-  pub files : new.files ≡ old.files
-  pub infers : Infers old.state old.session.tests (asked_for old.state old.session.tests (command_of line)) old.asked new.asked
+  pub loaded : new.loaded ≡ old.loaded
+  pub infers : Infers old.loaded.state old.session.tests (asked_for old.loaded.state old.session.tests (command_of line)) old.asked new.asked
 
 -- the same of engines of which neither is spent
 pub record Turns (old new : Option Progress) (line before after : List ℕ) : Type 0 where

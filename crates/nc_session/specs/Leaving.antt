@@ -3,7 +3,7 @@ use Rattle.std.specs.Prelude.{◌≡◌, ◌⊎◌, ℕ, ◌≤◌, true, false,
 use Rattle.std.specs.Io.KnownBytes.{IsAtEnd}
 use Rattle.nc_outside.specs.Counts.{Faults, Rose}
 use Rattle.nc_lines.specs.WholeLines.{whole_lines_of}
-use Rattle.nc_tables.specs.State.{StateView}
+use Rattle.nc_session.specs.File.{LoadedView}
 use Rattle.nc_session.specs.declared.TheConstants.{SESSION_LIMIT}
 use Rattle.nc_session.specs.declared.reading.Stop.{Stop}
 use Rattle.nc_session.specs.declared.reading.Stop.TheVariants as stop
@@ -40,30 +40,30 @@ Takes (Some before) None P = ⊥
 Takes (Some before) (Some now) P = (taken : List ℕ) × (before ≡ taken ++ now) × P taken
 
 -- the source failed behind bytes that stay within the limit and have no line that ends the session: their whole lines were replied
-pub record IsCutShort (s : StateView) (old new : Option (List ℕ)) (taken : List ℕ) : Type 0 where
+pub record IsCutShort (n : LoadedView) (old new : Option (List ℕ)) (taken : List ℕ) : Type 0 where
   pub few : length taken ≤ SESSION_LIMIT
   pub goes : has_quit (whole_lines_of taken) ≡ false
-  pub replied : Writes old new (λ bytes. AreReplies s (whole_lines_of taken) bytes)
+  pub replied : Writes old new (λ bytes. AreReplies n (whole_lines_of taken) bytes)
 
 -- the bytes are a beginning of what the session is answered
-abbrev pub Begins : StateView → List ℕ → List ℕ → Type 0
-Begins s session bytes = (status : Status) × (more : List ℕ) × Serves s session status (bytes ++ more)
+abbrev pub Begins : LoadedView → List ℕ → List ℕ → Type 0
+Begins n session bytes = (status : Status) × (more : List ℕ) × Serves n session status (bytes ++ more)
 
 -- what was written is a beginning of what the session is answered, where the objects tell it
-abbrev pub IsBegun : StateView → Told → Told → Type 0
-IsBegun s before now = IfSome before.rest (λ session. Writes before.written now.written (λ bytes. Begins s session bytes))
+abbrev pub IsBegun : LoadedView → Told → Told → Type 0
+IsBegun n before now = IfSome before.rest (λ session. Writes before.written now.written (λ bytes. Begins n session bytes))
 
 -- what is left by each status
-abbrev pub Leaves : StateView → Told → Told → Status → Type 0
-Leaves s before now Done =
-    IfSome before.rest (λ session. (is_within session ≡ true) × Writes before.written now.written (λ bytes. Serves s session Done bytes))
+abbrev pub Leaves : LoadedView → Told → Told → Status → Type 0
+Leaves n before now Done =
+    IfSome before.rest (λ session. (is_within session ≡ true) × Writes before.written now.written (λ bytes. Serves n session Done bytes))
     × (IsAtEnd now.rest ⊎ TookQuit before.rest now.rest)
-Leaves s before now Limit =
-    IfSome before.rest (λ session. (is_within session ≡ false) × Writes before.written now.written (λ bytes. Serves s session Limit bytes))
-Leaves s before now InputFault = Takes before.rest now.rest (IsCutShort s before.written now.written)
-Leaves s before now OutputFault = IsBegun s before now
-Leaves s before now Memory = IsBegun s before now
-Leaves s before now status = ⊥
+Leaves n before now Limit =
+    IfSome before.rest (λ session. (is_within session ≡ false) × Writes before.written now.written (λ bytes. Serves n session Limit bytes))
+Leaves n before now InputFault = Takes before.rest now.rest (IsCutShort n before.written now.written)
+Leaves n before now OutputFault = IsBegun n before now
+Leaves n before now Memory = IsBegun n before now
+Leaves n before now status = ⊥
 
 -- whose count rose, by each status: that of the source or of the sink where it failed, else none
 abbrev pub FailsAs : Failures → Failures → Status → Type 0
@@ -72,7 +72,7 @@ FailsAs before now OutputFault = (now.source ≡ before.source) × Rose before.s
 FailsAs before now status = (now.source ≡ before.source) × (now.sink ≡ before.sink)
 
 -- from wherever a session came, it can go on: further lines are replied
-abbrev pub GoesOn : StateView → Type 0
-GoesOn s =
-    (lines more : List (List ℕ)) (replies : List ℕ) (last : State) → Run s no_tests lines replies last
-    → (rest : List ℕ) × (end : State) × Run s last more rest end
+abbrev pub GoesOn : LoadedView → Type 0
+GoesOn n =
+    (lines more : List (List ℕ)) (replies : List ℕ) (last : State) → Run n no_tests lines replies last
+    → (rest : List ℕ) × (end : State) × Run n last more rest end

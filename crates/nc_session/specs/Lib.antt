@@ -1,7 +1,6 @@
-pub mod Texts
+pub mod File
 pub mod Marks
 pub mod Session
-pub mod File
 pub mod Words
 pub mod CaseWords
 pub mod Load
@@ -16,5 +15,3 @@ pub mod Loading
 pub mod Ending
 pub mod Engine
 pub mod Work
-pub mod Sheets
-pub mod Shown

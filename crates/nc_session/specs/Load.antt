@@ -1,7 +1,8 @@
--- What comes of the words and the files: the state of the network that they configure, or the first reason why there is none.
+-- What comes of the words and the files: the network that they configure, with the state in which it settles and its files,
+-- or the first reason why there is none.
 -- The words are judged first, then how many files they name; then each file in its turn: that it is there, its length, the
 -- number of its lines, its configuration; then all configurations together; and last whether the routing settles.
-use Rattle.std.specs.Prelude.{ℕ, nat_le, List, [], ◌∷◌, length, slice_index_or, Option, Some, None, unwrap_or, Result, Ok, Err, if◌then◌else◌}
+use Rattle.std.specs.Prelude.{ℕ, nat_le, List, [], ◌∷◌, length, map, slice_index_or, Option, Some, None, unwrap_or, Result, Ok, Err, if◌then◌else◌}
 use Rattle.std.specs.Option.{option_map_or}
 use Rattle.nc_types.specs.Config.{ConfigView}
 use Rattle.nc_types.specs.Joining.{Clash}
@@ -22,7 +23,8 @@ use Rattle.nc_session.specs.declared.refusal.Quantity.{Quantity}
 use Rattle.nc_session.specs.declared.refusal.Quantity.TheVariants.{Routers, Bytes, Lines, Prefixes, Neighbors}
 use Rattle.nc_session.specs.declared.refusal.Reason.{Reason}
 use Rattle.nc_session.specs.declared.refusal.Reason.TheVariants.{Syntax, Unsupported, NoName, TwoProcesses, SameName, Overlap, SameAddress, Undefined}
-use Rattle.nc_session.specs.File.{FileView}
+use Rattle.nc_report.specs.Views.{FileView}
+use Rattle.nc_session.specs.File.{LoadedView}
 use Rattle.nc_session.specs.Words.{RequestView, request_of}
 
 -- why the words and the files give no network
@@ -117,10 +119,15 @@ abbrev pub load_settled : ℕ → Result (List ConfigView) Refusal → Result St
 load_settled rounds (Ok routers) = option_map_or Ok (settled rounds routers) (Err (Unsettled rounds))
 load_settled rounds (Err refusal) = Err refusal
 
+-- a state with the files of its routers
+abbrev pub with_files : List FileView → Result StateView Refusal → Result LoadedView Refusal
+with_files files (Ok state) = Ok (record { state = state; files = files })
+with_files files (Err refusal) = Err refusal
+
 -- what comes of a request over files
-abbrev pub load_request : RequestView → List Named → Result StateView Refusal
-load_request request files = load_settled request.rounds (load_names request.files files)
+abbrev pub load_request : RequestView → List Named → Result LoadedView Refusal
+load_request request files = with_files (map (file_of files) request.files) (load_settled request.rounds (load_names request.files files))
 
 -- what comes of the words and the files
-abbrev pub load : List (List ℕ) → List Named → Result StateView Refusal
+abbrev pub load : List (List ℕ) → List Named → Result LoadedView Refusal
 load words files = option_map_or (λ request. load_request request files) (request_of words) (Err WrongWords)

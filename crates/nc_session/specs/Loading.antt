@@ -8,6 +8,7 @@ use Rattle.nc_network.specs.Judged.{judged}
 use Rattle.nc_network.specs.declared.fault.JoinFault.{JoinFault}
 use Rattle.nc_network.specs.declared.fault.JoinFault.TheVariants as joins
 use Rattle.nc_tables.specs.State.{StateView}
+use Rattle.nc_stable.specs.declared.settled_network.SettledNetwork.{SettledNetwork}
 use Rattle.nc_types.specs.declared.TheConstants.{LINE_LIMIT}
 use Rattle.nc_session.specs.declared.reading.Stop.{Stop}
 use Rattle.nc_session.specs.declared.reading.Stop.TheVariants as stop
@@ -18,7 +19,7 @@ use Rattle.nc_session.specs.declared.refusal.LoadFault.{LoadFault}
 use Rattle.nc_session.specs.declared.refusal.LoadFault.TheVariants.{Outside, Over, Bad, Memory}
 use Rattle.nc_session.specs.declared.refusal.LoadFault.TheVariants as faults
 use Rattle.nc_session.specs.declared.refusal.Reason.TheVariants.{SameName, Overlap, SameAddress, Undefined}
-use Rattle.nc_session.specs.File.{FileView}
+use Rattle.nc_report.specs.Views.{FileView}
 use Rattle.nc_session.specs.Load.{Refusal, TooMany, Missing, Faulty, Unsettled, quantity_of, load_judged, load_settled, file_named, file_of}
 
 abbrev pub load_stop : Stop → LoadFault
@@ -106,12 +107,12 @@ joining_fault (joins.Limit which) = Over (quantity_of which)
 joining_fault joins.Memory = Memory
 
 -- what was returned is the outcome of configurations together: the state in which their network settles within so many rounds
-abbrev pub IsJoined : List (List ℕ) → ℕ → Result StateView LoadFault → List ConfigView → Type 0
-IsJoined names rounds (Ok state) routers =
-    (load_settled rounds (load_judged names routers (judged routers)) ≡ Ok state) × (state.routers ≡ routers)
+abbrev pub IsJoined : List (List ℕ) → ℕ → Result SettledNetwork LoadFault → List ConfigView → Type 0
+IsJoined names rounds (Ok settled) routers =
+    (load_settled rounds (load_judged names routers (judged routers)) ≡ Ok settled.state) × (settled.state.routers ≡ routers)
 IsJoined names rounds (Err fault) routers = IsFault names fault (load_settled rounds (load_judged names routers (judged routers)))
 
 -- what was returned is the outcome of all files together: the state of their network
 abbrev pub IsLoad : List (List ℕ) → Result Loaded LoadFault → Result StateView Refusal → Type 0
-IsLoad names (Ok loaded) outcome = outcome ≡ Ok loaded.state
+IsLoad names (Ok loaded) outcome = outcome ≡ Ok loaded.settled.state
 IsLoad names (Err fault) outcome = IsFault names fault outcome

@@ -7,7 +7,7 @@ use Rattle.nc_marks.specs.Marks.{IsMark}
 use Rattle.nc_marks.specs.declared.mark.Mark.{Mark}
 use Rattle.nc_marks.specs.declared.mark.Mark.TheVariants.{Outside}
 use Rattle.nc_fact.specs.declared.fact.Fact.{Fact}
-use Rattle.nc_session.specs.Texts.{Sheet, letter, report_of}
+use Rattle.nc_report.specs.Texts.{Sheet, letter, report_of}
 
 module _ (g : Flow Fact) (tested : List Fact) (routers : List ConfigView) where
   -- the marks of the lines of a router's file, each by its owner
@@ -22,9 +22,17 @@ module _ (g : Flow Fact) (tested : List Fact) (routers : List ConfigView) where
     pub are_marks : AreLineMarks router c.line_count marks
     pub letters : s.letters ≡ map letter marks
 
-  -- the report on all routers, in order
-  pub record IsReport (report : List ℕ) : Type 0 where
-    pub sheets : List Sheet
+  -- the sheets of all routers, in order
+  pub record AreSheets (sheets : List Sheet) : Type 0 where
     pub count : length sheets ≡ length routers
     pub each : (router : ℕ) (c : ConfigView) (s : Sheet) → slice_get routers router ≡ Some c → slice_get sheets router ≡ Some s → IsSheet router c s
-    pub text : report ≡ report_of sheets
+
+  -- a text is a form of them
+  pub record IsFormOf (form : List Sheet → List ℕ) (text : List ℕ) : Type 0 where
+    pub sheets : List Sheet
+    pub are : AreSheets sheets
+    pub text_is : text ≡ form sheets
+
+  -- the report of a test
+  abbrev pub IsReport : List ℕ → Type 0
+  IsReport report = IsFormOf report_of report

@@ -4,7 +4,7 @@ use Rattle.std.specs.List.{list_any}
 use Rattle.nc_outside.specs.Named.{Named}
 use Rattle.nc_lines.specs.Lines.{lines_of}
 use Rattle.nc_lines.specs.WholeLines.{whole_lines_of}
-use Rattle.nc_tables.specs.State.{StateView}
+use Rattle.nc_session.specs.File.{LoadedView}
 use Rattle.nc_session.specs.declared.TheConstants.{SESSION_LIMIT}
 use Rattle.nc_session.specs.declared.status.Status.{Status}
 use Rattle.nc_session.specs.declared.status.Status.TheVariants.{Done, Limit}
@@ -31,19 +31,19 @@ abbrev pub served_lines : List ℕ → List (List ℕ)
 served_lines session = if nat_le (length session) SESSION_LIMIT then lines_of session else lines_within session
 
 -- the replies to a session, and a refusal behind them where it isn't within its limit
-abbrev pub ServesWithin : StateView → List ℕ → Bool → Status → List ℕ → Type 0
-ServesWithin s session true status bytes = (status ≡ Done) × AreReplies s (served_lines session) bytes
-ServesWithin s session false status bytes =
-    (status ≡ Limit) × (replies : List ℕ) × AreReplies s (served_lines session) replies × (bytes ≡ replies ++ long_session_text)
+abbrev pub ServesWithin : LoadedView → List ℕ → Bool → Status → List ℕ → Type 0
+ServesWithin n session true status bytes = (status ≡ Done) × AreReplies n (served_lines session) bytes
+ServesWithin n session false status bytes =
+    (status ≡ Limit) × (replies : List ℕ) × AreReplies n (served_lines session) replies × (bytes ≡ replies ++ long_session_text)
 
-abbrev pub Serves : StateView → List ℕ → Status → List ℕ → Type 0
-Serves s session status bytes = ServesWithin s session (is_within session) status bytes
+abbrev pub Serves : LoadedView → List ℕ → Status → List ℕ → Type 0
+Serves n session status bytes = ServesWithin n session (is_within session) status bytes
 
 -- ---- a run
 
 -- what is written after loading, and the status
-abbrev pub Concludes : Result StateView Refusal → List ℕ → Status → List ℕ → Type 0
-Concludes (Ok state) session status bytes = Serves state session status bytes
+abbrev pub Concludes : Result LoadedView Refusal → List ℕ → Status → List ℕ → Type 0
+Concludes (Ok loaded) session status bytes = Serves loaded session status bytes
 Concludes (Err refusal) session status bytes = (status ≡ refusal_status refusal) × (bytes ≡ refusal_text refusal)
 
 -- the output of the words, the files by name and the session

@@ -7,7 +7,7 @@ use Rattle.nc_session.specs.declared.refusal.Reason.{Reason}
 use Rattle.nc_session.specs.declared.refusal.Reason.TheVariants.{Syntax, Unsupported, NoName, TwoProcesses, SameName, Overlap, SameAddress, Undefined}
 use Rattle.nc_session.specs.declared.status.Status.{Status}
 use Rattle.nc_session.specs.declared.status.Status.TheVariants.{Done, Config, Usage, Unstable, InputFault, OutputFault, FileFault, Memory, Limit}
-use Rattle.nc_session.specs.Texts.{line_of}
+use Rattle.nc_report.specs.Texts.{line_of}
 use Rattle.nc_session.specs.Load.{Refusal, WrongWords, TooMany, Missing, Faulty, Unsettled}
 
 -- the number that a program ends with

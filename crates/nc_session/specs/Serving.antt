@@ -35,9 +35,9 @@ module _ (from : Progress) (lines : List (List ℕ)) where
   pub record AreServed (now : Option Progress) (old new : Option (List ℕ)) : Type 0 where
     pub to : Progress
     pub to_is : now ≡ Some to
-    pub state : to.state ≡ from.state
+    pub loaded : to.loaded ≡ from.loaded
     pub replies : List ℕ
-    pub run : Run from.state from.session lines replies to.session
+    pub run : Run from.loaded from.session lines replies to.session
     pub goes : has_quit lines ≡ false
     pub written : Appends old new replies
 
@@ -45,9 +45,9 @@ module _ (from : Progress) (lines : List (List ℕ)) where
   pub record ArePending (now : Option Progress) (pending : List ℕ) (old new : Option (List ℕ)) : Type 0 where
     pub to : Progress
     pub to_is : now ≡ Some to
-    pub state : to.state ≡ from.state
+    pub loaded : to.loaded ≡ from.loaded
     pub sent : List ℕ
-    pub run : Run from.state from.session lines (sent ++ pending) to.session
+    pub run : Run from.loaded from.session lines (sent ++ pending) to.session
     pub goes : has_quit lines ≡ false
     pub written : Appends old new sent
 
@@ -55,7 +55,7 @@ module _ (from : Progress) (lines : List (List ℕ)) where
   pub record AreEnded (old new : Option (List ℕ)) : Type 0 where
     pub replies : List ℕ
     pub last : State
-    pub run : Run from.state from.session (until_quit lines) replies last
+    pub run : Run from.loaded from.session (until_quit lines) replies last
     pub quits : has_quit lines ≡ true
     pub written : Appends old new replies
 
@@ -66,7 +66,7 @@ module _ (from : Progress) (lines : List (List ℕ)) where
     pub parts : until_quit lines ≡ answered ++ others
     pub replies : List ℕ
     pub last : State
-    pub run : Run from.state from.session answered replies last
+    pub run : Run from.loaded from.session answered replies last
     pub begun : AppendsFront old new replies
 
   -- how lines are served
@@ -79,7 +79,7 @@ module _ (from : Progress) (lines : List (List ℕ)) where
   pub record AreAnswered (old new : Option (List ℕ)) : Type 0 where
     pub replies : List ℕ
     pub last : State
-    pub run : Run from.state from.session (until_quit lines) replies last
+    pub run : Run from.loaded from.session (until_quit lines) replies last
     pub written : Appends old new replies
 
 -- how one line more is answered, while replies are pending: its reply goes to their end, or it ends the session and none is added

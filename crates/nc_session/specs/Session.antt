@@ -1,5 +1,6 @@
 -- A session: what a line of it is replied, and what is kept.
 use Rattle.std.specs.Prelude.{◌≡◌, ◌⊎◌, ℕ, Bool, true, false, nat_lt, List, [], ◌∷◌, ◌++◌, length, Option, Some, None, is_some, if◌then◌else◌, codes}
+use Rattle.std.specs.Fmt.{decimal}
 use Rattle.std.specs.List.{flat_map}
 use Rattle.nc_types.specs.Network.{router_named, owner_at}
 use Rattle.nc_types.specs.declared.command.TestCommand.{TestCommand}
@@ -9,11 +10,12 @@ use Rattle.nc_tables.specs.State.{StateView}
 use Rattle.nc_fact.specs.declared.fact.Fact.{Fact}
 use Rattle.nc_fact.specs.Tested.{tested_facts}
 use Rattle.nc_rules.specs.Rules.{flow_of}
-use Rattle.nc_command.specs.declared.command.Command.TheVariants.{Test, Quit}
+use Rattle.nc_command.specs.declared.command.Command.TheVariants.{Test, Show, Lcov, Json, Quit}
 use Rattle.nc_command.specs.Command.{Line, Passed, TooLong, Unread, Asks, command_of, text_of}
 use Rattle.nc_session.specs.declared.TheConstants.{TEST_LIMIT, FACT_LIMIT}
-use Rattle.nc_session.specs.Texts.{line_of, accepted_of}
-use Rattle.nc_session.specs.Marks.{IsReport}
+use Rattle.nc_report.specs.Texts.{Sheet, line_of, sheet_in, show_of, lcov_of, json_of}
+use Rattle.nc_session.specs.File.{LoadedView, file_in}
+use Rattle.nc_session.specs.Marks.{IsFormOf, IsReport}
 
 -- the name of the router that a test is of
 abbrev pub router_of : TestCommand → List ℕ
@@ -52,6 +54,14 @@ live_in tests = flat_map (λ t. if t.live then t.facts else []) tests
 -- a reply of one line that changes nothing
 abbrev pub Refuses : State → List ℕ → List ℕ → State → Type 0
 Refuses old text reply new = (reply ≡ line_of text) × (new ≡ old)
+
+-- the refusal of a router that isn't there
+abbrev pub unknown_of : List ℕ → List ℕ
+unknown_of name = codes "refused router " ++ name
+
+-- the first line of a test's reply: its number, and how many facts were asked
+abbrev pub accepted_of : ℕ → ℕ → List ℕ
+accepted_of number facts = line_of (codes "test " ++ (decimal number ++ (codes " facts " ++ decimal facts)))
 
 module _ (s : StateView) where
   -- the reply to a test that makes these tests: its number, how many facts were asked, and the report
@@ -95,7 +105,21 @@ module _ (s : StateView) where
   -- a test by the number of its router, where one has the name
   abbrev pub Named : Option ℕ → State → TestCommand → List ℕ → State → Type 0
   Named (Some router) old test reply new = Lined (has_line router test) old test reply new
-  Named None old test reply new = Refuses old (codes "refused router " ++ router_of test) reply new
+  Named None old test reply new = Refuses old (unknown_of (router_of test)) reply new
+
+module _ (n : LoadedView) where
+  -- a form of the marks for the live tests; nothing changes
+  abbrev pub Tells : (List Sheet → List ℕ) → State → List ℕ → State → Type 0
+  Tells form old reply new = IsFormOf (flow_of n.state) (live_in old.tests) n.state.routers form reply × (new ≡ old)
+
+  -- the listing of the file of a router
+  abbrev pub listing_at : ℕ → List Sheet → List ℕ
+  listing_at router sheets = show_of (sheet_in sheets router).letters (file_in n.files router).lines
+
+  -- a listing by the number of the router, where one has the name
+  abbrev pub Shows : Option ℕ → State → List ℕ → List ℕ → State → Type 0
+  Shows (Some router) old name reply new = Tells (listing_at router) old reply new
+  Shows None old name reply new = Refuses old (unknown_of name) reply new
 
   -- what a line is replied, and what is kept
   abbrev pub Answers : State → Line → List ℕ → State → Type 0
@@ -103,7 +127,10 @@ module _ (s : StateView) where
   Answers old TooLong reply new = Refuses old (codes "refused long") reply new
   Answers old Unread reply new = Refuses old (codes "refused syntax") reply new
   Answers old (Asks Quit) reply new = (reply ≡ []) × (new ≡ old)
-  Answers old (Asks (Test test)) reply new = Named (router_named s.routers (router_of test)) old test reply new
+  Answers old (Asks (Show name)) reply new = Shows (router_named n.state.routers name) old name reply new
+  Answers old (Asks Lcov) reply new = Tells (λ sheets. lcov_of sheets n.files) old reply new
+  Answers old (Asks Json) reply new = Tells json_of old reply new
+  Answers old (Asks (Test test)) reply new = Named n.state (router_named n.state.routers (router_of test)) old test reply new
 
   -- one line of the session
   abbrev pub Step : State → List ℕ → List ℕ → State → Type 0
@@ -131,6 +158,6 @@ until_quit [] = []
 until_quit (line ∷ lines) = if is_quit line then [] else line ∷ until_quit lines
 
 -- the replies to lines in order, up to the end of the session, from no test on
-pub record AreReplies (s : StateView) (lines : List (List ℕ)) (replies : List ℕ) : Type 0 where
+pub record AreReplies (n : LoadedView) (lines : List (List ℕ)) (replies : List ℕ) : Type 0 where
   pub last : State
-  pub run : Run s no_tests (until_quit lines) replies last
+  pub run : Run n no_tests (until_quit lines) replies last

@@ -17,9 +17,11 @@ use Rattle.nc_command.specs.Command.{Asks, text_of}
 use Rattle.nc_session.specs.declared.TheConstants.{TEST_LIMIT, FACT_LIMIT}
 use Rattle.nc_session.specs.declared.work.Work.{Work}
 use Rattle.nc_session.specs.declared.work.KeptTest.{KeptTest as Made}
-use Rattle.nc_session.specs.Session.{KeptTest, State, live_test, asked_in, live_in, router_of, has_line, IsReply, Counts, Tests, Lined, Named}
-use Rattle.nc_session.specs.Sheets.{sheets_from}
-use Rattle.nc_session.specs.File.{FileView}
+use Rattle.nc_session.specs.Session.{KeptTest, State, live_test, asked_in, live_in, router_of, has_line, IsReply, Counts, Tests, Lined, Named, Tells, Shows}
+use Rattle.nc_report.specs.Texts.{Sheet}
+use Rattle.nc_report.specs.Sheets.{sheets_from}
+use Rattle.nc_report.specs.Views.{FileView}
+use Rattle.nc_session.specs.File.{LoadedView}
 use Rattle.nc_session.specs.Engine.{Progress, Infers, asked_for}
 
 -- the tests that it keeps
@@ -29,10 +31,13 @@ test_view t = record { facts = t.facts.items; live = t.live }
 abbrev pub tests_of : Work → List KeptTest
 tests_of w = map test_view w.tests.items
 
+-- the network, with these files
+abbrev pub loaded_of : List FileView → Work → LoadedView
+loaded_of files w = record { state = state_of w.rules; files = files }
+
 -- what an engine of these files has with it
 abbrev pub progress_of : List FileView → Work → Progress
-progress_of files w =
-    record { state = state_of w.rules; files = files; session = record { tests = tests_of w }; asked = asked_of w.rules }
+progress_of files w = record { loaded = loaded_of files w; session = record { tests = tests_of w }; asked = asked_of w.rules }
 
 -- the graph is the closure of the facts of all tests, as the rules have them, and the marks are those of the live ones' nodes
 pub record IsMarked (s : StateView) (tests : List KeptTest) (graph : Nodes Fact) (marks : Kept) : Type 0 where
@@ -93,3 +98,18 @@ abbrev pub Tested : Work → Work → TestCommand → List ℕ → List ℕ → 
 Tested old new test before after =
     Turned old new (Named (state_of old.rules) (router_named (state_of old.rules).routers (router_of test)) (record { tests = tests_of old }) test)
     (asked_for (state_of old.rules) (tests_of old) (Asks (Test test))) before after
+
+-- a reply that changes nothing goes to the end of the bytes
+pub record Adds (w : Work) (answers : List ℕ → State → Type 0) (before after : List ℕ) : Type 0 where
+  pub reply : List ℕ
+  pub answer : answers reply (record { tests = tests_of w })
+  pub text : after ≡ before ++ reply
+
+-- what is answered to the name of a router, of which a listing is asked
+abbrev pub Listed : List FileView → Work → List ℕ → List ℕ → List ℕ → Type 0
+Listed files w name before after =
+    Adds w (Shows (loaded_of files w) (router_named (state_of w.rules).routers name) (record { tests = tests_of w }) name) before after
+
+-- a form of the marks is told
+abbrev pub Forms : List FileView → Work → (List Sheet → List ℕ) → List ℕ → List ℕ → Type 0
+Forms files w form before after = Adds w (Tells (loaded_of files w) form (record { tests = tests_of w })) before after

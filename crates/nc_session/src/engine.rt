@@ -2,12 +2,13 @@
 
 ghost use Rattle.std.specs.Prelude.{◌≡◌, ◌++◌, None, Some, map, IfOk, OnOk, OnErr};
 ghost use Rattle.nc_command.specs.Command.{command_of};
-ghost use Rattle.nc_session.specs.File.{AreFilesOf, file_view};
+ghost use Rattle.nc_report.specs.Views.{file_view};
+ghost use Rattle.nc_session.specs.File.{AreFilesOf};
 ghost use Rattle.nc_session.specs.Engine.{Turns, begin_at, flow_behind};
 
-use crate::file::LoadedFile;
 use crate::work::Work;
-use nc_tables::Stable;
+use nc_report::LoadedFile;
+use nc_stable::SettledNetwork;
 use std::alloc::{AllocError, Global};
 use std::marker::Model;
 use std::mem;
@@ -34,7 +35,8 @@ impl Model for Engine {
     ghost use Rattle.std.specs.Prelude.{Option, map};
     ghost use Rattle.std.specs.Option.{option_map, ForSome};
     ghost use Rattle.nc_rules.specs.Seen.{state_of};
-    ghost use Rattle.nc_session.specs.File.{AreFilesOf, file_view};
+    ghost use Rattle.nc_report.specs.Views.{file_view};
+    ghost use Rattle.nc_session.specs.File.{AreFilesOf};
     ghost use Rattle.nc_session.specs.Engine.{Progress};
     ghost use Rattle.nc_session.specs.Work.{progress_of, IsWork};
 
@@ -59,18 +61,23 @@ fn hand_on(reply: &mut Vec<u8>, out: &mut Vec<u8>) -> Result<(), AllocError>
 }
 
 impl Engine {
-    /// An engine of a network's state, with the files of its routers, in order: without tests, and
-    /// no fact was inferred.
+    /// An engine of a network that settled, with the files of its routers, in order: without tests,
+    /// and no fact was inferred.
     ///
     /// # Errors
     ///
     /// Memory that runs out.
-    pub fn begin(alloc: Global, state: Stable, files: Vec<LoadedFile>) -> Result<Engine, AllocError>
-        requires fit { AreFilesOf state.routers (map file_view files.items) }
+    pub fn begin(
+        alloc: Global,
+        settled: SettledNetwork,
+        files: Vec<LoadedFile>,
+    ) -> Result<Engine, AllocError>
+        requires fit { AreFilesOf settled.state.routers (map file_view files.items) }
         ensures { IfOk result (λ engine. engine
-            ≡ Some (begin_at state (map file_view files.items))) }
+            ≡ Some (begin_at
+            (record { state = settled.state; files = map file_view files.items }))) }
     {
-        let work = Work::begin(alloc, state)?;
+        let work = Work::begin(alloc, settled)?;
         Ok(Engine {
             work: Some(work),
             files,
@@ -99,8 +106,12 @@ impl Engine {
             return Err(AllocError);
         };
         self.reply.clear();
-        let flow = work.answer(alloc, line, &mut self.reply)?;
-        hand_on(&mut self.reply, out)?;
+        let Ok(flow) = work.answer(alloc, line, &self.files, &mut self.reply) else {
+            return Err(AllocError);
+        };
+        let Ok(()) = hand_on(&mut self.reply, out) else {
+            return Err(AllocError);
+        };
         self.work = Some(work);
         Ok(flow)
     }

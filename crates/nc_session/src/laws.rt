@@ -3,9 +3,10 @@
 ghost use Rattle.std.specs.Prelude.{◌≡◌, ℕ, List};
 ghost use Rattle.nc_outside.specs.Named.{Named};
 ghost use Rattle.nc_session.specs.declared.status.Status.{Status};
+ghost use Rattle.nc_session.specs.File.{LoadedView};
 ghost use Rattle.nc_session.specs.Output.{Output};
 ghost use Rattle.nc_session.specs.Leaving.{GoesOn};
-ghost use Rattle.nc_tables.specs.State.{StateView, IsState};
+ghost use Rattle.nc_tables.specs.State.{IsState};
 
 use nc_fact::Fact;
 use nc_graph::laws::{closures_have_one_length, some_is_evaluation, strong_is_evaluation};
@@ -26,7 +27,7 @@ pub fn output_is_one()
 
 /// The law of a session: whatever lines were answered, further lines can be, each with a reply.
 pub fn sessions_go_on()
-    ensures { (s : StateView) → IsState s → GoesOn s }
+    ensures { (n : LoadedView) → IsState n.state → GoesOn n }
 {
     rules_make_a_flow();
     closures_have_one_length::<Fact>();

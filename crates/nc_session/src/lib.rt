@@ -2,7 +2,7 @@
 //! the status that a run ends with.
 //!
 //! It stands on `nc_reader` for the configuration, on `nc_stable` for the state in which a network settles, on
-//! `nc_graph` for what a derivation is and on `nc_outside` for the outside. [`run`] is all that a program calls.
+//! `nc_graph` for what a derivation is, on `nc_report` for the reports and on `nc_outside` for the outside. [`run`] is all that a program calls.
 //! Its contract promises that every byte that it writes is the one that the definitions of `specs/` give for the
 //! words, the files and the session, and that each status comes only where its cause stands. The definitions of
 //! marks and of loading, of the steps of a session and of the output are public: `Marks`, `Load`, `Session` and
@@ -10,23 +10,19 @@
 #![tactic(auto)]
 
 mod engine;
-mod file;
 pub mod laws;
 mod load;
 mod pieces;
 mod reading;
 mod refusal;
-mod report;
 mod runs;
 mod serving;
-mod shown;
 mod status;
 mod words;
 mod work;
 mod writing;
 
 pub use engine::{Engine, Flow};
-pub use file::LoadedFile;
 pub use refusal::{Quantity, Reason};
 pub use runs::run;
 pub use status::Status;

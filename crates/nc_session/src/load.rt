@@ -9,7 +9,8 @@ ghost use Rattle.nc_types.specs.declared.TheConstants.{ROUTER_LIMIT};
 ghost use Rattle.nc_session.specs.declared.TheConstants.{FILE_LIMIT};
 ghost use Rattle.nc_session.specs.declared.refusal.LoadFault.TheVariants as LoadFault;
 ghost use Rattle.nc_session.specs.declared.refusal.Quantity.TheVariants as Quantity;
-ghost use Rattle.nc_session.specs.File.{AreFilesOf, file_view};
+ghost use Rattle.nc_report.specs.Views.{file_view};
+ghost use Rattle.nc_session.specs.File.{AreFilesOf};
 ghost use Rattle.nc_session.specs.Words.{texts};
 ghost use Rattle.nc_session.specs.Load.{file_named, load_content, load_lines, load_each, load_names, load_settled};
 ghost use Rattle.nc_session.specs.Reading.{IsInTime};
@@ -17,15 +18,14 @@ ghost use Rattle.nc_session.specs.Causes.{TakesOfEntered, TakesOfFiles, IsInTurn
 ghost use Rattle.nc_session.specs.Loading.{IsOne, IsFileOf, AddsOne, AddsFile, IsEach, AreBeside, AreFilesNamed, IsJoined, IsLoad, IsConfigured, joining_fault, HasCauseOf};
 
 use crate::FILE_LIMIT;
-use crate::file::LoadedFile;
 use crate::reading::read_file;
 use crate::refusal::{LoadFault, Quantity, Reason};
 use nc_lines::split::split_lines;
 use nc_network::{JoinFault, join};
 use nc_outside::Files;
 use nc_reader::read_config;
-use nc_stable::{SettleFault, settle};
-use nc_tables::Stable;
+use nc_report::LoadedFile;
+use nc_stable::{SettleFault, SettledNetwork, settle_network};
 use nc_types::{ConfigFault, LINE_LIMIT, ROUTER_LIMIT, RouterConfig, RouterId, Text};
 use std::alloc::{AllocError, Global};
 
@@ -43,10 +43,10 @@ pub(crate) struct FilesRead {
     pub(crate) configs: Vec<RouterConfig>,
 }
 
-/// The state of the network of all files, and the files.
+/// The network of all files as it settled, and the files.
 #[derive(Drop)]
 pub(crate) struct Loaded {
-    pub(crate) state: Stable,
+    pub(crate) settled: SettledNetwork,
     pub(crate) files: Vec<LoadedFile>,
 }
 
@@ -238,7 +238,11 @@ fn join_fault(fault: JoinFault) -> LoadFault
 }
 
 // Joins configurations, and settles their network within so many rounds.
-fn join_all(alloc: Global, configs: Vec<RouterConfig>, rounds: u32) -> Result<Stable, LoadFault>
+fn join_all(
+    alloc: Global,
+    configs: Vec<RouterConfig>,
+    rounds: u32,
+) -> Result<SettledNetwork, LoadFault>
     requires few { length configs.items ≤ ROUTER_LIMIT }
     requires read { All (λ c. IsConfigured (config_view c)) configs.items }
     ensures joined { (names : List (List ℕ))
@@ -249,8 +253,8 @@ fn join_all(alloc: Global, configs: Vec<RouterConfig>, rounds: u32) -> Result<St
         Ok(network) => network,
         Err(fault) => return Err(join_fault(fault)),
     };
-    match settle(alloc, network, rounds) {
-        Ok(state) => Ok(state),
+    match settle_network(alloc, network, rounds) {
+        Ok(settled) => Ok(settled),
         Err(SettleFault::Unstable) => Err(LoadFault::Unsettled(rounds)),
         Err(SettleFault::Memory) => Err(LoadFault::Memory),
     }
@@ -270,7 +274,7 @@ pub(crate) fn load<F: Files>(
     ensures named { IfOk result (λ loaded. AreFilesNamed (F.files files.old)
         (texts names.now) (map file_view loaded.files.items)) }
     ensures fit { IfOk result (λ loaded.
-        AreFilesOf loaded.state.routers (map file_view loaded.files.items)) }
+        AreFilesOf loaded.settled.state.routers (map file_view loaded.files.items)) }
     ensures few { MatchResult result (λ _. length names.now ≤ ROUTER_LIMIT)
         (λ fault. (fault ≡ LoadFault.Over Quantity.Routers) ⊎ (length names.now ≤ ROUTER_LIMIT)) }
     ensures cause { HasCauseOf (F.files files.old)
@@ -299,8 +303,8 @@ pub(crate) fn load<F: Files>(
         Err(fault) => return Err(fault),
     };
     match join_all(alloc, each.configs, rounds) {
-        Ok(state) => Ok(Loaded {
-            state,
+        Ok(settled) => Ok(Loaded {
+            settled,
             files: each.files,
         }),
         Err(fault) => Err(fault),

@@ -4,8 +4,8 @@
 ghost use Rattle.std.specs.Prelude.{◌≡◌, ◌≢◌, ℕ, ◌+◌, ◌<◌, ◌≤◌, Some, List, Option, length, map, take, false, IfOk, OnErr};
 ghost use Rattle.std.specs.Io.KnownBytes.{Consumes, Keeps, IsAtEnd};
 ghost use Rattle.nc_outside.specs.Counts.{Faults, HasCause};
-ghost use Rattle.nc_tables.specs.State.{StateView};
-ghost use Rattle.nc_session.specs.File.{AreFilesOf, FileView, file_view};
+ghost use Rattle.nc_report.specs.Views.{file_view};
+ghost use Rattle.nc_session.specs.File.{AreFilesOf, LoadedView};
 ghost use Rattle.nc_session.specs.Reading.{TakesAtMost, StaysInTime};
 ghost use Rattle.nc_session.specs.Engine.{begin_at};
 ghost use Rattle.nc_session.specs.Leaving.{Told, told, failures, Leaves, FailsAs, GoesOn, stopped_as};
@@ -13,7 +13,6 @@ ghost use Rattle.nc_session.specs.SoFar.{IsTaken, RefusesRest};
 
 use crate::SESSION_LIMIT;
 use crate::engine::{Engine, Flow};
-use crate::file::LoadedFile;
 use crate::laws::sessions_go_on;
 use crate::reading::Stop;
 use crate::serving::{answer_last, take_piece};
@@ -21,7 +20,8 @@ use crate::status::Status;
 use crate::writing::write_all;
 use nc_command::Cutter;
 use nc_outside::{Failed, Sink, Source};
-use nc_tables::Stable;
+use nc_report::LoadedFile;
+use nc_stable::SettledNetwork;
 use std::alloc::Global;
 
 // How many bytes a read asks for at most.
@@ -58,10 +58,10 @@ fn stopped(stop: Stop) -> Status
 
 // Answers the line that no line feed ended, where there is one: the session is at its end.
 fn finish<K: Sink>(alloc: Global, engine: &mut Engine, cutter: Cutter, output: &mut K) -> Status
-    ensures leaves { (s : StateView) (files : List FileView) (before : Told)
+    ensures leaves { (n : LoadedView) (before : Told)
         (rest : Option (List ℕ)) (room : ℕ)
-        → IsTaken (begin_at s files) before (told rest (K.written output.old)) engine.old cutter room
-        → IsAtEnd rest → GoesOn s → Leaves s before (told rest (K.written output.new)) result }
+        → IsTaken (begin_at n) before (told rest (K.written output.old)) engine.old cutter room
+        → IsAtEnd rest → GoesOn n → Leaves n before (told rest (K.written output.new)) result }
     ensures fails { (source : Faults) → FailsAs (failures source (K.faults output.old))
         (failures source (K.faults output.new)) result }
 {
@@ -94,10 +94,10 @@ fn close<S: Source, K: Sink>(
     input: &mut S,
     output: &mut K,
 ) -> Status
-    ensures leaves { (s : StateView) (files : List FileView) (before : Told)
-        → IsTaken (begin_at s files) before (told (S.rest input.old) (K.written output.old))
+    ensures leaves { (n : LoadedView) (before : Told)
+        → IsTaken (begin_at n) before (told (S.rest input.old) (K.written output.old))
         engine.old cutter 0
-        → GoesOn s → Leaves s before (told (S.rest input.new) (K.written output.new)) result }
+        → GoesOn n → Leaves n before (told (S.rest input.new) (K.written output.new)) result }
     ensures fails { FailsAs (failures (S.faults input.old) (K.faults output.old))
         (failures (S.faults input.new) (K.faults output.new)) result }
     ensures takes { TakesAtMost 1 (S.rest input.old) (S.rest input.new) }
@@ -121,9 +121,9 @@ fn serve_pieces<S: Source, K: Sink>(
     input: &mut S,
     output: &mut K,
 ) -> Status
-    ensures leaves { (s : StateView) (files : List FileView)
-        → engine.old ≡ Some (begin_at s files) → GoesOn s
-        → Leaves s (told (S.rest input.old) (K.written output.old))
+    ensures leaves { (n : LoadedView)
+        → engine.old ≡ Some (begin_at n) → GoesOn n
+        → Leaves n (told (S.rest input.old) (K.written output.old))
         (told (S.rest input.new) (K.written output.new)) result }
     ensures fails { FailsAs (failures (S.faults input.old) (K.faults output.old))
         (failures (S.faults input.new) (K.faults output.new)) result }
@@ -154,13 +154,14 @@ fn serve_pieces<S: Source, K: Sink>(
 /// end of the source, or to the limit of [`SESSION_LIMIT`] bytes, past which one byte is taken and the rest refused.
 pub(crate) fn serve<S: Source, K: Sink>(
     alloc: Global,
-    state: Stable,
+    settled: SettledNetwork,
     files: Vec<LoadedFile>,
     input: &mut S,
     output: &mut K,
 ) -> Status
-    requires fit { AreFilesOf state.routers (map file_view files.items) }
-    ensures leaves { Leaves state (told (S.rest input.old) (K.written output.old))
+    requires fit { AreFilesOf settled.state.routers (map file_view files.items) }
+    ensures leaves { Leaves (record { state = settled.state; files = map file_view files.items })
+        (told (S.rest input.old) (K.written output.old))
         (told (S.rest input.new) (K.written output.new)) result }
     ensures fails { FailsAs (failures (S.faults input.old) (K.faults output.old))
         (failures (S.faults input.new) (K.faults output.new)) result }
@@ -168,8 +169,8 @@ pub(crate) fn serve<S: Source, K: Sink>(
     ensures in_time { StaysInTime (S.end input.old) (S.end input.new) }
 {
     sessions_go_on();
-    let _state = state.network();
-    let Ok(mut engine) = Engine::begin(alloc, state, files) else {
+    let _state = settled.state.network();
+    let Ok(mut engine) = Engine::begin(alloc, settled, files) else {
         return Status::Memory;
     };
     serve_pieces(alloc, &mut engine, input, output)

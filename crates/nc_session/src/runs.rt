@@ -18,11 +18,11 @@ ghost use Rattle.nc_session.specs.declared.status.Status.TheVariants as Status;
 use crate::load::load;
 use crate::pieces::serve;
 use crate::refusal::{LoadFault, Quantity, Reason};
-use crate::report::push_line;
 use crate::status::Status;
 use crate::words::{file_names, read_words};
 use crate::writing::write_all;
 use nc_outside::{Files, Sink, Source};
+use nc_report::push_line;
 use std::alloc::{AllocError, Global};
 
 // The refusal of a quantity that passes its limit.
@@ -164,7 +164,7 @@ fn run_files<F: Files, S: Source, K: Sink>(
         → (S.rest input.new ≡ S.rest input.old) × (S.end input.new ≡ S.end input.old) }
 {
     match load(alloc, names, rounds, files) {
-        Ok(loaded) => serve(alloc, loaded.state, loaded.files, input, output),
+        Ok(loaded) => serve(alloc, loaded.settled, loaded.files, input, output),
         Err(fault) => refuse(alloc, names, fault, output),
     }
 }

@@ -7,7 +7,7 @@ ghost use Rattle.nc_lines.specs.WholeLines.{whole_lines_of};
 ghost use Rattle.nc_command.specs.Cutting.{cut_of, held_of};
 ghost use Rattle.nc_session.specs.declared.serving.TheConstants.{PENDING_LIMIT};
 ghost use Rattle.nc_session.specs.declared.engine.Flow.TheVariants as flow;
-ghost use Rattle.nc_session.specs.Texts.{line_of};
+ghost use Rattle.nc_report.specs.Texts.{line_of};
 ghost use Rattle.nc_session.specs.Reading.{HasStopCause};
 ghost use Rattle.nc_session.specs.Engine.{Progress};
 ghost use Rattle.nc_session.specs.Serving.{AppendsFront, AppendsPart, EndsWith, AreServed, ArePending, AnswersLine, IsFirst, AnswersFirst, AnswersNone, ServesLines};

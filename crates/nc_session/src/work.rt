@@ -1,27 +1,27 @@
 //! What the engine works with: the rules of a network, the graph of the facts that were asked,
 //! their marks, the report as it stands, and the tests.
 
-ghost use Rattle.std.specs.Prelude.{◌≡◌, ◌++◌, ◌<◌, ◌-◌, List, true, Some, length, All, IfOk, OnOk, OnErr, IsErrOf, codes};
+ghost use Rattle.std.specs.Prelude.{◌≡◌, ◌++◌, ◌<◌, ◌-◌, List, true, Some, length, map, All, IfOk, OnOk, OnErr, IsErrOf, codes};
 ghost use Rattle.std.specs.Option.{option_map};
-ghost use Rattle.nc_types.specs.Network.{router_named};
+ghost use Rattle.nc_types.specs.Network.{element_count, router_named};
 ghost use Rattle.nc_graph.specs.Closure.{IsClosure, ReachesMoreThan};
 ghost use Rattle.nc_graph.specs.Flow.{raised};
 ghost use Rattle.nc_graph.specs.Nodes.{Mirrors, IsGraph, Extends, AreNodesOf};
 ghost use Rattle.nc_graph.specs.declared.fault.GraphFault.TheVariants as GraphFault;
+ghost use Rattle.nc_marks.specs.Marks.{AreMarks};
 ghost use Rattle.nc_fact.specs.Tested.{tested_facts};
 ghost use Rattle.nc_rules.specs.Rules.{flow_of};
 ghost use Rattle.nc_rules.specs.Seen.{state_of, asked_of};
 ghost use Rattle.nc_command.specs.Command.{command_of, text_of};
 ghost use Rattle.nc_session.specs.declared.TheConstants.{TEST_LIMIT, FACT_LIMIT};
-ghost use Rattle.nc_session.specs.Session.{router_of, has_line};
-ghost use Rattle.nc_session.specs.Texts.{accepted_of, line_of};
-ghost use Rattle.nc_session.specs.File.{FileView};
+ghost use Rattle.nc_session.specs.Session.{accepted_of, live_in, router_of, has_line, unknown_of};
+ghost use Rattle.nc_report.specs.Texts.{json_of, lcov_of, line_of};
+ghost use Rattle.nc_report.specs.Views.{FileView, file_view};
+ghost use Rattle.nc_session.specs.File.{file_in, AreFilesOf};
 ghost use Rattle.nc_session.specs.Engine.{Answered, begin_at, flow_behind};
-ghost use Rattle.nc_session.specs.Work.{IsWork, Takes, Replies, Counted, Told, TestedAt, Tested, progress_of};
+ghost use Rattle.nc_session.specs.Work.{IsWork, Takes, Replies, Counted, Told, TestedAt, Tested, Forms, Listed, progress_of, tests_of};
 
 use crate::engine::Flow;
-use crate::report::push_line;
-use crate::shown::Shown;
 use crate::{FACT_LIMIT, TEST_LIMIT};
 use nc_command::{Command, CommandFault, read_command, test_text};
 use nc_fact::{Fact, facts_of};
@@ -31,8 +31,9 @@ use nc_graph::laws::closures_have_one_length;
 use nc_graph::node::NodeId;
 use nc_marks::kept::KeptMarks;
 use nc_marks::laws::{kept_of_an_extended_graph, marks_of_nodes_are_of_facts};
+use nc_report::{LoadedFile, Shown, push_line};
 use nc_rules::{Rules, rules_make_a_flow};
-use nc_tables::Stable;
+use nc_stable::SettledNetwork;
 use nc_types::{RouterId, TestCommand, Text};
 use std::alloc::{AllocError, Global};
 
@@ -85,7 +86,7 @@ fn push_accepted(
 // Appends the refusal of a router that isn't there.
 fn push_unknown(out: &mut Vec<u8>, router: &[u8]) -> Result<(), AllocError>
     ensures { OnOk result (out.new.items
-        ≡ out.old.items ++ line_of (codes "refused router " ++ router.now)) }
+        ≡ out.old.items ++ line_of (unknown_of router.now)) }
 {
     out.extend_from_slice(b"refused router ")?;
     push_line(out, router)?;
@@ -137,16 +138,26 @@ fn ask(
     nodes
 }
 
+// The file of a router.
+fn file_at(files: &[LoadedFile], router: RouterId) -> &LoadedFile
+    requires { router.0 < length files.now }
+    ensures { file_view result.now ≡ file_in (map file_view files.now) router.0 }
+{
+    &files[router.0 as usize]
+}
+
 impl Work {
-    /// For a network's state, without tests.
-    pub(crate) fn begin(alloc: Global, state: Stable) -> Result<Work, AllocError>
+    /// For a network that settled, without tests.
+    pub(crate) fn begin(alloc: Global, settled: SettledNetwork) -> Result<Work, AllocError>
         ensures work { IfOk result IsWork }
         ensures progress { IfOk result (λ work. (files : List FileView)
-            → progress_of files work ≡ begin_at state files) }
+            → progress_of files work
+            ≡ begin_at (record { state = settled.state; files = files })) }
     {
-        let kept = KeptMarks::new(alloc, state.network().element_count())?;
-        let shown = Shown::new(alloc, state.network(), kept.marks())?;
-        let rules = Rules::new(alloc, state)?;
+        let rules = Rules::new(alloc, settled);
+        let network = rules.state().network();
+        let kept = KeptMarks::new(alloc, network.element_count())?;
+        let shown = Shown::new(alloc, network, kept.marks())?;
         Ok(Work {
             rules,
             graph: Graph::new(alloc, FACT_LIMIT),
@@ -180,15 +191,25 @@ impl Work {
         Ok(true)
     }
 
+    // Does nothing: the marks that are kept are those of the facts of the live tests.
+    fn marks_are_kept(&self)
+        requires { IsWork self.now }
+        ensures { AreMarks (flow_of (state_of self.now.rules)) (live_in (tests_of self.now))
+            (element_count (state_of self.now.rules).routers) self.now.marks.marks }
+    {
+        rules_make_a_flow();
+        marks_of_nodes_are_of_facts::<Fact>();
+        let _facts = self.graph.len();
+    }
+
     // Appends the reply to the last test.
     fn reply(&self, alloc: Global, out: &mut Vec<u8>) -> Result<(), AllocError>
         requires { IsWork self.now }
         ensures { OnOk result (Replies self.now out.old.items out.new.items) }
     {
-        rules_make_a_flow();
-        marks_of_nodes_are_of_facts::<Fact>();
+        self.marks_are_kept();
         push_accepted(alloc, out, self.tests.len(), self.graph.len())?;
-        self.shown.push(alloc, out)?;
+        self.shown.push_report(alloc, out)?;
         Ok(())
     }
 
@@ -293,15 +314,12 @@ impl Work {
         Ok(())
     }
 
-    // The router that a test is of.
-    fn router(&self, test: &TestCommand) -> Option<RouterId>
+    // The router of a name.
+    fn router(&self, name: &Text) -> Option<RouterId>
         ensures { option_map (λ r. r.0) result
-            ≡ router_named (state_of self.now.rules).routers (router_of test.now) }
+            ≡ router_named (state_of self.now.rules).routers name.now }
     {
-        self.rules
-            .state()
-            .network()
-            .router_named(router_of(test).bytes())
+        self.rules.state().network().router_named(name.bytes())
     }
 
     // Answers a test.
@@ -316,25 +334,74 @@ impl Work {
         ensures tests { OnOk result
             (Tested self.old self.new test.now out.old.items out.new.items) }
     {
-        let Some(router) = self.router(test) else {
-            push_unknown(out, router_of(test).bytes())?;
+        let name = router_of(test);
+        let Some(router) = self.router(name) else {
+            push_unknown(out, name.bytes())?;
             return Ok(());
         };
         self.test_at(alloc, router, test, out)?;
         Ok(())
     }
 
-    /// Answers a line: its reply goes to the end of `out`.
+    // Appends a listing of the file of the router of a name, if there is one.
+    fn show(
+        &self,
+        alloc: Global,
+        name: &Text,
+        files: &[LoadedFile],
+        out: &mut Vec<u8>,
+    ) -> Result<(), AllocError>
+        requires work { IsWork self.now }
+        requires files { AreFilesOf (state_of self.now.rules).routers (map file_view files.now) }
+        ensures { OnOk result (Listed (map file_view files.now) self.now name.now
+            out.old.items out.new.items) }
+    {
+        self.marks_are_kept();
+        let Some(router) = self.router(name) else {
+            push_unknown(out, name.bytes())?;
+            return Ok(());
+        };
+        self.shown
+            .push_show(alloc, router, file_at(files, router), out)?;
+        Ok(())
+    }
+
+    // Appends a tracefile of the files.
+    fn lcov(&self, alloc: Global, files: &[LoadedFile], out: &mut Vec<u8>) -> Result<(), AllocError>
+        requires { IsWork self.now }
+        ensures { OnOk result (Forms (map file_view files.now) self.now
+            (λ sheets. lcov_of sheets (map file_view files.now)) out.old.items out.new.items) }
+    {
+        self.marks_are_kept();
+        self.shown.push_lcov(alloc, files, out)?;
+        Ok(())
+    }
+
+    // Appends the marks as a JSON object.
+    fn json(&self, alloc: Global, out: &mut Vec<u8>) -> Result<(), AllocError>
+        requires { IsWork self.now }
+        ensures { OnOk result ((files : List FileView)
+            → Forms files self.now json_of out.old.items out.new.items) }
+    {
+        self.marks_are_kept();
+        self.shown.push_json(alloc, out)?;
+        Ok(())
+    }
+
+    /// Answers a line: its reply goes to the end of `out`. The files are those of the routers.
     pub(crate) fn answer(
         &mut self,
         alloc: Global,
         line: &[u8],
+        files: &[LoadedFile],
         out: &mut Vec<u8>,
     ) -> Result<Flow, AllocError>
-        requires { IsWork self.old }
+        requires work { IsWork self.old }
+        requires files { AreFilesOf (state_of self.old.rules).routers (map file_view files.now) }
         ensures work { OnOk result (IsWork self.new) }
-        ensures answered { OnOk result ((files : List FileView)
-            → Answered (progress_of files self.old) (progress_of files self.new)
+        ensures answered { OnOk result
+            (Answered (progress_of (map file_view files.now) self.old)
+            (progress_of (map file_view files.now) self.new)
             line.now out.old.items out.new.items) }
         ensures flow { IfOk result (λ flow. flow ≡ flow_behind (command_of line.now)) }
     {
@@ -342,6 +409,9 @@ impl Work {
             Ok(None) => {}
             Ok(Some(Command::Quit)) => return Ok(Flow::Stop),
             Ok(Some(Command::Test(test))) => self.test(alloc, &test, out)?,
+            Ok(Some(Command::Show(name))) => self.show(alloc, &name, files, out)?,
+            Ok(Some(Command::Lcov)) => self.lcov(alloc, files, out)?,
+            Ok(Some(Command::Json)) => self.json(alloc, out)?,
             Err(CommandFault::Long) => push_line(out, b"refused long")?,
             Err(CommandFault::Syntax) => push_line(out, b"refused syntax")?,
             Err(CommandFault::Memory) => return Err(AllocError),

@@ -1,4 +1,4 @@
-use Rattle.std.proofs.Common.{◌≡◌, ◌++◌, List, ℕ, length, ap, ◌∙◌}
+use Rattle.std.proofs.Common.{◌++◌, List, ℕ, length, ap, ◌∙◌}
 use Rattle.std.specs.List.{flat_map}
 use Rattle.nc_report.specs.Texts.{ending, hit_count, hit_line, section_text}
 use Rattle.nc_report.proofs.Lists.{five-pieces}

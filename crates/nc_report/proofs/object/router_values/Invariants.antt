@@ -1,6 +1,7 @@
 use Rattle.std.proofs.Common.{◌≡◌, ◌++◌, map, drop}
 use Rattle.serde_json.specs.View.{view}
-use Rattle.nc_report.specs.Values.{router_data, sheet_view}
+use Rattle.nc_report.specs.Sheets.{sheet_view}
+use Rattle.nc_report.specs.Values.{router_data}
 use Rattle.nc_report.proofs.object.router_values.Given as goal
 
 -- the objects so far and those of the sheets that are left are all objects

@@ -3,7 +3,7 @@ use Rattle.nc_session.proofs.GoingOn.{session_goes_on}
 use Rattle.nc_session.proofs.laws.sessions_go_on.Goals as goal
 
 pub returns : goal.returns
-returns c s state =
-    let lawful = c.rules_make_a_flow.ensures s state in
-    session_goes_on s (c.strong_is_evaluation.ensures.is (flow_of s) lawful) (c.some_is_evaluation.ensures.is (flow_of s) lawful)
-    (c.closures_have_one_length.ensures.exists (flow_of s) lawful) (c.closures_have_one_length.ensures.more (flow_of s) lawful)
+returns c n state =
+    let lawful = c.rules_make_a_flow.ensures n.state state in
+    session_goes_on n (c.strong_is_evaluation.ensures.is (flow_of n.state) lawful) (c.some_is_evaluation.ensures.is (flow_of n.state) lawful)
+    (c.closures_have_one_length.ensures.exists (flow_of n.state) lawful) (c.closures_have_one_length.ensures.more (flow_of n.state) lawful)

@@ -2,7 +2,7 @@ use Rattle.std.proofs.Common.{◌≤◌, ◌<◌, List, length, map, sym, subst,
 use Rattle.std.proofs.lemmas.List.{length-map}
 use Rattle.std.specs.String.{string_bytes}
 use Rattle.nc_types.specs.Config.{ConfigView, config_view}
-use Rattle.nc_session.specs.File.{file_view}
+use Rattle.nc_report.specs.Views.{file_view}
 use Rattle.nc_types.specs.declared.TheConstants.{ROUTER_LIMIT}
 use Rattle.nc_session.specs.Words.{texts}
 use Rattle.nc_session.proofs.AllFiles.{too_many, fault_each, cause_each, fault_together, fine_together}
@@ -30,7 +30,7 @@ returns-in-Ok-join_all-clause-loaded g c =
     let names = texts c.args.names.now in
     let few : length names ≤ ROUTER_LIMIT = omega (arith, length-map c.args.names.now string_bytes, c.if-names-gt-ROUTER_LIMIT.false) in
     let joined = c.in-Ok-join_all.ensures.joined names in
-    fine_together c.args.rounds names few (g.F.Files.files c.args.files.now) (map config_view c.in-Ok.each.configs.items) c.in-Ok.ensures.loaded c.in-Ok-join_all.state joined.0
+    fine_together c.args.rounds names few (g.F.Files.files c.args.files.now) (map config_view c.in-Ok.each.configs.items) c.in-Ok.ensures.loaded c.in-Ok-join_all.settled.state joined.0
 
 pub returns-in-Err-join_all-clause-loaded : goal.returns-in-Err-join_all-clause-loaded
 returns-in-Err-join_all-clause-loaded g c =
@@ -42,4 +42,4 @@ pub returns-in-Ok-join_all-clause-fit : goal.returns-in-Ok-join_all-clause-fit
 returns-in-Ok-join_all-clause-fit g c =
     let files = map file_view c.in-Ok.each.files.items in
     let same = (c.in-Ok-join_all.ensures.joined (texts c.args.names.now)).1 in
-    files_fit files c.in-Ok-join_all.state.routers (subst (λ (routers : List ConfigView). AreBeside files routers) (sym same) c.in-Ok.ensures.beside)
+    files_fit files c.in-Ok-join_all.settled.state.routers (subst (λ (routers : List ConfigView). AreBeside files routers) (sym same) c.in-Ok.ensures.beside)

@@ -19,22 +19,22 @@ reading-init g c = record {
   bytes = [];
   consumed = Consumes-nil (g.S.Source.rest c.args.input.now);
   room = refl;
-  taken = λ s files is.
-      taken_none s files (g.S.Source.rest c.args.input.now) (g.K.Sink.written c.args.output.now) c.args.engine.now c.new-cutter.result is c.new-cutter.ensures;
+  taken = λ n is.
+      taken_none n (g.S.Source.rest c.args.input.now) (g.K.Sink.written c.args.output.now) c.args.engine.now c.new-cutter.result is c.new-cutter.ensures;
 }
 
 pub returns-in-Err-clause-leaves : goal.returns-in-Err-clause-leaves
-returns-in-Err-clause-leaves g c s files is goes =
-    taken_fault s files (told (g.S.Source.rest c.args.input.now) (g.K.Sink.written c.args.output.now)) (g.S.Source.rest c.reading.input) (g.K.Sink.written c.reading.output)
-    c.reading.engine c.reading.cutter c.reading.room (c.reading.invariant.taken s files is) (g.S.Source.rest c.read_piece.new.input) c.in-Err.ensures.kept
+returns-in-Err-clause-leaves g c n is goes =
+    taken_fault n (told (g.S.Source.rest c.args.input.now) (g.K.Sink.written c.args.output.now)) (g.S.Source.rest c.reading.input) (g.K.Sink.written c.reading.output)
+    c.reading.engine c.reading.cutter c.reading.room (c.reading.invariant.taken n is) (g.S.Source.rest c.read_piece.new.input) c.in-Err.ensures.kept
 
 pub returns-then-count-eq0-clause-leaves : goal.returns-then-count-eq0-clause-leaves
-returns-then-count-eq0-clause-leaves g c s files is goes =
+returns-then-count-eq0-clause-leaves g c n is goes =
     let before = told (g.S.Source.rest c.args.input.now) (g.K.Sink.written c.args.output.now) in
     let new = g.S.Source.rest c.read_piece.new.input in
-    c.finish.ensures.leaves s files before new c.reading.room
-    (taken_end s files before (g.S.Source.rest c.reading.input) (g.K.Sink.written c.reading.output) c.reading.engine c.reading.cutter c.reading.room
-    (c.reading.invariant.taken s files is) new c.in-Ok.count c.read_piece.new.buffer c.if-count-eq0.true c.in-Ok.ensures.bytes)
+    c.finish.ensures.leaves n before new c.reading.room
+    (taken_end n before (g.S.Source.rest c.reading.input) (g.K.Sink.written c.reading.output) c.reading.engine c.reading.cutter c.reading.room
+    (c.reading.invariant.taken n is) new c.in-Ok.count c.read_piece.new.buffer c.if-count-eq0.true c.in-Ok.ensures.bytes)
     (c.in-Ok.ensures.ended c.if-count-eq0.true) goes
 
 pub returns-then-count-eq0-clause-fails : goal.returns-then-count-eq0-clause-fails
@@ -57,27 +57,27 @@ reading-preserved g c =
       bytes = bytes ++ piece;
       consumed = Consumes-trans (g.S.Source.rest c.args.input.now) (g.S.Source.rest c.reading.input) (g.S.Source.rest c.read_piece.new.input) bytes piece c.reading.invariant.consumed c.in-Ok.ensures.bytes;
       room = omega (arith, length-append bytes piece, len, few, c.reading.invariant.room);
-      taken = λ s files is.
+      taken = λ n is.
           let before = told (g.S.Source.rest c.args.input.now) (g.K.Sink.written c.args.output.now) in
-          let t = c.reading.invariant.taken s files is in
-          let served = c.in-Ok-Go.ensures.serves (begin_at s files) t.taken before.written t.held_is t.served in
-          taken_more s files before (g.S.Source.rest c.reading.input) (g.K.Sink.written c.reading.output) c.reading.engine c.reading.cutter c.reading.room t
+          let t = c.reading.invariant.taken n is in
+          let served = c.in-Ok-Go.ensures.serves (begin_at n) t.taken before.written t.held_is t.served in
+          taken_more n before (g.S.Source.rest c.reading.input) (g.K.Sink.written c.reading.output) c.reading.engine c.reading.cutter c.reading.room t
           (g.S.Source.rest c.read_piece.new.input) piece c.in-Ok.ensures.bytes (omega (arith, len, few)) (g.K.Sink.written c.take_piece.new.output)
           c.take_piece.new.engine c.take_piece.new.cutter (c.reading.room - c.in-Ok.count)
-          (subst (λ (how : Flow). ServesLines (begin_at s files) (whole_lines_of (t.taken ++ piece)) c.take_piece.new.engine before.written (g.K.Sink.written c.take_piece.new.output) (Ok how)) c.in-Ok-Go.field-0-is served)
+          (subst (λ (how : Flow). ServesLines (begin_at n) (whole_lines_of (t.taken ++ piece)) c.take_piece.new.engine before.written (g.K.Sink.written c.take_piece.new.output) (Ok how)) c.in-Ok-Go.field-0-is served)
           (c.in-Ok-Go.ensures.held c.in-Ok-Go.field-0-is t.taken t.held_is) (omega (arith, len, few));
     }
 
 pub returns-in-Ok-Stop-clause-leaves : goal.returns-in-Ok-Stop-clause-leaves
-returns-in-Ok-Stop-clause-leaves g c s files is goes =
+returns-in-Ok-Stop-clause-leaves g c n is goes =
     let piece : List ℕ = take c.in-Ok.count c.read_piece.new.buffer in
     let few : c.in-Ok.count ≤ c.reading.room = c.in-Ok.ensures.within.0 in
     let before = told (g.S.Source.rest c.args.input.now) (g.K.Sink.written c.args.output.now) in
-    let t = c.reading.invariant.taken s files is in
-    let served = c.in-Ok-Stop.ensures.serves (begin_at s files) t.taken before.written t.held_is t.served in
-    taken_quit s files before (g.S.Source.rest c.reading.input) (g.K.Sink.written c.reading.output) c.reading.engine c.reading.cutter c.reading.room t
+    let t = c.reading.invariant.taken n is in
+    let served = c.in-Ok-Stop.ensures.serves (begin_at n) t.taken before.written t.held_is t.served in
+    taken_quit n before (g.S.Source.rest c.reading.input) (g.K.Sink.written c.reading.output) c.reading.engine c.reading.cutter c.reading.room t
     (g.S.Source.rest c.read_piece.new.input) piece c.in-Ok.ensures.bytes (omega (arith, length-take c.in-Ok.count c.read_piece.new.buffer, few)) (g.K.Sink.written c.take_piece.new.output)
-    (subst (λ (how : Flow). ServesLines (begin_at s files) (whole_lines_of (t.taken ++ piece)) c.take_piece.new.engine before.written (g.K.Sink.written c.take_piece.new.output) (Ok how)) c.in-Ok-Stop.field-0-is served)
+    (subst (λ (how : Flow). ServesLines (begin_at n) (whole_lines_of (t.taken ++ piece)) c.take_piece.new.engine before.written (g.K.Sink.written c.take_piece.new.output) (Ok how)) c.in-Ok-Stop.field-0-is served)
 
 pub returns-in-Ok-Stop-clause-takes : goal.returns-in-Ok-Stop-clause-takes
 returns-in-Ok-Stop-clause-takes g c =
@@ -90,16 +90,16 @@ returns-in-Ok-Stop-clause-takes g c =
     )
 
 pub returns-in-Err-take_piece-clause-leaves : goal.returns-in-Err-take_piece-clause-leaves
-returns-in-Err-take_piece-clause-leaves g c s files is goes =
+returns-in-Err-take_piece-clause-leaves g c n is goes =
     let piece : List ℕ = take c.in-Ok.count c.read_piece.new.buffer in
     let few : c.in-Ok.count ≤ c.reading.room = c.in-Ok.ensures.within.0 in
     let before = told (g.S.Source.rest c.args.input.now) (g.K.Sink.written c.args.output.now) in
     let new = g.K.Sink.written c.take_piece.new.output in
-    let t = c.reading.invariant.taken s files is in
-    subst (Leaves s before (told (g.S.Source.rest c.read_piece.new.input) new)) (sym c.stopped.ensures)
-    (taken_broken s files before (g.S.Source.rest c.reading.input) (g.K.Sink.written c.reading.output) c.reading.engine c.reading.cutter c.reading.room t
+    let t = c.reading.invariant.taken n is in
+    subst (Leaves n before (told (g.S.Source.rest c.read_piece.new.input) new)) (sym c.stopped.ensures)
+    (taken_broken n before (g.S.Source.rest c.reading.input) (g.K.Sink.written c.reading.output) c.reading.engine c.reading.cutter c.reading.room t
     (g.S.Source.rest c.read_piece.new.input) piece c.in-Ok.ensures.bytes (omega (arith, length-take c.in-Ok.count c.read_piece.new.buffer, few)) new goes c.in-Err-take_piece.stop
-    (c.in-Err-take_piece.ensures.serves (begin_at s files) t.taken before.written t.held_is t.served))
+    (c.in-Err-take_piece.ensures.serves (begin_at n) t.taken before.written t.held_is t.served))
 
 pub returns-in-Err-take_piece-clause-takes : goal.returns-in-Err-take_piece-clause-takes
 returns-in-Err-take_piece-clause-takes g c =
@@ -112,11 +112,11 @@ returns-in-Err-take_piece-clause-takes g c =
     )
 
 pub returns-clause-leaves : goal.returns-clause-leaves
-returns-clause-leaves g c s files is goes =
+returns-clause-leaves g c n is goes =
     let before = told (g.S.Source.rest c.args.input.now) (g.K.Sink.written c.args.output.now) in
     let none : c.reading.room ≡ 0 = omega arith in
-    c.close.ensures.leaves s files before
-    (subst (IsTaken (begin_at s files) before (told (g.S.Source.rest c.reading.input) (g.K.Sink.written c.reading.output)) c.reading.engine c.reading.cutter) none (c.reading.invariant.taken s files is)) goes
+    c.close.ensures.leaves n before
+    (subst (IsTaken (begin_at n) before (told (g.S.Source.rest c.reading.input) (g.K.Sink.written c.reading.output)) c.reading.engine c.reading.cutter) none (c.reading.invariant.taken n is)) goes
 
 pub returns-clause-takes : goal.returns-clause-takes
 returns-clause-takes g c =

@@ -1,8 +1,7 @@
 use Rattle.std.proofs.Common.{◌≡◌, ◌+◌, List, ℕ, false, Some, length}
 use Rattle.std.specs.Io.KnownBytes.{Consumes}
-use Rattle.nc_tables.specs.State.{StateView}
 use Rattle.nc_session.specs.declared.TheConstants.{SESSION_LIMIT}
-use Rattle.nc_session.specs.File.{FileView}
+use Rattle.nc_session.specs.File.{LoadedView}
 use Rattle.nc_session.specs.Engine.{begin_at}
 use Rattle.nc_session.specs.Leaving.{told}
 use Rattle.nc_session.specs.SoFar.{IsTaken}
@@ -18,8 +17,8 @@ invariant-reading g l = record {
   bytes : List ℕ;
   consumed : Consumes (g.S.Source.rest l.fn.input) (g.S.Source.rest l.input) bytes;
   room : length bytes + l.room ≡ SESSION_LIMIT;
-  taken : (s : StateView) (files : List FileView) → l.fn.engine ≡ Some (begin_at s files)
-      → IsTaken (begin_at s files) (told (g.S.Source.rest l.fn.input) (g.K.Sink.written l.fn.output))
+  taken : (n : LoadedView) → l.fn.engine ≡ Some (begin_at n)
+      → IsTaken (begin_at n) (told (g.S.Source.rest l.fn.input) (g.K.Sink.written l.fn.output))
       (told (g.S.Source.rest l.input) (g.K.Sink.written l.output)) l.engine l.cutter l.room;
 }
 

@@ -5,22 +5,32 @@ use Rattle.std.specs.Option.{option_map}
 use Rattle.nc_tables.specs.State.{StateView}
 use Rattle.nc_rules.specs.Seen.{state_of}
 use Rattle.nc_session.specs.declared.work.Work.{Work}
-use Rattle.nc_session.specs.File.{AreFilesOf, file_view}
+use Rattle.nc_report.specs.Views.{FileView, file_view}
+use Rattle.nc_session.specs.File.{AreFilesOf, LoadedView}
 use Rattle.nc_session.specs.Work.{IsWork, progress_of}
+use Rattle.nc_session.specs.Engine.{Answered}
 use Rattle.nc_session.proofs.engine.Engine.answer.Goals as goal
+use Rattle.nc_session.proofs.engine.Engine.answer.Goals.{Joined-self}
+
+-- the line is answered for the files that are kept
+answered-of : (c : Joined-self) → Answered (progress_of (map file_view c.self.inside.files.items) c.in-Some.work) (progress_of (map file_view c.self.inside.files.items) c.answer.new.self) c.args.line.now c.clear.new.self.items c.answer.new.out.items
+answered-of c =
+    subst (λ (files : List FileView). Answered (progress_of files c.in-Some.work) (progress_of files c.answer.new.self) c.args.line.now c.clear.new.self.items c.answer.new.out.items)
+    (ap (map file_view) c.deref.ensures.value) c.in-Ok.ensures.answered
 
 pub invariant_of-self-2 : goal.invariant_of-self-2
 invariant_of-self-2 c = λ x is.
     let files = map file_view c.self.inside.files.items in
     let new = c.answer.new.self in
+    let answered = answered-of c in
     let was : c.self.inside.work ≡ Some c.in-Some.work = grind (arith, common_steps) in
     subst (λ (w : Work). IsWork w × AreFilesOf (state_of w.rules).routers files) (same_Some new x is)
-    (c.in_ok-flow.ensures.work, subst (λ (s : StateView). AreFilesOf s.routers files) (sym (c.in_ok-flow.ensures.answered files).state) (c.self.invariant c.in-Some.work was).1)
+    (c.in-Ok.ensures.work, subst (λ (s : StateView). AreFilesOf s.routers files) (sym (ap (λ (n : LoadedView). n.state) answered.loaded)) (c.self.invariant c.in-Some.work was).1)
 
 pub returns-clause-turns : goal.returns-clause-turns
 returns-clause-turns c =
     let files = map file_view c.self.inside.files.items in
-    let a = c.in_ok-flow.ensures.answered files in
+    let a = answered-of c in
     let was : c.self.inside.work ≡ Some c.in-Some.work = grind (arith, common_steps) in
     record {
       from = progress_of files c.in-Some.work;
@@ -30,10 +40,14 @@ returns-clause-turns c =
       answered = record {
         reply = a.reply;
         step = a.step;
-        text = c.in_ok-hand_on.ensures.appended
+        text = c.in-Ok-hand_on.ensures.appended
             ∙ ap (λ (l : List ℕ). c.args.out.now.items ++ l) (a.text ∙ ap (λ (l : List ℕ). l ++ a.reply) c.clear.ensures.items);
-        state = a.state;
-        files = a.files;
+        loaded = a.loaded;
         infers = a.infers;
       };
     }
+
+pub answer-requires-clause-work : goal.answer-requires-clause-work
+answer-requires-clause-work c =
+    let was : c.self.inside.work ≡ Some c.in-Some.work = grind (arith, common_steps) in
+    (c.self.invariant c.in-Some.work was).0

@@ -14,7 +14,7 @@ use Rattle.nc_rules.specs.Seen.{state_of, asked_of}
 use Rattle.nc_session.specs.declared.TheConstants.{FACT_LIMIT}
 use Rattle.nc_session.specs.declared.work.KeptTest.{KeptTest as Made}
 use Rattle.nc_session.specs.Session.{KeptTest, live_test, asked_in}
-use Rattle.nc_session.specs.Sheets.{sheets_from}
+use Rattle.nc_report.specs.Sheets.{sheets_from}
 use Rattle.nc_session.specs.Work.{IsMarked, test_view, tests_of}
 use Rattle.nc_session.proofs.Closing.{many-from, many-to}
 use Rattle.nc_session.proofs.Working.{tests-more, marked-more, shown-more}

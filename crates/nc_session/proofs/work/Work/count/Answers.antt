@@ -1,7 +1,7 @@
 use Rattle.std.proofs.Common.{arith, Bool, codes, refl, subst}
 use Rattle.nc_rules.specs.Rules.{flow_of}
 use Rattle.nc_rules.specs.Seen.{state_of}
-use Rattle.nc_session.specs.Texts.{line_of}
+use Rattle.nc_report.specs.Texts.{line_of}
 use Rattle.nc_session.specs.Work.{Takes}
 use Rattle.nc_session.proofs.Answering.{accepted, overfilled}
 use Rattle.nc_session.proofs.work.Work.count.Goals as goal

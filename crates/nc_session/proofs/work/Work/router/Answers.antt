@@ -10,4 +10,4 @@ returns c =
     let s = state_of c.args.self.now.rules in
     c.router_named.ensures
     ∙ ap (λ (cs : List ConfigView). router_named cs c.bytes.result.now) (c.network.ensures.network ∙ ap (λ (s : StateView). s.routers) c.state.ensures)
-    ∙ ap (λ (word : List ℕ). router_named s.routers word) (c.bytes.ensures ∙ c.router_of.ensures)
+    ∙ ap (λ (word : List ℕ). router_named s.routers word) c.bytes.ensures

@@ -1,10 +1,10 @@
-use Rattle.std.proofs.Common.{◌≡◌, ℕ, List, ◌++◌, None, codes, refl, sym, ap, ◌∙◌, subst}
+use Rattle.std.proofs.Common.{◌≡◌, ℕ, List, ◌++◌, None, refl, sym, ap, ◌∙◌, subst}
 use Rattle.std.specs.Option.{option_map}
 use Rattle.nc_types.specs.Network.{router_named}
 use Rattle.nc_fact.specs.declared.fact.Fact.{Fact}
 use Rattle.nc_rules.specs.Seen.{state_of, asked_of}
-use Rattle.nc_session.specs.Session.{router_of}
-use Rattle.nc_session.specs.Texts.{line_of}
+use Rattle.nc_session.specs.Session.{router_of, unknown_of}
+use Rattle.nc_report.specs.Texts.{line_of}
 use Rattle.nc_session.specs.Engine.{Infers}
 use Rattle.nc_session.specs.Work.{tests_of}
 use Rattle.nc_session.proofs.Answering.{named, unknown, none-asked, none-named}
@@ -16,11 +16,11 @@ returns-in_default-clause-tests c =
     let s = state_of old.rules in
     let tests = tests_of old in
     let test = c.args.test.now in
-    let none : router_named s.routers (router_of test) ≡ None = sym c.router.ensures ∙ ap (option_map (λ r. r.0)) c.in_default.is in
+    let none : router_named s.routers (router_of test) ≡ None = ap (router_named s.routers) (sym c.router_of-name.ensures) ∙ sym c.router.ensures ∙ ap (option_map (λ r. r.0)) c.in_default.is in
     record {
-      reply = line_of (codes "refused router " ++ router_of test);
+      reply = line_of (unknown_of (router_of test));
       answer = unknown s tests test none;
-      text = c.in_ok-push_unknown.ensures ∙ ap (λ (word : List ℕ). c.args.out.now.items ++ line_of (codes "refused router " ++ word)) (c.bytes.ensures ∙ c.router_of.ensures);
+      text = c.in_ok-push_unknown.ensures ∙ ap (λ (word : List ℕ). c.args.out.now.items ++ line_of (unknown_of word)) (c.bytes.ensures ∙ c.router_of-name.ensures);
       state = refl;
       infers = subst (λ (fs : List Fact). Infers s tests fs (asked_of old.rules) (asked_of old.rules)) (sym (none-asked s tests test (none-named s test none))) refl;
     }
@@ -32,7 +32,7 @@ returns-clause-tests c =
     let at = c.in_ok-test_at.ensures.tested in
     record {
       reply = at.reply;
-      answer = named s c.in-Some.router.0 c.args.test.now (record { tests = tests_of old }) (record { tests = tests_of c.test_at.new.self }) at.reply (sym c.router.ensures ∙ ap (option_map (λ r. r.0)) c.in-Some.is) at.answer;
+      answer = named s c.in-Some.router.0 c.args.test.now (record { tests = tests_of old }) (record { tests = tests_of c.test_at.new.self }) at.reply (ap (router_named s.routers) (sym c.router_of-name.ensures) ∙ sym c.router.ensures ∙ ap (option_map (λ r. r.0)) c.in-Some.is) at.answer;
       text = at.text;
       state = at.state;
       infers = at.infers;

@@ -2,7 +2,7 @@ use Rattle.std.proofs.Common.{◌≡◌, List, false, codes, refl, sym, ◌∙�
 use Rattle.nc_fact.specs.declared.fact.Fact.{Fact}
 use Rattle.nc_rules.specs.Seen.{state_of, asked_of}
 use Rattle.nc_session.specs.Session.{State, has_line}
-use Rattle.nc_session.specs.Texts.{line_of}
+use Rattle.nc_report.specs.Texts.{line_of}
 use Rattle.nc_session.specs.Engine.{Infers}
 use Rattle.nc_session.specs.Work.{tests_of}
 use Rattle.nc_session.proofs.Answering.{lined, unlined, none-asked, none-lined}

@@ -1,6 +1,0 @@
-use Rattle.std.proofs.Common.{◌≡◌}
-use Rattle.nc_session.specs.Sheets.{letters_from}
-use Rattle.nc_session.proofs.report.letters.Given as goal
-
-abbrev pub invariant-lines : goal.invariant-lines
-invariant-lines l = l.letters.items ≡ letters_from l.network l.marks l.router.0 0 l.line
