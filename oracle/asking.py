@@ -50,9 +50,14 @@ def of_elements(net):
     return [f"element {named(net, r)} {R.choice(sorted(lines))}" for r, lines in chosen]
 
 
+def of_reports(net):
+    """The forms of a report."""
+    return ["lcov", "json"] + [f"show {named(net, r)}" for r in range(len(net.routers))]
+
+
 def there(net):
     """Tests that are accepted: each candidate that is chosen, each that is accepted, each row of a main table, each session, and
-    some of packets that arrive and of lines of elements."""
+    some of packets that arrive and of lines of elements; and the forms of a report."""
     asks = [f"bgp {named(net, r)} {slashed(p)}" for r, p in net.bgp]
     for r, n in net.sessions:
         a = dotted(net.routers[r]["process"]["neighbors"][n]["addr"])
@@ -61,7 +66,7 @@ def there(net):
     for r in range(len(net.routers)):
         for prefix, _, hop in main_table(net, r):
             asks += [f"rib {named(net, r)} {slashed(prefix)}"] + ([] if hop is None else [f"rib {named(net, r)} {slashed(prefix)} via {dotted(hop)}"])
-    return list(dict.fromkeys(asks + of_packets(net, True) + of_elements(net)))
+    return list(dict.fromkeys(asks + of_packets(net, True) + of_elements(net) + of_reports(net)))
 
 
 def beside(net):
@@ -80,6 +85,7 @@ def beside(net):
     yield from of_packets(net, False)
     for r in range(len(net.routers)):
         yield f"element {named(net, r)} {R.randrange(40)}"
+    yield from ("show nobody", "show", "lcov r1", "json json")
 
 
 def some_there(files, names, count):

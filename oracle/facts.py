@@ -142,21 +142,19 @@ def stands(net, fact):
     return done[fact]
 
 
-def report(net, tested):
-    """The marks and the report."""
+def marks_of(net, tested):
+    """The marks of the lines of each router."""
     strong, some = set(), set()
     for f in set(tested):
         of_fact = stands(net, f)
         strong |= of_fact[0]
         some |= of_fact[1]
-    texts, all_marks = [], b""
+    sheets = []
     for r, c in enumerate(net.routers):
         marks = bytearray(b"." * c["count"])
         for place, (_, own) in enumerate(c["elements"]):
             e = net.before[r] + place
             for n in own:
                 marks[n - 1] = (b"S" if e in strong else b"W" if e in some else b"U")[0]
-        all_marks += bytes(marks)
-        texts.append(c["name"] + b" " + bytes(marks) + b"\n")
-    head = b"strong %d weak %d uncovered %d outside %d\n" % tuple(all_marks.count(m) for m in (b"S", b"W", b"U", b"."))
-    return head + b"".join(texts)
+        sheets.append(bytes(marks))
+    return sheets

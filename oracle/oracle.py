@@ -9,10 +9,11 @@ module, run(words, session) gives the status and the bytes.
 import os
 import sys
 
-from facts import closure, report
+from facts import closure, marks_of
 from network import HOPS, Net, base_table, join
 from paths import arrives
 from reading import Fault, read_file
+from reports import as_json, lcov, report, show
 from routes import chosen_at, entry_of, main_table, settle
 from texts import address, bits, inside, large, lines_of, mask, number, prefix_word, words
 
@@ -75,18 +76,31 @@ def tested_facts(net, command, r, what, a):
 
 
 class Conversation:
-    def __init__(self, net):
-        self.net, self.tested, self.asked, self.accepted, self.kept = net, [], set(), 0, None
+    def __init__(self, net, files, texts):
+        self.net, self.files, self.texts = net, files, texts
+        self.tested, self.asked, self.accepted = [], set(), 0
+        self.names, self.sheets = [c["name"] for c in net.routers], marks_of(net, [])
 
     def accept(self, facts):
         more = self.asked | closure(self.net, facts)
         if len(more) > LIMIT_FACTS:
             return b"refused limit facts\n"
-        if self.kept is None or not set(facts) <= set(self.tested):
+        if not set(facts) <= set(self.tested):
             self.tested += facts
-            self.kept = report(self.net, self.tested)
+            self.sheets = marks_of(self.net, self.tested)
         self.asked, self.accepted = more, self.accepted + 1
-        return b"test %d facts %d\n" % (self.accepted, len(self.asked)) + self.kept
+        return b"test %d facts %d\n" % (self.accepted, len(self.asked)) + report(self.names, self.sheets)
+
+    def told(self, w):
+        """A report that a line asks for, or None where it asks for none."""
+        if w == [b"lcov"]:
+            return lcov(self.sheets, self.files)
+        if w == [b"json"]:
+            return as_json(self.names, self.sheets)
+        if w[0] != b"show" or len(w) != 2:
+            return None
+        named = [r for r, name in enumerate(self.names) if name == w[1]]
+        return show(self.sheets[named[0]], self.texts[named[0]]) if named else b"refused router " + w[1] + b"\n"
 
     def answer(self, line):
         if len(line) > LIMIT_LINE:
@@ -94,7 +108,10 @@ class Conversation:
         w = words(line)
         if not w or w[0][:1] == b"#":
             return b""
+        told = self.told(w)
         test = asked_for(w)
+        if told is not None:
+            return told
         if test is None:
             return b"refused syntax\n"
         named = [r for r, c in enumerate(self.net.routers) if c["name"] == test[1]]
@@ -108,9 +125,9 @@ class Conversation:
         return b"refused limit tests\n" if self.accepted == LIMIT_TESTS else self.accept(facts)
 
 
-def converse(net, session):
+def converse(net, session, files, texts):
     lines, limited = served(session)
-    conversation = Conversation(net)
+    conversation = Conversation(net, files, texts)
     out = b"".join(conversation.answer(line) for line in lines if line)
     return (8, out + b"refused limit session\n") if limited else (0, out)
 
@@ -139,7 +156,7 @@ def read_words(given):
 
 
 def read_one(name):
-    """The configuration of a file; or a status and the bytes of a refusal."""
+    """The configuration of a file and its lines; or a status and the bytes of a refusal."""
     try:
         with open(name, "rb") as file:
             data = file.read()
@@ -151,7 +168,7 @@ def read_one(name):
     if len(lines) > LIMIT_LINES:
         return 8, b"refused limit lines\n"
     try:
-        return read_file(lines)
+        return [read_file(lines), lines]
     except Fault as fault:
         return refused(name, *fault.args)
 
@@ -172,12 +189,13 @@ def run(given, session):
     files, rounds = meant
     if len(files) > LIMIT_ROUTERS:
         return 8, b"refused limit routers\n"
-    routers = []
+    routers, texts = [], []
     for name in files:
         config = read_one(name)
         if isinstance(config, tuple):
             return config
-        routers.append(config)
+        routers.append(config[0])
+        texts.append(config[1])
     fault = join(routers)
     if fault and fault[0] == "limit":
         return 8, b"refused limit " + fault[1] + b"\n"
@@ -186,7 +204,7 @@ def run(given, session):
     net = Net(routers)
     if not settle(net, rounds):
         return 3, b"refused unstable %d\n" % rounds
-    return converse(net, session)
+    return converse(net, session, files, texts)
 
 
 if __name__ == "__main__":

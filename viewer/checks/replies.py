@@ -1,5 +1,4 @@
 """What sessions write: of the examples by the oracle, and of networks made up here, as large as they may be."""
-import json
 import os
 import random
 import sys
@@ -9,68 +8,59 @@ TOP = os.path.dirname(os.path.dirname(HERE))
 sys.path.insert(0, os.path.join(TOP, "oracle"))
 
 import oracle  # noqa: E402
-from facts import report  # noqa: E402
+import reports  # noqa: E402
 from texts import lines_of, words  # noqa: E402
 
 
 def shown(lines, marks):
     """The text of `show`."""
-    return b"".join(b"%c %d %s\n" % (mark, k + 1, line) for k, (mark, line) in enumerate(zip(marks, lines)))
+    return reports.show(marks, lines)
+
+
+def names_of(routers):
+    return [name for name, _ in routers]
+
+
+def sheets_of(routers):
+    return [marks for _, marks in routers]
 
 
 def counted(routers):
     """How many lines of all routers are strong, weak, uncovered, outside."""
-    return [sum(marks.count(mark) for _, marks in routers) for mark in (b"S", b"W", b"U", b".")]
+    return reports.counts(sheets_of(routers))
 
 
 def report_of(routers):
     """A report on routers, each a name and marks."""
-    head = b"strong %d weak %d uncovered %d outside %d\n" % tuple(counted(routers))
-    return head + b"".join(name + b" " + marks + b"\n" for name, marks in routers)
+    return reports.report(names_of(routers), sheets_of(routers))
 
 
 def json_of(routers):
     """The text of `json`."""
-    strong, weak, uncovered, outside = counted(routers)
-    names = [{"marks": marks.decode(), "name": name.decode()} for name, marks in routers]
-    value = {"outside": outside, "routers": names, "strong": strong, "uncovered": uncovered, "weak": weak}
-    return json.dumps(value, separators=(",", ":")).encode() + b"\n"
+    return reports.as_json(names_of(routers), sheets_of(routers))
 
 
 def lcov_of(files, routers):
     """The text of `lcov`."""
-    out = b""
-    for file, (_, marks) in zip(files, routers):
-        data = [(k + 1, mark != 85) for k, mark in enumerate(marks) if mark != 46]
-        out += b"TN:\nSF:" + file + b"\n" + b"".join(b"DA:%d,%d\n" % pair for pair in data)
-        out += b"LF:%d\nLH:%d\nend_of_record\n" % (len(data), sum(hit for _, hit in data))
-    return out
+    return reports.lcov(sheets_of(routers), files)
 
 
 class Session:
-    """A session over files: the oracle answers tests, and this class the reports that the oracle doesn't have."""
+    """A session over files, as the oracle answers it."""
 
     def __init__(self, files):
         self.files = [os.fsencode(file) for file in files]
-        self.lines = [lines_of(open(file, "rb").read()) for file in files]
-        net = oracle.Net([oracle.read_one(file) for file in self.files])
+        read = [oracle.read_one(file) for file in self.files]
+        self.lines = [lines for _, lines in read]
+        net = oracle.Net([config for config, _ in read])
         assert oracle.settle(net, 256)
-        self.net, self.talk = net, oracle.Conversation(net)
+        self.talk = oracle.Conversation(net, self.files, self.lines)
 
     def routers(self):
         """Each router's name and marks."""
-        text = report(self.net, self.talk.tested)
-        return [tuple(line.split(b" ")) for line in text.splitlines()[1:]]
+        return list(zip(self.talk.names, self.talk.sheets))
 
     def answer(self, line):
-        asked = words(line)
-        if asked == [b"json"]:
-            return json_of(self.routers())
-        if asked == [b"lcov"]:
-            return lcov_of(self.files, self.routers())
-        if len(asked) == 2 and asked[0] == b"show":
-            found = [k for k, (name, _) in enumerate(self.routers()) if name == asked[1]]
-            return shown(self.lines[found[0]], self.routers()[found[0]][1]) if found else b"refused router " + asked[1] + b"\n"
         return self.talk.answer(line)
 
     def write(self, text):
