@@ -4,7 +4,7 @@ use Rattle.std.proofs.Common.{◌≡◌, ◌⊎◌, ℕ, ◌==◌, Bool, true, c
 use Rattle.nc_outside.specs.Named.{Named}
 use Rattle.nc_outside.specs.Counts.{Faults, Rose}
 use Rattle.nc_outside.specs.Memory.{FilesState, SourceState, no_calls, no_end, faults_of}
-use Rattle.nc_tables.specs.State.{StateView}
+use Rattle.nc_session.specs.File.{LoadedView}
 use Rattle.nc_session.specs.declared.status.Status.{Status}
 use Rattle.nc_session.specs.declared.status.Status.TheVariants.{Done, Memory, Limit}
 use Rattle.nc_session.specs.Load.{Refusal, load}
@@ -31,9 +31,9 @@ module _ (words : List (List ℕ)) (fs : List Named) (session fails reads : List
       subst (λ (rest : List ℕ). (status ≡ status_of (load words fs) rest) ⊎ (status ≡ Memory)) (ap (λ (s : SourceState). s.rest) source_is)
       (subst (λ (known : List Named). (status ≡ status_of (load words known) source.rest) ⊎ (status ≡ Memory)) (ap (λ (s : FilesState). s.files) files_are) ends)
 
--- where the files give a state and the session is within its limit, that is Done
-pub ends_served : (loaded : Result StateView Refusal) (session : List ℕ) (status : Status) → (status ≡ status_of loaded session) ⊎ (status ≡ Memory)
-    → (state : StateView) → loaded ≡ Ok state → is_within session ≡ true → (status ≡ Done) ⊎ (status ≡ Memory)
-ends_served loaded session status (inr memory) state is within = inr memory
-ends_served loaded session status (inl ends) state is within =
-    inl (ends ∙ ap (λ (l : Result StateView Refusal). status_of l session) is ∙ ap (λ (b : Bool). cond b Done Limit) within)
+-- where the files give a network and the session is within its limit, that is Done
+pub ends_served : (loaded : Result LoadedView Refusal) (session : List ℕ) (status : Status) → (status ≡ status_of loaded session) ⊎ (status ≡ Memory)
+    → (network : LoadedView) → loaded ≡ Ok network → is_within session ≡ true → (status ≡ Done) ⊎ (status ≡ Memory)
+ends_served loaded session status (inr memory) network is within = inr memory
+ends_served loaded session status (inl ends) network is within =
+    inl (ends ∙ ap (λ (l : Result LoadedView Refusal). status_of l session) is ∙ ap (λ (b : Bool). cond b Done Limit) within)

@@ -9,8 +9,8 @@
 //!
 //! One promise is proved besides safety: [`steady::run_in_memory`], over objects of which none can
 //! fail, ends as the words, the files and the session have it, or for want of memory. The crate
-//! stands on `nc_session` for the run, on `nc_outside` for the objects in memory, on `nc_types` for
-//! names and on `nc_tables` for what a state is.
+//! stands on `nc_session` for the run, on `nc_outside` for the objects in memory and on `nc_types` for
+//! names.
 #![tactic(auto)]
 
 mod cutting;

@@ -1,7 +1,7 @@
 //! A run over objects in memory of which none can fail.
 
 ghost use Rattle.std.specs.Prelude.{◌≡◌, ◌⊎◌, true, Ok};
-ghost use Rattle.nc_tables.specs.State.{StateView};
+ghost use Rattle.nc_session.specs.File.{LoadedView};
 ghost use Rattle.nc_session.specs.Words.{texts};
 ghost use Rattle.nc_session.specs.Load.{load};
 ghost use Rattle.nc_session.specs.Output.{is_within};
@@ -24,7 +24,7 @@ pub fn run_in_memory(
 ) -> Status
     ensures complete { (result ≡ status_of (load (texts words.now) files.items) session.items)
         ⊎ (result ≡ Status.Memory) }
-    ensures served { (state : StateView) → load (texts words.now) files.items ≡ Ok state
+    ensures served { (loaded : LoadedView) → load (texts words.now) files.items ≡ Ok loaded
         → is_within session.items ≡ true → (result ≡ Status.Done) ⊎ (result ≡ Status.Memory) }
 {
     let mut files = MemFiles::new(files, Vec::new(alloc));
