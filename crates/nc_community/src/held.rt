@@ -47,7 +47,9 @@ fn joined(alloc: Global, a: &[u32], b: &[u32]) -> Result<Communities, AllocError
     ensures { IfOk result (λ both. both ≡ put_all a.now b.now) }
 {
     if b.is_empty() {
-        return Ok(Communities::of(Vec::from_slice(alloc, a)?));
+        let numbers = Vec::from_slice(alloc, a)?;
+        let all = Communities::of(alloc, numbers)?;
+        return Ok(all);
     }
     match united(a, b) {
         Some(both) => Ok(both.communities(alloc)?),

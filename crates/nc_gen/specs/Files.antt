@@ -2,7 +2,7 @@
 use Rattle.std.specs.Prelude.{ℕ, ◌+◌, ◌-◌, ◌*◌, List, [], ◌∷◌, ◌++◌, length, map, codes}
 use Rattle.std.specs.List.{flat_map}
 use Rattle.std.specs.Fmt.{decimal}
-use Rattle.nc_command.specs.Command.{dotted}
+use Rattle.nc_types.specs.Dotted.{dotted}
 use Rattle.nc_gen.specs.declared.tree.Tree.{Tree}
 use Rattle.nc_gen.specs.declared.tree.Router.{Router}
 use Rattle.nc_gen.specs.declared.tree.Router.TheVariants.{Core, Aggregation, Edge}

@@ -4,9 +4,9 @@
 //! A fat tree of k pods has k routers a pod, in two layers, and (k / 2)² cores above them; all
 //! speak BGP, each with a system of its own, and each edge router has a local network (the topology
 //! is that of Al-Fares, Loukissas and Vahdat, 'A scalable, commodity data center network
-//! architecture', 2008, without the hosts). The crate stands on `nc_types`, and on `nc_command` for
-//! the form in which an address is written. Its contract promises that [`fat_tree`] gives the files
-//! and the session of the definition in `specs/Files`, byte for byte.
+//! architecture', 2008, without the hosts). The crate stands on `nc_types`. Its contract promises
+//! that [`fat_tree`] gives the files and the session of the definition in `specs/Files`, byte for
+//! byte.
 #![tactic(auto)]
 
 mod config;

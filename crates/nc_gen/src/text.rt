@@ -1,7 +1,6 @@
 //! The lines of a configuration file, as text.
 
 ghost use Rattle.std.specs.Prelude.{◌≡◌, ◌<◌, ◌++◌, ◌∷◌, [], string_bytes, OnOk, IfOk};
-ghost use Rattle.nc_command.specs.Command.{dotted};
 ghost use Rattle.nc_gen.specs.Files.{address_line, every_line, file_name, hostname_line, interface_line, name_of, neighbor_line, network_line, paths_line, reach_line, system_line, text_of};
 
 use crate::ports::{Port, system_of};
@@ -17,17 +16,6 @@ pub(crate) fn push_line(out: &mut Vec<u8>, line: &[u8]) -> Result<(), AllocError
     out.extend_from_slice(line)?;
     out.push(b'\n')?;
     Ok(())
-}
-
-// An address as four numbers with dots between them.
-fn dotted(alloc: Global, addr: Addr) -> Result<String, AllocError>
-    ensures { IfOk result (λ text. string_bytes text ≡ dotted addr.0) }
-{
-    let first = addr.0 / 16_777_216;
-    let second = addr.0 / 65_536 % 256;
-    let third = addr.0 / 256 % 256;
-    let fourth = addr.0 % 256;
-    format!(in alloc; "{first}.{second}.{third}.{fourth}")
 }
 
 /// The name of a router.
@@ -71,7 +59,7 @@ pub(crate) fn interface_line(alloc: Global, place: usize) -> Result<String, Allo
 pub(crate) fn address_line(alloc: Global, addr: Addr, mask: &str) -> Result<String, AllocError>
     ensures { IfOk result (λ line. string_bytes line ≡ address_line addr.0 mask.now) }
 {
-    let addr = dotted(alloc, addr)?;
+    let addr = addr.dotted(alloc)?;
     format!(in alloc; " ip address {addr} {mask}")
 }
 
@@ -80,7 +68,7 @@ pub(crate) fn address_line(alloc: Global, addr: Addr, mask: &str) -> Result<Stri
 pub(crate) fn network_line(alloc: Global, start: Addr) -> Result<String, AllocError>
     ensures { IfOk result (λ line. string_bytes line ≡ network_line start.0) }
 {
-    let start = dotted(alloc, start)?;
+    let start = start.dotted(alloc)?;
     format!(in alloc; " network {start} mask 255.255.255.0")
 }
 
@@ -107,7 +95,7 @@ pub(crate) fn paths_line(alloc: Global, most: u32) -> Result<String, AllocError>
 pub(crate) fn neighbor_line(alloc: Global, port: Port) -> Result<String, AllocError>
     ensures { IfOk result (λ line. string_bytes line ≡ neighbor_line port) }
 {
-    let peer = dotted(alloc, port.peer)?;
+    let peer = port.peer.dotted(alloc)?;
     let system = port.peer_system;
     format!(in alloc; " neighbor {peer} remote-as {system}")
 }
@@ -117,7 +105,7 @@ pub(crate) fn neighbor_line(alloc: Global, port: Port) -> Result<String, AllocEr
 pub(crate) fn reach_line(alloc: Global, addr: Addr) -> Result<String, AllocError>
     ensures { IfOk result (λ line. string_bytes line ≡ reach_line addr.0) }
 {
-    let addr = dotted(alloc, addr)?;
+    let addr = addr.dotted(alloc)?;
     format!(in alloc; "reach e0_0 {addr}")
 }
 
@@ -126,6 +114,6 @@ pub(crate) fn reach_line(alloc: Global, addr: Addr) -> Result<String, AllocError
 pub(crate) fn every_line(alloc: Global, addr: Addr) -> Result<String, AllocError>
     ensures { IfOk result (λ line. string_bytes line ≡ every_line addr.0) }
 {
-    let addr = dotted(alloc, addr)?;
+    let addr = addr.dotted(alloc)?;
     format!(in alloc; "every e0_0 {addr}")
 }

@@ -14,7 +14,7 @@ use Rattle.nc_tables.specs.Longest.{is_longest, longest}
 use Rattle.nc_tables.specs.Reach.{rows_of, is_hit, hits, exit_of, is_linked, exit_leads, leads_to, owns, reaches}
 use Rattle.nc_types.proofs.Members.{In, in_by_filter, in_by_filter_map, some_passes}
 use Rattle.nc_tables.proofs.Ordered.{place_within}
-use Rattle.nc_message.proofs.Lists.{is_placed}
+use Rattle.nc_types.proofs.Lookups.{is_placed}
 
 module _ (routers : List ConfigView) (tables : List (List BaseRow)) where
   -- a hit is a row of the table

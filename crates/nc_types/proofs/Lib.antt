@@ -8,6 +8,7 @@ pub mod Few
 pub mod Counting
 pub mod Walks
 pub mod Offsets
+pub mod Lookups
 pub mod Placing
 pub mod Owning
 pub mod Addressing

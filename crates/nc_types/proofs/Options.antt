@@ -1,5 +1,6 @@
 -- Values that may be missing.
-use Rattle.std.proofs.Common.{◌≡◌, false, Option, Some, None, refl}
+use Rattle.std.proofs.Common.{◌≡◌, false, Option, Some, None, IfSome, refl}
+use Rattle.std.specs.Prelude.{option_and_then}
 use Rattle.std.specs.Option.{option_map, option_or, is_some}
 use Rattle.std.proofs.lemmas.Option.{same_Some}
 
@@ -19,3 +20,8 @@ is_none (Some x) e = absurd (cc)
 pub map_some : {A B : Type 0} (f : A → B) (o : Option A) (y : B) → option_map f o ≡ Some y → (x : A) × (o ≡ Some x) × (f x ≡ y)
 map_some f None y e = absurd (cc)
 map_some f (Some x) y e = (x, refl, same_Some (f x) y e)
+
+-- what holds of what is made of something that may be missing
+pub then_some : {A B : Type 0} (P : A → Type 0) (Q : B → Type 0) (f : A → Option B) → ((x : A) → P x → IfSome (f x) Q) → (o : Option A) → IfSome o P → IfSome (option_and_then f o) Q
+then_some P Q f each None some = tt
+then_some P Q f each (Some x) some = each x some

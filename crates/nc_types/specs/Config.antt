@@ -26,7 +26,7 @@ pub record ElementView : Type 0 where
   pub lines : List ℕ
 
 abbrev pub element_view : Element → ElementView
-element_view e = record { kind = e.kind; lines = e.lines.items }
+element_view e = record { kind = e.kind; lines = e.lines }
 
 -- a BGP process
 pub record ProcessView : Type 0 where

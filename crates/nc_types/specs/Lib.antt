@@ -1,5 +1,7 @@
 pub mod Masks
+pub mod Dotted
 pub mod Cidr
+pub mod ElementLines
 pub mod Config
 pub mod Communities
 pub mod Setting

@@ -1,45 +1,54 @@
-ghost use Rattle.std.specs.Prelude.{◌≡◌, []};
+ghost use Rattle.std.specs.Prelude.{◌≡◌, [], IfOk};
 ghost use Rattle.nc_types.specs.Communities.{IsSmallSet};
 
 use crate::text::Text;
-use std::alloc::Global;
+use std::alloc::{AllocError, Global};
 use std::marker::Model;
 
 /// A set of communities, each a number of 32 bits, whose upper half is written before a colon and whose lower
 /// half behind it (RFC 1997): ascending, and at most [`crate::COMMUNITY_LIMIT`].
 #[derive(Debug, Drop)]
 pub struct Communities {
-    numbers: Vec<u32>,
+    // None where there are none, as on most routes, which are so much smaller.
+    numbers: Option<Box<Vec<u32>>>,
 }
 
 impl Model for Communities {
-    ghost use Rattle.std.specs.Prelude.{List, ℕ};
+    ghost use Rattle.std.specs.Prelude.{List, ℕ, []};
+    ghost use Rattle.std.specs.Option.{option_map_or};
     ghost use Rattle.nc_types.specs.Communities.{IsSmallSet};
 
     ghost Value = { List ℕ };
 
-    ghost view = { λ c. c.numbers.items };
+    ghost view = { λ c. option_map_or (λ numbers. numbers.value.items) c.numbers [] };
 
-    ghost invariant = { λ c. IsSmallSet c.numbers.items };
+    ghost invariant = { λ c.
+        IsSmallSet (option_map_or (λ numbers. numbers.value.items) c.numbers []) };
 }
 
 impl Communities {
     /// No communities. Takes no memory.
-    pub fn new(alloc: Global) -> Communities
+    pub fn new(_alloc: Global) -> Communities
         ensures { result ≡ [] }
     {
-        Communities {
-            numbers: Vec::new(alloc),
-        }
+        Communities { numbers: None }
     }
 
-    /// The communities of these numbers, which ascend and are at most [`crate::COMMUNITY_LIMIT`]. Takes no
-    /// memory.
-    pub fn of(numbers: Vec<u32>) -> Communities
+    /// The communities of these numbers, which ascend and are at most [`crate::COMMUNITY_LIMIT`].
+    ///
+    /// # Errors
+    ///
+    /// Memory that runs out.
+    pub fn of(alloc: Global, numbers: Vec<u32>) -> Result<Communities, AllocError>
         requires { IsSmallSet numbers.items }
-        ensures { result ≡ numbers.items }
+        ensures { IfOk result (λ communities. communities ≡ numbers.items) }
     {
-        Communities { numbers }
+        if numbers.is_empty() {
+            return Ok(Communities { numbers: None });
+        }
+        Ok(Communities {
+            numbers: Some(Box::new(alloc, numbers)?),
+        })
     }
 
     /// The numbers, ascending.
@@ -47,7 +56,10 @@ impl Communities {
         ensures numbers { result.now ≡ self.now }
         ensures small { IsSmallSet self.now }
     {
-        &self.numbers
+        match &self.numbers {
+            None => &[],
+            Some(numbers) => numbers.as_slice(),
+        }
     }
 }
 

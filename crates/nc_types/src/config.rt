@@ -5,9 +5,9 @@ ghost use Rattle.nc_types.specs.Joining.{interface_by};
 
 use crate::addr::Addr;
 use crate::communities::{CommunityList, SetCommunity};
+use crate::lines::Lines;
 use crate::prefix::Prefix;
 use crate::text::Text;
-use smallvec::SmallVec;
 
 /// A router: the place of its file among the files, from 0.
 #[derive(Clone, Copy, Debug, PartialEq, Eq, PartialOrd, Ord, Hash)]
@@ -49,8 +49,8 @@ pub enum Kind {
 #[derive(Drop)]
 pub struct Element {
     pub kind: Kind,
-    /// The lines, ascending, from 1. Up to four of them take no memory of their own.
-    pub lines: SmallVec<u32, 4>,
+    /// The lines, ascending, from 1.
+    pub lines: Lines,
 }
 
 /// A name that a statement refers to, and the line of the statement.
@@ -235,8 +235,8 @@ pub struct Clause {
 pub struct ListEntry {
     /// The entries of a list are looked at in order of this number.
     pub seq: u32,
-    pub permit: bool,
     pub prefix: Prefix,
+    pub permit: bool,
     /// The least length of a prefix that it is of.
     pub low: u8,
     /// The greatest length of a prefix that it is of, at most 32.

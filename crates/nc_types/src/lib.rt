@@ -3,8 +3,9 @@
 //!
 //! These are plain types that every crate above shares; beside std the crate stands on `thiserror`, for the
 //! texts of errors. Its contract promises that a [`Prefix`] has no host bits and at most 32 of network, that a
-//! [`Text`] has exactly the bytes that it was made of, what each question about a prefix or a mask
-//! answers, that [`Communities`] ascend and are few, and what each look-up in a [`Network`] finds. What a well-formed configuration is stands in
+//! [`Text`] has exactly the bytes that it was made of and [`Lines`] the lines, how an address is
+//! written, what each question about a prefix or a mask answers, that [`Communities`] ascend and are
+//! few, and what each look-up in a [`Network`] finds. What a well-formed configuration is stands in
 //! `specs/WellFormed`, what valid configurations of several routers are in `specs/Joining`, and what is looked
 //! up in a network in `specs/Network`.
 #![tactic(auto)]
@@ -15,6 +16,7 @@ mod communities;
 mod config;
 mod fault;
 pub mod laws;
+mod lines;
 mod network;
 mod prefix;
 mod text;
@@ -28,6 +30,7 @@ pub use config::{
     StaticRoute, Via,
 };
 pub use fault::{Cause, ConfigFault, Fault};
+pub use lines::Lines;
 pub use network::Network;
 pub use prefix::Prefix;
 pub use text::Text;

@@ -6,6 +6,7 @@ use Rattle.std.specs.Option.{option_map, option_map_or, is_some}
 use Rattle.std.proofs.lemmas.Bool.{eqb-true, eq-eqb}
 use Rattle.std.proofs.lemmas.Bool.Decides.{nat_tests}
 use Rattle.std.proofs.lemmas.Iterator.Adapters.{position_from-zero}
+use Rattle.nc_types.proofs.Lookups.{is_placed}
 use Rattle.nc_types.specs.declared.config.Interface.{Interface}
 use Rattle.nc_types.specs.declared.config.IfaceAddr.{IfaceAddr}
 use Rattle.nc_types.specs.Config.{ConfigView}
@@ -84,22 +85,10 @@ module _ (addr : ℕ) where
   later_free n m c (d ∷ cs) (suc r) mine none its =
       later_free n (m + 1) c cs r mine (empty_right (shared (record { router = n; config = c }) (record { router = m; config = d })) (flat_map (shared (record { router = n; config = c })) (numbered_from (m + 1) cs)) none) its
 
-  place_by_any : (place : ℕ) (is : List Interface) → is_some (position_from (has_address addr) place is) ≡ list_any (has_address addr) is
-  place_by_any place [] = refl
-  place_by_any place (i ∷ is) = by_test (has_address addr i) (place_by_any (place + 1) is)
-    where
-      by_test : (b : Bool) → is_some (position_from (has_address addr) (place + 1) is) ≡ list_any (has_address addr) is
-          → is_some (cond b (Some place) (position_from (has_address addr) (place + 1) is)) ≡ (b || list_any (has_address addr) is)
-      by_test true e = refl
-      by_test false e = e
-
-  placed : (is : List Interface) → is_some (position (has_address addr) is) ≡ list_any (has_address addr) is
-  placed is = ap is_some (position_from-zero (has_address addr) is) ∙ place_by_any 0 is
-
   -- a router has the address exactly where it is the owner
   owned_from : (n : ℕ) (cs : List ConfigView) (r : ℕ) → with_later shared (numbered_from n cs) ≡ [] → owns_at cs r ≡ option_map_or (λ o. nat_eq o.router (n + r)) (owner_from n cs addr) false
   owned_from n [] r none = refl
-  owned_from n (c ∷ cs) zero none = by_place (position (has_address addr) c.interfaces) (owner_from (n + 1) cs addr) (placed c.interfaces) (λ o e. owner_from_low (n + 1) cs addr o e)
+  owned_from n (c ∷ cs) zero none = by_place (position (has_address addr) c.interfaces) (owner_from (n + 1) cs addr) (is_placed (has_address addr) c.interfaces) (λ o e. owner_from_low (n + 1) cs addr o e)
     where
       by_place : (p : Option ℕ) (q : Option PlaceIn) → is_some p ≡ list_any (has_address addr) c.interfaces → ((o : PlaceIn) → q ≡ Some o → n + 1 ≤ o.router)
           → list_any (has_address addr) c.interfaces ≡ option_map_or (λ (o : PlaceIn). nat_eq o.router (n + 0)) (option_map_or {U = Option PlaceIn} (λ place. Some (record { router = n; place = place })) p q) false
@@ -110,7 +99,7 @@ module _ (addr : ℕ) where
           let far : nat_eq o.router (n + 0) ≡ false = grind (arith, nat_tests) in
           sym is ∙ sym far
   owned_from n (c ∷ cs) (suc r) none =
-      by_place (position (has_address addr) c.interfaces) (placed c.interfaces) (owned_from (n + 1) cs r (empty_right (flat_map (shared (record { router = n; config = c })) (numbered_from (n + 1) cs)) (with_later shared (numbered_from (n + 1) cs)) none))
+      by_place (position (has_address addr) c.interfaces) (is_placed (has_address addr) c.interfaces) (owned_from (n + 1) cs r (empty_right (flat_map (shared (record { router = n; config = c })) (numbered_from (n + 1) cs)) (with_later shared (numbered_from (n + 1) cs)) none))
     where
       by_place : (p : Option ℕ) → is_some p ≡ list_any (has_address addr) c.interfaces → owns_at cs r ≡ option_map_or (λ (o : PlaceIn). nat_eq o.router (n + 1 + r)) (owner_from (n + 1) cs addr) false
           → owns_at cs r ≡ option_map_or (λ (o : PlaceIn). nat_eq o.router (n + suc r)) (option_map_or {U = Option PlaceIn} (λ place. Some (record { router = n; place = place })) p (owner_from (n + 1) cs addr)) false
@@ -132,7 +121,7 @@ module _ (addr : ℕ) where
 
   no_place : (cs : List ConfigView) (r : ℕ) → owns_at cs r ≡ false → place_at cs r ≡ None
   no_place [] r none = refl
-  no_place (c ∷ cs) zero none = none_is (position (has_address addr) c.interfaces) (placed c.interfaces ∙ none)
+  no_place (c ∷ cs) zero none = none_is (position (has_address addr) c.interfaces) (is_placed (has_address addr) c.interfaces ∙ none)
   no_place (c ∷ cs) (suc r) none = no_place cs r none
 
   placed_from : (n : ℕ) (cs : List ConfigView) (r : ℕ) → with_later shared (numbered_from n cs) ≡ [] → place_at cs r ≡ place_by (n + r) (owner_from n cs addr)
@@ -148,7 +137,7 @@ module _ (addr : ℕ) where
           let far : nat_eq o.router (n + 0) ≡ false = grind (arith, nat_tests) in
           ap (λ (b : Bool). cond b (Some o.place) None) (sym far)
   placed_from n (c ∷ cs) (suc r) none =
-      by_place (position (has_address addr) c.interfaces) (placed c.interfaces) (placed_from (n + 1) cs r (empty_right (flat_map (shared (record { router = n; config = c })) (numbered_from (n + 1) cs)) (with_later shared (numbered_from (n + 1) cs)) none))
+      by_place (position (has_address addr) c.interfaces) (is_placed (has_address addr) c.interfaces) (placed_from (n + 1) cs r (empty_right (flat_map (shared (record { router = n; config = c })) (numbered_from (n + 1) cs)) (with_later shared (numbered_from (n + 1) cs)) none))
     where
       by_place : (p : Option ℕ) → is_some p ≡ list_any (has_address addr) c.interfaces → place_at cs r ≡ place_by (n + 1 + r) (owner_from (n + 1) cs addr)
           → place_at cs r ≡ place_by (n + suc r) (option_map_or {U = Option PlaceIn} (λ place. Some (record { router = n; place = place })) p (owner_from (n + 1) cs addr))

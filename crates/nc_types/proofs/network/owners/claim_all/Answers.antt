@@ -15,6 +15,6 @@ elements-preserved c k lt =
     let taken : take (place + 1) es ≡ take place es ++ e ∷ [] = take_more es place e c.elements-test.true ∙ ap (λ (x : Element). take place es ++ x ∷ []) (sym c.index-elements-place.is) in
     let more : map element_view (take (place + 1) es) ≡ before ++ element_view e ∷ [] = ap (map element_view) taken ∙ map_push element_view (take place es) e in
     let here : length before ≡ place = omega (arith, length-map (take place es) element_view, length-take-le place es (omega arith)) in
-    let owned : owner_in (before ++ element_view e ∷ []) k ≡ claimed place e.lines.items k (Some (owner_in before k)) =
-    owner_in-push before (element_view e) k ∙ ap (λ (p : ℕ). claimed p e.lines.items k (Some (owner_in before k))) here in
+    let owned : owner_in (before ++ element_view e ∷ []) k ≡ claimed place e.lines k (Some (owner_in before k)) =
+    owner_in-push before (element_view e) k ∙ ap (λ (p : ℕ). claimed p e.lines k (Some (owner_in before k))) here in
     rw (c.claim.ensures k (omega arith), c.as_slice.ensures, c.elements.invariant k lt, more, owned) refl
