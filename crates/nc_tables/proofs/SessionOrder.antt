@@ -48,5 +48,6 @@ nowhere_is rows place i parted = found_none (λ (s : SessionRow). nat_eq s.neigh
   | inr above ↦ greater_is (get_or rows k d).neighbor place (parted.1 k d above lt)
 ])
 
+-- equal numbers compare as equal
 pub tied_at : (m n : ℕ) → m ≡ n → nat_cmp m n ≡ Equal
 tied_at m n e = grind (arith, nat_tests)

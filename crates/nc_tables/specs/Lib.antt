@@ -1,5 +1,5 @@
 pub mod Order
-pub mod Hops
+pub mod Pieces
 pub mod Base
 pub mod Longest
 pub mod Reach

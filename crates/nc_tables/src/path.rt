@@ -1,42 +1,58 @@
 //! The path of a route.
 
-ghost use Rattle.std.specs.Prelude.{◌≡◌, ◌↔◌, ◌≤◌, ◌<◌, ◌+◌, ◌++◌, ◌==◌, ◌∷◌, [], IsTrue, IfOk, drop, length, slice_get};
+ghost use Rattle.std.specs.Prelude.{◌≡◌, ◌↔◌, ◌≤◌, ◌<◌, ◌+◌, ◌++◌, ◌==◌, ◌∷◌, [], true, false, IsTrue, IfOk, drop, length, slice_get};
 ghost use Rattle.std.specs.List.{list_any};
 ghost use Rattle.nc_types.specs.declared.TheConstants.{PATH_LIMIT};
+ghost use Rattle.nc_tables.specs.Pieces.{own_numbers, shared_numbers, ArePieces};
 
 use std::alloc::{AllocError, Global};
 use std::marker::Model;
 use std::rc::Rc;
 
-// A number of a path with those behind it, which other paths may have too.
+// How many numbers of a path stand together. The paths of most routes are no longer and take no
+// memory of their own, and a path has 40 bytes. Going over a longer one meets other memory once for
+// so many numbers: more would make that faster, and each route larger.
+const PIECE_LEN: usize = 5;
+
+// Numbers in the middle of a path or at its end, and those behind them, which other paths may have
+// too.
 #[derive(Debug, Drop)]
-struct Hop {
-    number: u32,
-    // How many numbers there are from here on.
-    count: u32,
-    rest: Option<Rc<Hop>>,
+struct Piece {
+    numbers: [u32; PIECE_LEN],
+    rest: Option<Rc<Piece>>,
+}
+
+impl Piece {
+    // Whether it has the same numbers, those behind it aside.
+    fn is_like(&self, other: &Piece) -> bool
+        ensures { IsTrue result ↔ (own_numbers self.now ≡ own_numbers other.now) }
+    {
+        self.numbers == other.numbers
+    }
 }
 
 /// The autonomous systems through which a route came, the nearest first; at most
-/// [`nc_types::PATH_LIMIT`] numbers. A path with a number before another one shares the numbers of
-/// that one.
+/// [`nc_types::PATH_LIMIT`] numbers. The nearest ones are its own, and it shares the others with
+/// the paths that it was made of.
 #[derive(Debug, Drop)]
 pub struct Path {
-    first: Option<Rc<Hop>>,
+    // The nearest numbers. They stand at the end; what stands before `start` says nothing.
+    numbers: [u32; PIECE_LEN],
+    start: u16,
+    // How many numbers there are in all.
+    count: u16,
+    rest: Option<Rc<Piece>>,
 }
 
 impl Model for Path {
-    ghost use Rattle.std.specs.Prelude.{List, ℕ, ◌≤◌, [], length};
-    ghost use Rattle.std.specs.Option.{option_map_or, ForSome};
-    ghost use Rattle.nc_types.specs.declared.TheConstants.{PATH_LIMIT};
-    ghost use Rattle.nc_tables.specs.Hops.{hop_numbers, IsCounted};
+    ghost use Rattle.std.specs.Prelude.{List, ℕ, ◌++◌, drop};
+    ghost use Rattle.nc_tables.specs.Pieces.{shared_numbers, IsPath};
 
     ghost Value = { List ℕ };
 
-    ghost view = { λ p. option_map_or (λ hop. hop_numbers hop.value) p.first [] };
+    ghost view = { λ p. drop p.start p.numbers ++ shared_numbers p.rest };
 
-    ghost invariant = { λ p. ForSome p.first (λ hop. IsCounted hop.value
-        × (length (hop_numbers hop.value) ≤ PATH_LIMIT)) };
+    ghost invariant = { λ p. IsPath p.numbers p.start p.count p.rest };
 }
 
 impl Path {
@@ -44,7 +60,12 @@ impl Path {
     pub fn empty() -> Path
         ensures { result ≡ [] }
     {
-        Path { first: None }
+        Path {
+            numbers: [0; PIECE_LEN],
+            start: PIECE_LEN as u16,
+            count: 0,
+            rest: None,
+        }
     }
 
     /// How many numbers it has.
@@ -52,10 +73,7 @@ impl Path {
         ensures count { result ≡ length self.now }
         ensures few { length self.now ≤ PATH_LIMIT }
     {
-        match &self.first {
-            None => 0,
-            Some(hop) => hop.count as usize,
-        }
+        self.count as usize
     }
 
     /// The numbers one after another, the nearest first.
@@ -63,7 +81,8 @@ impl Path {
         ensures { result ≡ self.now }
     {
         Numbers {
-            next: self.first.as_ref(),
+            own: own(&self.numbers, self.start),
+            rest: self.rest.as_ref(),
         }
     }
 
@@ -71,38 +90,21 @@ impl Path {
     pub fn contains(&self, number: u32) -> bool
         ensures { result ≡ list_any (λ n. n == number) self.now }
     {
-        let mut at = &self.first;
-        'hops: while let Some(hop) = at {
-            if hop.number == number {
-                return true;
-            }
-            at = &hop.rest;
-        }
-        false
+        own(&self.numbers, self.start).contains(&number) || is_among(&self.rest, number)
     }
 
     /// Whether another path has the same numbers, in their order.
     pub fn is_same(&self, other: &Path) -> bool
         ensures { IsTrue result ↔ (self.now ≡ other.now) }
     {
-        let mut left = &self.first;
-        let mut right = &other.first;
-        'hops: while let Some(a) = left {
-            match right {
-                None => return false,
-                Some(b) => {
-                    if a.number != b.number {
-                        return false;
-                    }
-                    left = &a.rest;
-                    right = &b.rest;
-                }
-            }
+        if self.count != other.count {
+            return false;
         }
-        match right {
-            None => true,
-            Some(_) => false,
+        // as many numbers leave as many that a path doesn't share
+        if own(&self.numbers, self.start) != own(&other.numbers, other.start) {
+            return false;
         }
+        are_same(&self.rest, &other.rest)
     }
 
     /// The same path. It takes no memory, for it shares the numbers.
@@ -113,12 +115,16 @@ impl Path {
     pub fn share(&self) -> Result<Path, AllocError>
         ensures { IfOk result (λ path. path ≡ self.now) }
     {
-        match &self.first {
-            None => Ok(Path { first: None }),
-            Some(hop) => Ok(Path {
-                first: Some(hop.clone()?),
-            }),
-        }
+        let rest = match &self.rest {
+            None => None,
+            Some(piece) => Some(piece.clone()?),
+        };
+        Ok(Path {
+            numbers: self.numbers,
+            start: self.start,
+            count: self.count,
+            rest,
+        })
     }
 
     /// The path with numbers before it, the first of them nearest.
@@ -148,32 +154,98 @@ impl Path {
         requires { length self < PATH_LIMIT }
         ensures { IfOk result (λ path. path ≡ number ∷ self) }
     {
-        let count = self.len() as u32 + 1;
-        let hop = Hop {
-            number,
-            count,
-            rest: self.first,
+        let count = self.count + 1;
+        if self.start > 0 {
+            let mut numbers = self.numbers;
+            let start = self.start - 1;
+            numbers[start as usize] = number;
+            return Ok(Path {
+                numbers,
+                start,
+                count,
+                rest: self.rest,
+            });
+        }
+        let piece = Piece {
+            numbers: self.numbers,
+            rest: self.rest,
         };
         Ok(Path {
-            first: Some(Rc::new(alloc, hop)?),
+            numbers: [number; PIECE_LEN],
+            start: PIECE_LEN as u16 - 1,
+            count,
+            rest: Some(Rc::new(alloc, piece)?),
         })
+    }
+}
+
+// The numbers of a path that stand from a place on.
+fn own(numbers: &[u32; PIECE_LEN], start: u16) -> &[u32]
+    requires { start ≤ PIECE_LEN }
+    ensures { result.now ≡ drop start numbers.now }
+{
+    &numbers[start as usize..]
+}
+
+// Whether a number is among those that a path shares with others.
+fn is_among(rest: &Option<Rc<Piece>>, number: u32) -> bool
+    requires { ArePieces rest.now }
+    ensures { result ≡ list_any (λ n. n == number) (shared_numbers rest.now) }
+{
+    let mut at = rest;
+    'pieces: while let Some(piece) = at {
+        if piece.numbers.contains(&number) {
+            return true;
+        }
+        at = &piece.rest;
+    }
+    false
+}
+
+// Whether what two paths share with others is the same.
+fn are_same(left: &Option<Rc<Piece>>, right: &Option<Rc<Piece>>) -> bool
+    requires left { ArePieces left.now }
+    requires right { ArePieces right.now }
+    ensures { IsTrue result ↔ (shared_numbers left.now ≡ shared_numbers right.now) }
+{
+    let mut left = left;
+    let mut right = right;
+    'pieces: while let Some(a) = left {
+        match right {
+            None => return false,
+            Some(b) => {
+                if !a.is_like(b) {
+                    return false;
+                }
+                left = &a.rest;
+                right = &b.rest;
+            }
+        }
+    }
+    match right {
+        None => true,
+        Some(_) => false,
     }
 }
 
 /// What is left of the numbers of a path, on the way along it.
 #[derive(Drop)]
 pub struct Numbers<'a> {
-    next: Option<&'a Rc<Hop>>,
+    own: &'a [u32],
+    rest: Option<&'a Rc<Piece>>,
 }
 
 impl<'a> Model for Numbers<'a> {
-    ghost use Rattle.std.specs.Prelude.{List, ℕ, []};
-    ghost use Rattle.std.specs.Option.{option_map_or};
-    ghost use Rattle.nc_tables.specs.Hops.{hop_numbers};
+    ghost use Rattle.std.specs.Prelude.{List, ℕ, ◌++◌, []};
+    ghost use Rattle.std.specs.Option.{option_map_or, ForSome};
+    ghost use Rattle.nc_tables.specs.Pieces.{piece_numbers, IsPiece};
 
     ghost Value = { List ℕ };
 
-    ghost view = { λ n. option_map_or (λ hop. hop_numbers hop.now.value) n.next [] };
+    ghost view = { λ n. n.own.now
+        ++ option_map_or (λ piece. piece_numbers piece.now.value) n.rest [] };
+
+    ghost invariant = { λ n. ForSome n.rest (λ piece. IsPiece piece.now.value) };
 }
 
 impl<'a> Numbers<'a> {
@@ -181,7 +253,10 @@ impl<'a> Numbers<'a> {
     pub fn none() -> Numbers<'a>
         ensures { result ≡ [] }
     {
-        Numbers { next: None }
+        Numbers {
+            own: &[],
+            rest: None,
+        }
     }
 
     /// The next number, which is passed; `None` where none is left.
@@ -189,8 +264,13 @@ impl<'a> Numbers<'a> {
         ensures first { result ≡ slice_get self.old 0 }
         ensures left { self.new ≡ drop 1 self.old }
     {
-        let hop = self.next?;
-        self.next = hop.rest.as_ref();
-        Some(hop.number)
+        if self.own.is_empty() {
+            let piece = self.rest?;
+            self.own = &piece.numbers;
+            self.rest = piece.rest.as_ref();
+        }
+        let (first, others) = self.own.split_first()?;
+        self.own = others;
+        Some(*first)
     }
 }
