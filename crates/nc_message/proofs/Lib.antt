@@ -6,3 +6,6 @@ pub mod Distinct
 pub mod Processes
 pub mod Ends
 pub mod Own
+pub mod Beside
+pub mod Outdone
+pub mod PeerFirst

@@ -2,25 +2,12 @@
 use Rattle.std.proofs.Common.{◌≡◌, ℕ, ◌+◌, ◌-◌, ◌<◌, Bool, true, false, cond, ◌||◌, nat_lt, List, [], ◌∷◌, length, Option, Some, None, IfSome, refl, sym, ap, subst, ◌∙◌, arith}
 use Rattle.std.specs.Prelude.{position}
 use Rattle.std.specs.List.{list_any, position_from, range_with_len}
-use Rattle.std.specs.Option.{is_some}
 use Rattle.std.proofs.lemmas.Bool.Decides.{nat_tests}
 use Rattle.std.proofs.lemmas.Iterator.Adapters.{position_from-zero}
 use Rattle.std.proofs.lemmas.List.FromFn.{length-range_with_len}
 use Rattle.nc_tables.specs.Longest.{places_from}
 
 module _ {A : Type 0} (test : A → Bool) where
-  -- something has a place
-  some_position : (k : ℕ) (xs : List A) → is_some (position_from test k xs) ≡ list_any test xs
-  some_position k [] = refl
-  some_position k (x ∷ xs) = on (test x) (some_position (k + 1) xs)
-    where
-      on : (b : Bool) → is_some (position_from test (k + 1) xs) ≡ list_any test xs → is_some (cond b (Some k) (position_from test (k + 1) xs)) ≡ (b || list_any test xs)
-      on true more = refl
-      on false more = more
-
-  pub is_placed : (xs : List A) → is_some (position test xs) ≡ list_any test xs
-  is_placed xs = ap is_some (position_from-zero test xs) ∙ some_position 0 xs
-
   within_from : (k : ℕ) (xs : List A) → IfSome (position_from test k xs) (λ j. j < k + length xs)
   within_from k [] = tt
   within_from k (x ∷ xs) = on (test x) (position_from test (k + 1) xs) (within_from (k + 1) xs)

@@ -180,6 +180,18 @@ impl<'a> Walk<'a> {
         }
     }
 
+    /// Along the path of a route that stands.
+    pub(crate) fn over(path: &'a Path) -> Walk<'a>
+        ensures { result ≡ path.now }
+    {
+        Walk {
+            before: &[],
+            sender: None,
+            behind: &[],
+            own: path.numbers(),
+        }
+    }
+
     /// Along the path of a route as it is taken.
     pub(crate) fn along(taken: &Taken<'a>) -> Walk<'a>
         ensures { result ≡ (taken_view taken.now).into.route.path }

@@ -4,7 +4,8 @@
 //! let it; the router accepts what isn't its own, leads somewhere and passes its map. Both are told
 //! without memory by [`message_at`] and [`accepted_at`], as the clauses and entries that decided;
 //! [`chosen_anew`] chooses among what is told so, with the router's own networks and active
-//! aggregates, and makes in memory what is chosen alone. The crate stands on `nc_types` for the network, on
+//! aggregates, and makes in memory what is chosen alone. [`add_counting`] tells by a look at what
+//! stands which messages of a neighbor can't change it. The crate stands on `nc_types` for the network, on
 //! `nc_tables` for the tables and the definitions, on `nc_sessions` for the ends of a session, on
 //! `nc_policy` and `nc_community` for maps and communities, on `nc_underlay` for where base tables
 //! lead, and on `nc_select` for the choice. Its contract promises exactly the message, the
@@ -14,8 +15,10 @@
 mod accepting;
 mod candidates;
 mod choosing;
+mod compared;
 mod entries;
 mod given;
+mod idle;
 mod learnt;
 mod links;
 mod messages;
@@ -26,5 +29,6 @@ pub use accepting::{Taken, accepted_at, next_hop};
 pub use choosing::chosen_anew;
 pub use entries::entry;
 pub use given::Given;
+pub use idle::add_counting;
 pub use links::{Heard, Links, Sender};
 pub use messages::{Sent, message_at};

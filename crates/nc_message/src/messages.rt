@@ -4,10 +4,11 @@ ghost use Rattle.std.specs.Prelude.{◌≡◌, ◌+◌, ◌≤◌, ◌<◌, ◌&
 ghost use Rattle.std.specs.Option.{option_map};
 ghost use Rattle.nc_types.specs.Config.{process_view};
 ghost use Rattle.nc_types.specs.declared.TheConstants.{COMMUNITY_LIMIT, PATH_LIMIT};
-ghost use Rattle.nc_tables.specs.Rounds.{best_at, is_held_back, message_at, message_of, out_of};
+ghost use Rattle.nc_tables.specs.Rounds.{best_at, is_held_back, message_at, message_of, out_of, session_by};
 ghost use Rattle.nc_policy.specs.Passing.{communities_by, prepended_by};
 ghost use Rattle.nc_sessions.specs.Views.{link_view};
 ghost use Rattle.nc_message.specs.Given.{AreGiven, IsBetween};
+ghost use Rattle.nc_message.specs.Peers.{best_over};
 ghost use Rattle.nc_message.specs.Views.{message_view, message_by, out_view, IsKnown, IsTold};
 
 use crate::given::{Given, link_of};
@@ -29,14 +30,40 @@ pub struct Sent<'a> {
     pub out: Passing<'a>,
 }
 
-// The best candidate that a router has chosen of a prefix.
-fn best_at(table: &BgpTable, router: RouterId, prefix: Prefix) -> Option<&Chosen>
+/// The best candidate that a router has chosen of a prefix.
+pub(crate) fn best_at(table: &BgpTable, router: RouterId, prefix: Prefix) -> Option<&Chosen>
     requires { router.0 < length table.now }
     ensures best { option_map (λ b. b.now) result ≡ best_at table.now router.0 prefix }
     ensures own { IfSome result (λ b. b.now.route.prefix ≡ prefix) }
 {
     let _rows = table.rows(router);
     table.chosen(router, prefix).first()
+}
+
+// The best candidate of a prefix that the peer of a neighbor statement's session has chosen. Most
+// peers have none, so this is asked before the session's ends are looked up.
+fn best_of_peer<'a>(
+    given: &Given<'_>,
+    table: &'a BgpTable,
+    router: RouterId,
+    place: u32,
+    prefix: Prefix,
+) -> Option<&'a Chosen>
+    requires given { AreGiven given.now }
+    requires table { length table.now ≡ length given.now.network.now }
+    ensures best { option_map (λ b. b.now) result
+        ≡ best_over table.now prefix (session_by given.now.sessions.now router.0 place) }
+    ensures own { IfSome result (λ b. b.now.route.prefix ≡ prefix) }
+{
+    let count = given.network.routers().len();
+    if router.0 as usize >= count {
+        return None;
+    }
+    let session = given.sessions.get(router, place)?;
+    if session.peer.0 as usize >= count {
+        return None;
+    }
+    best_at(table, session.peer, prefix)
 }
 
 // Whether an aggregate of the sender holds a prefix back: it sends itself alone (Cisco IOS command
@@ -129,7 +156,6 @@ fn message_of<'a>(given: &Given<'a>, heard: Heard<'a>, best: &'a Chosen) -> Opti
 /// stay inside (RFC 4271, 9.2), the peer's map denies it, or its path would be longer than
 /// [`nc_types::PATH_LIMIT`]; `None` also where there is no such router, statement, session or
 /// candidate. Takes no memory.
-#[tactic(auto, unfolding(nc_tables::specs::Rounds::message_at))]
 pub fn message_at<'a>(
     given: &Given<'a>,
     table: &'a BgpTable,
@@ -148,7 +174,7 @@ pub fn message_at<'a>(
     ensures sender { IfSome result (IsKnown given.now.base.now router.0) }
     ensures told { IfSome result IsTold }
 {
+    let best = best_of_peer(given, table, router, place, prefix)?;
     let heard = link_of(given, router, place)?;
-    let best = best_at(table, heard.link.session.peer, prefix)?;
     message_of(given, heard, best)
 }

@@ -99,8 +99,8 @@ impl<'a> Told<'a> {
         }
     }
 
-    // Along its path.
-    fn walk(&self) -> Walk<'a>
+    /// Along its path.
+    pub(crate) fn walk(&self) -> Walk<'a>
         ensures { result ≡ self.now.route.path }
     {
         match &self.way {
@@ -110,8 +110,8 @@ impl<'a> Told<'a> {
     }
 }
 
-// Whether what is left of two paths are the same numbers, in their order.
-fn have_same_numbers(a: Walk<'_>, b: Walk<'_>) -> bool
+/// Whether what is left of two paths are the same numbers, in their order.
+pub(crate) fn have_same_numbers(a: Walk<'_>, b: Walk<'_>) -> bool
     ensures { result ≡ bytes_eq a.entry b.entry }
 {
     let mut a = a;

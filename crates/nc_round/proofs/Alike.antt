@@ -1,12 +1,11 @@
 -- A row of the next table is made of what peers choose of its prefix, and of what the router chooses inside its aggregates.
-use Rattle.std.proofs.Common.{◌≡◌, ℕ, suc, ◌<◌, Bool, true, false, cond, ◌&&◌, nat_lt, List, [], ◌∷◌, ◌++◌, length, Option, Some, None, refl, sym, ap, subst, ◌∙◌, arith, inl, inr}
+use Rattle.std.proofs.Common.{◌≡◌, ℕ, suc, ◌<◌, Bool, true, false, cond, ◌&&◌, nat_lt, List, [], ◌∷◌, ◌++◌, length, Contains, Option, Some, None, refl, sym, ap, subst, ◌∙◌, arith, inl, inr}
 use Rattle.std.specs.List.{list_any, slice_index_or}
 use Rattle.std.specs.Option.{option_map, option_map_or, option_and_then}
 use Rattle.std.proofs.lemmas.Bool.{and_parts, and_from, lt-ltb}
 use Rattle.std.proofs.lemmas.List.Elements.{All-nil, All-head, All-tail}
 use Rattle.nc_types.specs.Cidr.{Cidr, same_prefix}
 use Rattle.nc_types.specs.Config.{ConfigView, ProcessView}
-use Rattle.nc_types.specs.Network.{up_at}
 use Rattle.nc_types.specs.declared.config.AggregateStatement.{AggregateStatement}
 use Rattle.nc_types.proofs.Members.{In, contains_by_in, some_passes, passes_some}
 use Rattle.nc_types.proofs.Sameness.{same_prefix_is}
@@ -15,10 +14,11 @@ use Rattle.nc_tables.specs.declared.base.BaseRow.{BaseRow}
 use Rattle.nc_tables.specs.declared.bgp.SessionRow.{SessionRow}
 use Rattle.nc_tables.specs.declared.bgp.Chosen.{Chosen}
 use Rattle.nc_tables.specs.declared.bgp.BgpFrom.TheVariants.{Aggregate}
-use Rattle.nc_tables.specs.Sessions.{first_of, end_at, process_of}
+use Rattle.nc_tables.specs.Sessions.{first_of, process_of}
 use Rattle.nc_tables.specs.Rounds.{BgpRowView, Link, Message, made_from, chosen_in, chosen_at, is_active, is_longer_in, session_by, link_at, message_of, message_at, accepted_of, accepted_at, learnt_from, entry_at, begun, origin_at, aggregate_at, candidates_at, chosen_by, chosen_anew, row_of, row_at}
 use Rattle.nc_tables.proofs.ByPrefix.{same_itself}
 use Rattle.nc_tables.proofs.InOrder.{HaveSome, at_head, past_head}
+use Rattle.nc_message.proofs.PeerFirst.{link_session}
 use Rattle.nc_round.specs.Waking.{aggregates_of}
 use Rattle.nc_round.specs.Changes.{HaveCandidates, ReadAlike}
 use Rattle.nc_round.proofs.Lists.{all_at}
@@ -75,86 +75,62 @@ made_alike {A} {B} f g place (x ∷ xs) same =
     ap (λ (o : Option B). option_map_or (λ (y : B). y ∷ made_from f (suc place) xs) o (made_from f (suc place) xs)) (same place x (inl refl))
     ∙ ap (λ (l : List B). option_map_or (λ (y : B). y ∷ l) (g place x) l) (made_alike f g (suc place) xs (λ k y i. same k y (inr i)))
 
--- ---- the ends of a session
-
-module _ (routers : List ConfigView) (sessions : List (List SessionRow)) where
-  abbrev link_of : ℕ → ℕ → SessionRow → Option Link
-  link_of router place s =
-      option_and_then (λ receiver. option_and_then (λ sender. option_map (λ source.
-      record { session = s; receiver = receiver; sender = sender; source = source.addr.0 })
-      (up_at routers s.peer.0 s.peer_source.0)) (end_at routers s.peer.0 s.peer_neighbor)) (end_at routers router place)
-
-  made_of : (router place : ℕ) (s : SessionRow) (k : Link) → link_of router place s ≡ Some k → s ≡ k.session
-  made_of router place s k e = on_receiver (end_at routers router place) e
-    where
-      on_source : {S : Type 0} (o : Option S) (make : S → Link) → ((x : S) → (make x).session ≡ s) → option_map make o ≡ Some k → s ≡ k.session
-      on_source None make own f = absurd cc
-      on_source (Some x) make own f = let same : make x ≡ k = cc in sym (own x) ∙ ap (λ (l : Link). l.session) same
-
-      on_sender : (o : Option _) (receiver : _) → option_and_then (λ sender. option_map (λ source. record { session = s; receiver = receiver; sender = sender; source = source.addr.0 }) (up_at routers s.peer.0 s.peer_source.0)) o ≡ Some k → s ≡ k.session
-      on_sender None receiver f = absurd cc
-      on_sender (Some sender) receiver f = on_source (up_at routers s.peer.0 s.peer_source.0) (λ source. record { session = s; receiver = receiver; sender = sender; source = source.addr.0 }) (λ x. refl) f
-
-      on_receiver : (o : Option _) → option_and_then (λ receiver. option_and_then (λ sender. option_map (λ source.
-          record { session = s; receiver = receiver; sender = sender; source = source.addr.0 })
-          (up_at routers s.peer.0 s.peer_source.0)) (end_at routers s.peer.0 s.peer_neighbor)) o ≡ Some k → s ≡ k.session
-      on_receiver None f = absurd cc
-      on_receiver (Some receiver) f = on_sender (end_at routers s.peer.0 s.peer_neighbor) receiver f
-
-  pub link_session : (router place : ℕ) (k : Link) → link_at routers sessions router place ≡ Some k → session_by sessions router place ≡ Some k.session
-  link_session router place k e = on (session_by sessions router place) refl e
-    where
-      on : (o : Option SessionRow) → session_by sessions router place ≡ o → option_and_then (link_of router place) o ≡ Some k → session_by sessions router place ≡ Some k.session
-      on None is f = absurd cc
-      on (Some s) is f = is ∙ ap Some (made_of router place s k f)
-
 -- ---- a row
 
 -- the message over a session, where its sender has a table
 abbrev sent_from : List (List BgpRowView) → Cidr → Link → Option Message
 sent_from table prefix k = option_and_then (message_of k) (first_of (chosen_at table k.session.peer.0 prefix))
 
-module _ (routers : List ConfigView) (tables : List (List BaseRow)) (sessions : List (List SessionRow)) (old new : List (List BgpRowView)) (router : ℕ) (prefix : Cidr)
-    (some_old : HaveCandidates old) (some_new : HaveCandidates new) (alike : ReadAlike routers tables sessions old new router prefix) where
-  message_alike : (place : ℕ) → message_at routers tables sessions old router place prefix ≡ message_at routers tables sessions new router place prefix
-  unfolding message_at
-  message_alike place = on (link_at routers sessions router place) refl
-    where
-      on : (o : Option Link) → link_at routers sessions router place ≡ o → option_and_then (sent_from old prefix) o ≡ option_and_then (sent_from new prefix) o
-      on None e = refl
-      on (Some k) e = ap (λ (cs : List Chosen). option_and_then (message_of k) (first_of cs)) (alike.heard place k.session (link_session routers sessions router place k e))
+module _ (routers : List ConfigView) (tables : List (List BaseRow)) (sessions : List (List SessionRow)) (old new : List (List BgpRowView)) (router : ℕ) (prefix : Cidr) where
+  -- over a session of whose peer the same is read the same is learnt
+  module _ (place : ℕ) (heard : (s : SessionRow) → session_by sessions router place ≡ Some s → chosen_at old s.peer.0 prefix ≡ chosen_at new s.peer.0 prefix) where
+    message_alike : message_at routers tables sessions old router place prefix ≡ message_at routers tables sessions new router place prefix
+    unfolding message_at
+    message_alike = on (link_at routers sessions router place) refl
+      where
+        on : (o : Option Link) → link_at routers sessions router place ≡ o → option_and_then (sent_from old prefix) o ≡ option_and_then (sent_from new prefix) o
+        on None e = refl
+        on (Some k) e = ap (λ (cs : List Chosen). option_and_then (message_of k) (first_of cs)) (heard k.session (link_session routers sessions router place k e))
 
-  entry_alike : (place : ℕ) → entry_at routers tables sessions old router place prefix ≡ entry_at routers tables sessions new router place prefix
-  unfolding accepted_at
-  entry_alike place = ap (λ (o : Option Message). option_map (learnt_from place) (option_and_then (accepted_of tables router) o)) (message_alike place)
+    pub entry_alike : entry_at routers tables sessions old router place prefix ≡ entry_at routers tables sessions new router place prefix
+    unfolding accepted_at
+    entry_alike = ap (λ (o : Option Message). option_map (learnt_from place) (option_and_then (accepted_of tables router) o)) message_alike
 
-  have_some : (table : List (List BgpRowView)) → HaveCandidates table → HaveSome (slice_index_or table router [])
-  have_some table each = all_at HaveSome (All-nil (λ (row : BgpRowView). 0 < length row.chosen)) table each router
+  module _ (some_old : HaveCandidates old) (some_new : HaveCandidates new) where
+    have_some : (table : List (List BgpRowView)) → HaveCandidates table → HaveSome (slice_index_or table router [])
+    have_some table each = all_at HaveSome (All-nil (λ (row : BgpRowView). 0 < length row.chosen)) table each router
 
-  aggregate_alike : (place : ℕ) (a : AggregateStatement) → In a (aggregates_of routers router) → aggregate_at routers tables sessions old router place a prefix ≡ aggregate_at routers tables sessions new router place a prefix
-  aggregate_alike place a i = on (same_prefix a.prefix prefix) refl
-    where
-      on : (b : Bool) → same_prefix a.prefix prefix ≡ b → cond (b && is_active old router a) (Some (begun prefix (Aggregate place))) None ≡ cond (b && is_active new router a) (Some (begun prefix (Aggregate place))) None
-      on true same =
-          ap (λ (b : Bool). cond b (Some (begun prefix (Aggregate place))) None)
-          (active_alike a (slice_index_or old router []) (slice_index_or new router []) (have_some old some_old) (have_some new some_new) (λ q longer. alike.inside a q (contains_by_in (aggregates_of routers router) a i) same longer))
-      on false other = refl
+    module _ (inside : (a : AggregateStatement) (q : Cidr) → Contains (aggregates_of routers router) a → same_prefix a.prefix prefix ≡ true → is_longer_in q a.prefix ≡ true → chosen_at old router q ≡ chosen_at new router q) where
+      aggregate_alike : (place : ℕ) (a : AggregateStatement) → In a (aggregates_of routers router) → aggregate_at routers tables sessions old router place a prefix ≡ aggregate_at routers tables sessions new router place a prefix
+      aggregate_alike place a i = on (same_prefix a.prefix prefix) refl
+        where
+          on : (b : Bool) → same_prefix a.prefix prefix ≡ b → cond (b && is_active old router a) (Some (begun prefix (Aggregate place))) None ≡ cond (b && is_active new router a) (Some (begun prefix (Aggregate place))) None
+          on true same =
+              ap (λ (b : Bool). cond b (Some (begun prefix (Aggregate place))) None)
+              (active_alike a (slice_index_or old router []) (slice_index_or new router []) (have_some old some_old) (have_some new some_new) (λ q longer. inside a q (contains_by_in (aggregates_of routers router) a i) same longer))
+          on false other = refl
 
-  candidates_alike : (p : ProcessView) → process_of routers router ≡ Some p → candidates_at routers tables sessions old router p prefix ≡ candidates_at routers tables sessions new router p prefix
-  candidates_alike p e =
-      let own : p.aggregates ≡ aggregates_of routers router = sym (ap (λ (o : Option ProcessView). option_map_or (λ (q : ProcessView). q.aggregates) o []) e) in
-      ap (λ (l : List Chosen). made_from (λ place n. origin_at routers tables sessions old router place n prefix) 0 p.networks ++ (l ++ made_from (λ place n. entry_at routers tables sessions old router place prefix) 0 p.neighbors))
-      (made_alike (λ place a. aggregate_at routers tables sessions old router place a prefix) (λ place a. aggregate_at routers tables sessions new router place a prefix) 0 p.aggregates (λ k a i. aggregate_alike k a (subst (In a) own i)))
-      ∙ ap (λ (l : List Chosen). made_from (λ place n. origin_at routers tables sessions old router place n prefix) 0 p.networks ++ (made_from (λ place a. aggregate_at routers tables sessions new router place a prefix) 0 p.aggregates ++ l))
-      (made_alike (λ place n. entry_at routers tables sessions old router place prefix) (λ place n. entry_at routers tables sessions new router place prefix) 0 p.neighbors (λ k n i. entry_alike k))
+      pub aggregates_alike : (p : ProcessView) → process_of routers router ≡ Some p
+          → made_from (λ place a. aggregate_at routers tables sessions old router place a prefix) 0 p.aggregates ≡ made_from (λ place a. aggregate_at routers tables sessions new router place a prefix) 0 p.aggregates
+      aggregates_alike p e =
+          let own : p.aggregates ≡ aggregates_of routers router = sym (ap (λ (o : Option ProcessView). option_map_or (λ (q : ProcessView). q.aggregates) o []) e) in
+          made_alike (λ place a. aggregate_at routers tables sessions old router place a prefix) (λ place a. aggregate_at routers tables sessions new router place a prefix) 0 p.aggregates (λ k a i. aggregate_alike k a (subst (In a) own i))
 
-  pub chosen_alike : chosen_anew routers tables sessions old router prefix ≡ chosen_anew routers tables sessions new router prefix
-  chosen_alike = on (process_of routers router) refl
-    where
-      on : (o : Option ProcessView) → process_of routers router ≡ o
-          → option_map_or (λ p. chosen_by p (candidates_at routers tables sessions old router p prefix)) o [] ≡ option_map_or (λ p. chosen_by p (candidates_at routers tables sessions new router p prefix)) o []
-      on None e = refl
-      on (Some p) e = ap (chosen_by p) (candidates_alike p e)
+    module _ (alike : ReadAlike routers tables sessions old new router prefix) where
+      candidates_alike : (p : ProcessView) → process_of routers router ≡ Some p → candidates_at routers tables sessions old router p prefix ≡ candidates_at routers tables sessions new router p prefix
+      candidates_alike p e =
+          ap (λ (l : List Chosen). made_from (λ place n. origin_at routers tables sessions old router place n prefix) 0 p.networks ++ (l ++ made_from (λ place n. entry_at routers tables sessions old router place prefix) 0 p.neighbors))
+          (aggregates_alike alike.inside p e)
+          ∙ ap (λ (l : List Chosen). made_from (λ place n. origin_at routers tables sessions old router place n prefix) 0 p.networks ++ (made_from (λ place a. aggregate_at routers tables sessions new router place a prefix) 0 p.aggregates ++ l))
+          (made_alike (λ place n. entry_at routers tables sessions old router place prefix) (λ place n. entry_at routers tables sessions new router place prefix) 0 p.neighbors (λ k n i. entry_alike k (alike.heard k)))
 
-  pub row_alike : row_at routers tables sessions old router prefix ≡ row_at routers tables sessions new router prefix
-  row_alike = ap (row_of prefix) chosen_alike
+      chosen_alike : chosen_anew routers tables sessions old router prefix ≡ chosen_anew routers tables sessions new router prefix
+      chosen_alike = on (process_of routers router) refl
+        where
+          on : (o : Option ProcessView) → process_of routers router ≡ o
+              → option_map_or (λ p. chosen_by p (candidates_at routers tables sessions old router p prefix)) o [] ≡ option_map_or (λ p. chosen_by p (candidates_at routers tables sessions new router p prefix)) o []
+          on None e = refl
+          on (Some p) e = ap (chosen_by p) (candidates_alike p e)
+
+      pub row_alike : row_at routers tables sessions old router prefix ≡ row_at routers tables sessions new router prefix
+      row_alike = ap (row_of prefix) chosen_alike

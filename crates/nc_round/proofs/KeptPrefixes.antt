@@ -1,6 +1,7 @@
 -- A route keeps its prefix: through a map, as it is sent, and as it is accepted.
 use Rattle.std.proofs.Common.{◌≡◌, ℕ, Bool, true, false, cond, not, ◌||◌, List, IfSome, Option, Some, None, refl, ◌∙◌}
 use Rattle.std.specs.Option.{option_and_then, option_map, option_map_or}
+use Rattle.nc_types.proofs.Options.{then_some}
 use Rattle.nc_types.specs.Config.{ConfigView}
 use Rattle.nc_types.specs.declared.config.Reference.{Reference}
 use Rattle.nc_tables.specs.declared.base.BaseRow.{BaseRow}
@@ -11,11 +12,6 @@ use Rattle.nc_tables.specs.Choice.{is_learnt}
 use Rattle.nc_tables.specs.Policy.{Verdict, Deny, Permit, Placed, set_by, is_long, is_over, verdict_by, deciding, names_of, verdict}
 use Rattle.nc_tables.specs.Rounds.{Passed, Link, Message, Accepted, passed, passed_by, carried, outgoing, out_of, sent_inside, sent_outside, sent_over, is_held_back, is_kept_inside, message_with, message_of, is_looped, has_own_hop, is_unresolved, accepted_of}
 use Rattle.nc_message.proofs.Sending.{is_outgoing}
-
--- what holds of what is made of something that may be missing
-pub then_some : {A B : Type 0} (P : A → Type 0) (Q : B → Type 0) (f : A → Option B) → ((x : A) → P x → IfSome (f x) Q) → (o : Option A) → IfSome o P → IfSome (option_and_then f o) Q
-then_some P Q f each None some = tt
-then_some P Q f each (Some x) some = each x some
 
 -- ---- maps
 

@@ -26,7 +26,8 @@ use Rattle.nc_message.proofs.Distinct.{choose_few, made_few}
 use Rattle.nc_message.proofs.Own.{AreOwn, row_own}
 use Rattle.nc_message.proofs.Making.{made_all, kept_all}
 use Rattle.nc_message.proofs.Processes.{has_config}
-use Rattle.nc_round.proofs.KeptPrefixes.{then_some, message_keeps, accepted_keeps}
+use Rattle.nc_types.proofs.Options.{then_some}
+use Rattle.nc_round.proofs.KeptPrefixes.{message_keeps, accepted_keeps}
 use Rattle.nc_round.proofs.Lists.{all_at, all_made, made_at}
 use Rattle.nc_round.proofs.NextRows.{next_count, next_up, next_some}
 

@@ -1,25 +1,31 @@
 -- What rows that changed wake, and the rows that routers begin: all that a round can change.
-use Rattle.std.proofs.Common.{◌≡◌, ◌⊎◌, ℕ, zero, suc, ◌+◌, ◌<◌, ◌≤◌, Bool, true, false, cond, ◌==◌, List, [], ◌∷◌, length, map, get_or, All, Contains, Some, refl, sym, ap, subst, ◌∙◌, arith, inl, inr}
+use Rattle.std.proofs.Common.{◌≡◌, ◌⊎◌, ℕ, zero, suc, ◌+◌, ◌<◌, ◌≤◌, Bool, true, false, cond, ◌==◌, List, [], ◌∷◌, length, map, get_or, All, Contains, Option, Some, None, IfSome, refl, sym, ap, subst, ◌∙◌, arith, inl, inr}
 use Rattle.std.specs.List.{find, slice_get, slice_index_or}
-use Rattle.std.proofs.lemmas.Bool.{cases_lt}
+use Rattle.std.specs.Option.{option_and_then}
+use Rattle.std.proofs.lemmas.Bool.{cases_lt, eqb-true}
 use Rattle.std.proofs.lemmas.List.{get_or_past, length-map}
 use Rattle.nc_types.specs.Cidr.{Cidr, same_prefix}
-use Rattle.nc_types.specs.Config.{ConfigView}
+use Rattle.nc_types.specs.Config.{ConfigView, ProcessView}
+use Rattle.nc_types.specs.WellFormed.{IsWellFormed, IsProcess}
 use Rattle.nc_types.specs.declared.config.AggregateStatement.{AggregateStatement}
-use Rattle.nc_types.proofs.Members.{In, in_left, in_right, in_either, in_map, in_by_map, in_by_contains, contains_by_in, all_by_in}
+use Rattle.nc_types.proofs.Members.{In, in_left, in_right, in_either, in_map, in_by_map, in_by_get, in_by_contains, contains_by_in, all_in, all_by_in}
 use Rattle.nc_types.proofs.Sameness.{same_prefix_is}
 use Rattle.nc_tables.specs.declared.bgp.SessionRow.{SessionRow}
-use Rattle.nc_tables.specs.Rounds.{BgpRowView, AreBgpRows, chosen_in, chosen_at, is_longer_in, session_by, prefixes_in, prefixes, no_routes}
+use Rattle.nc_tables.specs.Rounds.{BgpRowView, AreBgpRows, chosen_in, chosen_at, is_longer_in, session_by, entry_at, chosen_anew, prefixes_in, prefixes, no_routes}
+use Rattle.nc_tables.specs.Sessions.{process_of}
 use Rattle.nc_tables.proofs.ByPrefix.{same_itself}
 use Rattle.nc_message.specs.declared.given.Given.{Given}
 use Rattle.nc_round.specs.Keys.{Key, key, AreInOrder}
 use Rattle.nc_message.specs.Given.{AreGiven}
+use Rattle.nc_message.specs.Idle.{is_idle}
+use Rattle.nc_message.proofs.Beside.{same_beside}
 use Rattle.nc_round.specs.Given.{next}
 use Rattle.nc_round.specs.Waking.{aggregates_of, begun_from, IsWoken}
-use Rattle.nc_round.specs.Changes.{IsRoundOf, ReadAlike}
+use Rattle.nc_round.specs.Changes.{IsRoundOf}
 use Rattle.nc_round.specs.Renewing.{AreEnough}
 use Rattle.nc_round.proofs.Lists.{among}
-use Rattle.nc_round.proofs.Alike.{chosen_alike}
+use Rattle.nc_round.proofs.Alike.{aggregates_alike, entry_alike}
+use Rattle.nc_round.proofs.KeyOrder.{same_key, same_key_is, key_itself}
 use Rattle.nc_round.proofs.NextRows.{nothing_anew, next_count, past_chosen, next_known, next_inside, next_chosen}
 
 found_in : {X : Type 0} (test : X → Bool) (xs : List X) (x : X) → find test xs ≡ Some x → In x xs
@@ -30,10 +36,30 @@ found_in test (y ∷ ys) x e = on (test y) (found_in test ys x) e
     on true rest f = inl cc
     on false rest f = inr (rest f)
 
+found_passes : {X : Type 0} (test : X → Bool) (xs : List X) (x : X) → find test xs ≡ Some x → test x ≡ true
+found_passes test [] x e = absurd cc
+found_passes test (y ∷ ys) x e = on (test y) refl (found_passes test ys x) e
+  where
+    on : (b : Bool) → test y ≡ b → (find test ys ≡ Some x → test x ≡ true) → cond b (Some y) (find test ys) ≡ Some x → test x ≡ true
+    on true passes rest f = let same : y ≡ x = cc in ap test (sym same) ∙ passes
+    on false fails rest f = rest f
+
+-- a process uses one route at least
+uses_one : (routers : List ConfigView) → All IsWellFormed routers → (router : ℕ) (p : ProcessView) → process_of routers router ≡ Some p → 0 < p.max_paths
+uses_one routers formed router p e = on (slice_get routers router) refl e
+  where
+    of_process : (o : Option ProcessView) → IfSome o IsProcess → o ≡ Some p → 0 < p.max_paths
+    of_process None is f = absurd cc
+    of_process (Some q) is f = let same : q ≡ p = cc in let some : 1 ≤ p.max_paths = subst (λ (r : ProcessView). 1 ≤ r.max_paths) same is.paths.0 in omega arith
+
+    on : (o : Option ConfigView) → slice_get routers router ≡ o → option_and_then (λ (c : ConfigView). c.process) o ≡ Some p → 0 < p.max_paths
+    on None is f = absurd cc
+    on (Some c) is f = of_process c.process (all_in IsWellFormed routers formed c (in_by_get routers router c is)).process f
+
 -- ---- what changed
 
 module _ (i : Given) (before table : List (List BgpRowView)) (changed rows : List Key)
-    (are : AreGiven i) (rows_table : All AreBgpRows table) (made : IsRoundOf i.network.now i.base.now i.sessions.now before table changed) where
+    (are : AreGiven i) (formed : All IsWellFormed i.network.now) (rows_table : All AreBgpRows table) (made : IsRoundOf i.network.now i.base.now i.sessions.now before table changed) where
   abbrev routers : List ConfigView
   routers = i.network.now
 
@@ -55,20 +81,49 @@ module _ (i : Given) (before table : List (List BgpRowView)) (changed rows : Lis
   known : (router : ℕ) (p : Cidr) → (In p (prefixes routers) → ⊥) → chosen_at table router p ≡ []
   known router p none = ap (λ (t : List (List BgpRowView)). chosen_at t router p) made.made ∙ next_known routers i.base.now i.sessions.now before router p none
 
-  -- a row that is not woken is made of what didn't change
-  alike : (router : ℕ) (p : Cidr) → (IsWoken routers i.sessions.now changed router p → ⊥) → ReadAlike routers i.base.now i.sessions.now before table router p
-  alike router p none = record { heard = heard_alike; inside = inside_alike }
-    where
-      heard_alike : (place : ℕ) (s : SessionRow) → session_by i.sessions.now router place ≡ Some s → chosen_at before s.peer.0 p ≡ chosen_at table s.peer.0 p
-      heard_alike place s e =
-          let rows_of : List SessionRow = slice_index_or i.sessions.now router [] in
-          made.difference.all s.peer.0 p (λ some. none (inl (record { session = s; own = contains_by_in rows_of s (found_in (λ (x : SessionRow). x.neighbor == place) rows_of s e); row = some })))
+  module _ (router : ℕ) (p : Cidr) (none : IsWoken i table changed router p → ⊥) where
+    abbrev idle_at : ℕ → Bool
+    idle_at place = is_idle routers i.base.now i.sessions.now table router place p
 
-      inside_alike : (a : AggregateStatement) (q : Cidr) → Contains (aggregates_of routers router) a → same_prefix a.prefix p ≡ true → is_longer_in q a.prefix ≡ true → chosen_at before router q ≡ chosen_at table router q
-      inside_alike a q some same longer =
-          made.difference.all router q (λ row. none (inr (record { aggregate = a; inside = q; own = some; same = same_prefix_is a.prefix p same; longer = longer; row = row })))
+    abbrev sessions_there : List SessionRow
+    sessions_there = slice_index_or i.sessions.now router []
 
-  stays : (router : ℕ) (p : Cidr) → (router < length routers → IsWoken routers i.sessions.now changed router p → ⊥) → chosen_at table router p ≡ chosen_at (next i table) router p
+    abbrev Stays : ℕ → Type 0
+    Stays place = (entry_at routers i.base.now i.sessions.now before router place p ≡ entry_at routers i.base.now i.sessions.now table router place p) ⊎ (idle_at place ≡ true)
+
+    -- a row that changed, but isn't heard, says nothing that counts
+    idle_there : (s : SessionRow) → In s sessions_there → In (key s.peer.0 p) changed → (b : Bool) → idle_at s.neighbor ≡ b → idle_at s.neighbor ≡ true
+    idle_there s own row true e = e
+    idle_there s own row false e = absurd (none (inl (record { session = s; own = contains_by_in sessions_there s own; row = contains_by_in changed (key s.peer.0 p) row; counts = e })))
+
+    entry_stays : (place : ℕ) → Stays place
+    entry_stays place = on (session_by i.sessions.now router place) refl
+      where
+        over : (s : SessionRow) → session_by i.sessions.now router place ≡ Some s → In (key s.peer.0 p) changed ⊎ (In (key s.peer.0 p) changed → ⊥) → Stays place
+        over s e (inl row) =
+            let own = found_in (λ (x : SessionRow). x.neighbor == place) sessions_there s e in
+            let same : s.neighbor ≡ place = eqb-true s.neighbor place (found_passes (λ (x : SessionRow). x.neighbor == place) sessions_there s e) in
+            inr (subst (λ (n : ℕ). idle_at n ≡ true) same (idle_there s own row (idle_at s.neighbor) refl))
+        over s e (inr out) =
+            inl (entry_alike routers i.base.now i.sessions.now before table router p place (λ t f.
+            let same : s ≡ t = cc in
+            subst (λ (x : SessionRow). chosen_at before x.peer.0 p ≡ chosen_at table x.peer.0 p) same (made.difference.all s.peer.0 p (λ some. out (in_by_contains changed (key s.peer.0 p) some)))))
+
+        on : (o : Option SessionRow) → session_by i.sessions.now router place ≡ o → Stays place
+        on None e = inl (entry_alike routers i.base.now i.sessions.now before table router p place (λ t f. absurd cc))
+        on (Some s) e = over s e (among same_key same_key_is key_itself (key s.peer.0 p) changed)
+
+    inside_alike : (a : AggregateStatement) (q : Cidr) → Contains (aggregates_of routers router) a → same_prefix a.prefix p ≡ true → is_longer_in q a.prefix ≡ true → chosen_at before router q ≡ chosen_at table router q
+    inside_alike a q some same longer =
+        made.difference.all router q (λ row. none (inr (record { aggregate = a; inside = q; own = some; same = same_prefix_is a.prefix p same; longer = longer; row = row })))
+
+    -- a row that is not woken is made of what didn't change, and of what doesn't count
+    anew_stays : chosen_at table router p ≡ chosen_anew routers i.base.now i.sessions.now before router p → chosen_anew routers i.base.now i.sessions.now before router p ≡ chosen_anew routers i.base.now i.sessions.now table router p
+    anew_stays stands =
+        same_beside routers i.base.now i.sessions.now before table router p (uses_one routers formed router) stands
+        (aggregates_alike routers i.base.now i.sessions.now before table router p made.some (λ k d lt. (rows_table k d lt).some) inside_alike) entry_stays
+
+  stays : (router : ℕ) (p : Cidr) → (router < length routers → IsWoken i table changed router p → ⊥) → chosen_at table router p ≡ chosen_at (next i table) router p
   stays router p none = elim (cases_lt router (length routers)) [
     | inl lt ↦ by_prefix lt (among same_prefix same_prefix_is same_itself p (prefixes routers))
     | inr le ↦ none_beyond table table_count router p le ∙ sym (past_chosen routers i.base.now i.sessions.now table router p le)
@@ -76,14 +131,13 @@ module _ (i : Given) (before table : List (List BgpRowView)) (changed rows : Lis
     where
       by_prefix : router < length routers → In p (prefixes routers) ⊎ (In p (prefixes routers) → ⊥) → chosen_at table router p ≡ chosen_at (next i table) router p
       by_prefix lt (inl j) =
-          ap (λ (t : List (List BgpRowView)). chosen_at t router p) made.made
-          ∙ next_inside routers i.base.now i.sessions.now before router p lt j
-          ∙ chosen_alike routers i.base.now i.sessions.now before table router p made.some (λ k d lt. (rows_table k d lt).some) (alike router p (none lt))
-          ∙ sym (next_inside routers i.base.now i.sessions.now table router p lt j)
+          let stands : chosen_at table router p ≡ chosen_anew routers i.base.now i.sessions.now before router p =
+          ap (λ (t : List (List BgpRowView)). chosen_at t router p) made.made ∙ next_inside routers i.base.now i.sessions.now before router p lt j in
+          stands ∙ anew_stays router p (none lt) stands ∙ sym (next_inside routers i.base.now i.sessions.now table router p lt j)
       by_prefix lt (inr out) = known router p out ∙ sym (next_known routers i.base.now i.sessions.now table router p out)
 
   -- these rows are enough
-  pub enough : AreInOrder rows → All (λ (k : Key). k.0.0 < length routers) rows → ((router : ℕ) (p : Cidr) → router < length routers → IsWoken routers i.sessions.now changed router p → Contains rows (key router p))
+  pub enough : AreInOrder rows → All (λ (k : Key). k.0.0 < length routers) rows → ((router : ℕ) (p : Cidr) → router < length routers → IsWoken i table changed router p → Contains rows (key router p))
       → AreEnough i table rows
   enough up within woken = record {
     count = table_count;

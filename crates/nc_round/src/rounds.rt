@@ -31,7 +31,8 @@ pub fn first_round(alloc: Global, given: Given<'_>) -> Result<(BgpTable, Changed
 /// One more round: the table that comes from one that a round made, given the rows in which that
 /// one differs from the table before it, and the rows in which the new one differs. It takes time
 /// in proportion to the rows that changed, the sessions over which they are heard, and the
-/// aggregates around them; a row that can't differ is neither copied nor visited.
+/// aggregates around them; a row that can't differ is neither copied nor visited, and one whose
+/// router is told nothing that counts beside what stands isn't made anew.
 ///
 /// # Errors
 ///
@@ -50,7 +51,8 @@ pub fn round_changed(
     ensures changed { IfOk result (λ r. IsDifference old r.0 r.1.rows.items) }
 {
     let _count = old.count();
-    let keys = woken_in_order(alloc, given.network, given.sessions, &changed.rows)?;
+    let _routers = given.network.routers();
+    let keys = woken_in_order(alloc, &given, &old, &changed.rows)?;
     let made = renew(alloc, given, old, &keys)?;
     Ok(made)
 }

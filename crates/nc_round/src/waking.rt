@@ -1,15 +1,18 @@
 //! Which rows may come from rows that changed, so that they are woken.
 
-ghost use Rattle.std.specs.Prelude.{◌≡◌, ◌↔◌, ◌<◌, ◌++◌, ℕ, [], All, Contains, filter, length, map, IfOk, OnOk, slice_index_or};
+ghost use Rattle.std.specs.Prelude.{◌≡◌, ◌↔◌, ◌<◌, ◌++◌, ℕ, All, Contains, filter, length, map, IfOk, OnOk};
+ghost use Rattle.std.specs.Prelude.{slice_index_or, []};
 ghost use Rattle.std.specs.List.{flat_map, list_any};
 ghost use Rattle.nc_types.specs.Cidr.{Cidr};
 ghost use Rattle.nc_types.specs.Config.{config_view};
 ghost use Rattle.nc_tables.specs.Rounds.{is_longer_in, prefixes_in};
+ghost use Rattle.nc_message.specs.Given.{AreGiven};
 ghost use Rattle.nc_round.specs.Keys.{Key, key, AreInOrder};
-ghost use Rattle.nc_round.specs.Waking.{aggregates_of, begun_from, woken_at, IsWoken};
+ghost use Rattle.nc_round.specs.Waking.{aggregates_of, begun_from, heard_over, woken_at, IsWoken};
 
 use crate::by_router::{by_router, changed_at};
-use nc_tables::{SessionRow, Sessions, is_longer_in};
+use nc_message::{Given, add_counting};
+use nc_tables::{BgpTable, SessionRow, is_longer_in};
 use nc_types::{AggregateStatement, Network, NetworkStatement, Prefix, RouterConfig, RouterId};
 use std::alloc::{AllocError, Global};
 
@@ -24,17 +27,26 @@ fn aggregates_of(network: &Network, router: RouterId) -> &[AggregateStatement]
     }
 }
 
-// Adds the prefixes that changed at the peers of a router's sessions.
+// Adds the prefixes that changed at the peers of a router's sessions, where what it learns of them
+// now may count.
 fn add_heard(
     prefixes: &mut Vec<Prefix>,
+    given: &Given<'_>,
+    table: &BgpTable,
+    router: RouterId,
     rows: &[SessionRow],
     lists: &[Vec<Prefix>],
 ) -> Result<(), AllocError>
+    requires given { AreGiven given.now }
+    requires table { length table.now ≡ length given.now.network.now }
+    requires router { router.0 < length given.now.network.now }
     ensures { OnOk result (prefixes.new.items ≡ prefixes.old.items
-        ++ flat_map (λ s. slice_index_or (map (λ l. l.items) lists.now) s.peer.0 []) rows.now) }
+        ++ flat_map (heard_over given.now table.now (map (λ l. l.items) lists.now) router.0)
+        rows.now) }
 {
     'rows: for row in rows {
-        prefixes.extend_from_slice(changed_at(lists, row.peer))?;
+        let changed = changed_at(lists, row.peer);
+        add_counting(prefixes, given, table, router, row.neighbor, changed)?;
     }
     Ok(())
 }
@@ -91,27 +103,26 @@ fn wake_each(
 fn wake(
     woken: &mut Vec<(RouterId, Prefix)>,
     noted: &mut Vec<Prefix>,
-    network: &Network,
-    sessions: &Sessions,
+    given: &Given<'_>,
+    table: &BgpTable,
     lists: &[Vec<Prefix>],
     router: RouterId,
 ) -> Result<(), AllocError>
-    requires sessions { length sessions.now ≡ length network.now }
-    requires router { router.0 < length network.now }
+    requires given { AreGiven given.now }
+    requires table { length table.now ≡ length given.now.network.now }
+    requires router { router.0 < length given.now.network.now }
     ensures kept { OnOk result ((k : Key) → Contains woken.old.items k
         → Contains woken.new.items k) }
-    ensures woken { OnOk result ((p : Cidr) → Contains (woken_at network.now sessions.now
+    ensures woken { OnOk result ((p : Cidr) → Contains (woken_at given.now table.now
         (map (λ l. l.items) lists.now) router.0) p → Contains woken.new.items (router, p)) }
     ensures within { OnOk result ((n : ℕ) → router.0 < n
         → All (λ k. k.0.0 < n) woken.old.items → All (λ k. k.0.0 < n) woken.new.items) }
 {
+    let rows = given.sessions.rows(router);
+    let aggregates = aggregates_of(given.network, router);
     noted.clear();
-    add_heard(noted, sessions.rows(router), lists)?;
-    add_around(
-        noted,
-        aggregates_of(network, router),
-        changed_at(lists, router),
-    )?;
+    add_heard(noted, given, table, router, rows, lists)?;
+    add_around(noted, aggregates, changed_at(lists, router))?;
     keep_once(noted);
     wake_each(woken, router, noted)?;
     Ok(())
@@ -120,21 +131,24 @@ fn wake(
 // All rows that may come from rows that changed, given the prefixes of these at each router.
 fn woken(
     alloc: Global,
-    network: &Network,
-    sessions: &Sessions,
+    given: &Given<'_>,
+    table: &BgpTable,
     lists: &[Vec<Prefix>],
 ) -> Result<Vec<(RouterId, Prefix)>, AllocError>
-    requires sessions { length sessions.now ≡ length network.now }
-    ensures woken { IfOk result (λ keys. (router : ℕ) (p : Cidr) → router < length network.now
-        → Contains (woken_at network.now sessions.now (map (λ l. l.items) lists.now) router) p
+    requires given { AreGiven given.now }
+    requires table { length table.now ≡ length given.now.network.now }
+    ensures woken { IfOk result (λ keys. (router : ℕ) (p : Cidr)
+        → router < length given.now.network.now
+        → Contains (woken_at given.now table.now (map (λ l. l.items) lists.now) router) p
         → Contains keys.items (key router p)) }
-    ensures within { IfOk result (λ keys. All (λ k. k.0.0 < length network.now) keys.items) }
+    ensures within { IfOk result (λ keys.
+        All (λ k. k.0.0 < length given.now.network.now) keys.items) }
 {
     let mut keys = Vec::new(alloc);
     let mut noted = Vec::new(alloc);
-    'routers: for router in 0..network.routers().len() {
+    'routers: for router in 0..given.network.routers().len() {
         let router = RouterId(router as u32);
-        wake(&mut keys, &mut noted, network, sessions, lists, router)?;
+        wake(&mut keys, &mut noted, given, table, lists, router)?;
     }
     Ok(keys)
 }
@@ -149,23 +163,26 @@ fn in_order(mut keys: Vec<(RouterId, Prefix)>) -> Vec<(RouterId, Prefix)>
     keys
 }
 
-/// The rows that may come from rows that changed, in order, each once.
+/// The rows that may come from rows that changed in a table, in order, each once.
 pub(crate) fn woken_in_order(
     alloc: Global,
-    network: &Network,
-    sessions: &Sessions,
+    given: &Given<'_>,
+    table: &BgpTable,
     changed: &[(RouterId, Prefix)],
 ) -> Result<Vec<(RouterId, Prefix)>, AllocError>
-    requires sessions { length sessions.now ≡ length network.now }
+    requires given { AreGiven given.now }
+    requires table { length table.now ≡ length given.now.network.now }
     ensures ordered { IfOk result (λ keys. AreInOrder keys.items) }
-    ensures woken { IfOk result (λ keys. (router : ℕ) (p : Cidr) → router < length network.now
-        → (All (λ k. k.0.0 < length network.now) changed.now)
-        → IsWoken network.now sessions.now changed.now router p
+    ensures woken { IfOk result (λ keys. (router : ℕ) (p : Cidr)
+        → router < length given.now.network.now
+        → (All (λ k. k.0.0 < length given.now.network.now) changed.now)
+        → IsWoken given.now table.now changed.now router p
         → Contains keys.items (key router p)) }
-    ensures within { IfOk result (λ keys. All (λ k. k.0.0 < length network.now) keys.items) }
+    ensures within { IfOk result (λ keys.
+        All (λ k. k.0.0 < length given.now.network.now) keys.items) }
 {
-    let lists = by_router(alloc, network.routers().len(), changed)?;
-    let keys = woken(alloc, network, sessions, &lists)?;
+    let lists = by_router(alloc, given.network.routers().len(), changed)?;
+    let keys = woken(alloc, given, table, &lists)?;
     Ok(in_order(keys))
 }
 

@@ -14,6 +14,7 @@ use Rattle.nc_tables.specs.declared.bgp.Chosen.{Chosen}
 use Rattle.nc_tables.specs.declared.bgp.BgpFrom.{BgpFrom}
 use Rattle.nc_tables.specs.declared.bgp.BgpFrom.TheVariants.{Origin, Aggregate, Entry}
 use Rattle.nc_tables.specs.Choice.{class_of, origin_rank, internal_rank, is_learnt, is_external, is_equal_to, same_path, preference_cmp, Ranked, by_preference}
+use Rattle.nc_tables.proofs.SessionOrder.{tied_at}
 use Rattle.nc_select.specs.declared.choice.Sender.{Sender}
 use Rattle.nc_select.specs.Senders.{sender_of}
 use Rattle.nc_select.proofs.Ranking.{place_cmp, sorted_none, sorted_more, sorted_by_preference}
@@ -78,9 +79,6 @@ equal_itself relax x e =
 abbrev pub sender_cmp : Sender → Sender → Ordering
 sender_cmp a b = ordering_then (nat_cmp a.id.0 b.id.0) (ordering_then (nat_cmp a.address.0 b.address.0) (nat_cmp a.place b.place))
 
-tied : (m n : ℕ) → m ≡ n → nat_cmp m n ≡ Equal
-tied m n e = grind (arith, nat_tests)
-
 then_then : (o p q : Ordering) → ordering_then (ordering_then o p) q ≡ ordering_then o (ordering_then p q)
 then_then Less p q = refl
 then_then Equal p q = refl
@@ -95,12 +93,12 @@ by_sender : (best x y : Ranked) → IsAsGood best.candidate x.candidate → IsAs
 unfolding preference_cmp
 by_sender best x y g h =
     all_tied _ _ _ _ _ _ (nat_cmp x.candidate.sender_id.0 y.candidate.sender_id.0) (nat_cmp x.candidate.sender.0 y.candidate.sender.0) (nat_cmp x.place y.place)
-    (tied _ _ (g.class ∙ sym h.class))
-    (tied _ _ (h.preference ∙ sym g.preference))
-    (tied _ _ (g.path ∙ sym h.path))
-    (tied _ _ (g.origin ∙ sym h.origin))
-    (tied _ _ (g.metric ∙ sym h.metric))
-    (tied _ _ (g.internal ∙ sym h.internal))
+    (tied_at _ _ (g.class ∙ sym h.class))
+    (tied_at _ _ (h.preference ∙ sym g.preference))
+    (tied_at _ _ (g.path ∙ sym h.path))
+    (tied_at _ _ (g.origin ∙ sym h.origin))
+    (tied_at _ _ (g.metric ∙ sym h.metric))
+    (tied_at _ _ (g.internal ∙ sym h.internal))
 
 module _ (relax : Bool) (best : Chosen) where
   abbrev pub is_equal : Ranked → Bool

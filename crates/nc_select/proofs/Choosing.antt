@@ -50,6 +50,19 @@ module _ (candidates : List Chosen) (best : ℕ) (d : Chosen) (is : IsFirstBest 
       sym (ap (λ (xs : List Ranked). places (used_with limit relax xs)) first.1
       ∙ ap (λ (t : Bool). places (cond t (take limit (b ∷ filter (is_equal relax b.candidate) first.0)) (b ∷ []))) e)
 
+  pub chosen_first : limit ≡ 1 → best ∷ [] ≡ choose candidates limit relax
+  unfolding choose
+  chosen_first e =
+      let first = best_first candidates best d is in
+      let b = ranked candidates best d in
+      sym (ap (λ (xs : List Ranked). places (used_with limit relax xs)) first.1
+      ∙ ap (λ (n : ℕ). places (used_with n relax (b ∷ first.0))) e
+      ∙ one (filter (is_equal relax b.candidate) first.0) (is_external b.candidate))
+    where
+      one : (others : List Ranked) (t : Bool) → places (cond t (take 1 (ranked candidates best d ∷ others)) (ranked candidates best d ∷ [])) ≡ best ∷ []
+      one others true = refl
+      one others false = refl
+
   pub chosen_many : is_external (get_or candidates best d) ≡ true → places (take limit (filter (is_equal relax (get_or candidates best d)) (by_preference candidates))) ≡ choose candidates limit relax
   unfolding choose
   chosen_many e =

@@ -4,3 +4,4 @@ pub mod Best
 pub mod Alike
 pub mod Sorting
 pub mod Choosing
+pub mod Unchosen

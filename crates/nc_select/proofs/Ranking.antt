@@ -49,7 +49,7 @@ sorted_more cmp x xs below sorted = (below, sorted)
 pub each_by : {X : Type 0} (P Q : X → Type 0) → ((x : X) → P x → Q x) → (xs : List X) → AllByRecursion P xs → AllByRecursion Q xs
 each_by P Q step xs each = recursion_from_All Q xs (All-weaker P Q step xs (All-from_recursion P xs each))
 
-each_inserted : {X : Type 0} (cmp : X → X → Ordering) (P : X → Type 0) (x : X) (ys : List X) → P x → AllByRecursion P ys → AllByRecursion P (insert cmp x ys)
+pub each_inserted : {X : Type 0} (cmp : X → X → Ordering) (P : X → Type 0) (x : X) (ys : List X) → P x → AllByRecursion P ys → AllByRecursion P (insert cmp x ys)
 each_inserted cmp P x [] p each = (p, tt)
 each_inserted cmp P x (y ∷ ys) p each = by_test (each_inserted cmp P x ys p each.1) (is_gt (cmp x y))
   where
@@ -57,7 +57,7 @@ each_inserted cmp P x (y ∷ ys) p each = by_test (each_inserted cmp P x ys p ea
     by_test rest true = (each.0, rest)
     by_test rest false = (p, each)
 
-each_in_order : {X : Type 0} (cmp : X → X → Ordering) (P : X → Type 0) (xs : List X) → AllByRecursion P xs → AllByRecursion P (in_order cmp xs)
+pub each_in_order : {X : Type 0} (cmp : X → X → Ordering) (P : X → Type 0) (xs : List X) → AllByRecursion P xs → AllByRecursion P (in_order cmp xs)
 each_in_order cmp P [] each = tt
 each_in_order cmp P (x ∷ xs) each = each_inserted cmp P x (in_order cmp xs) each.0 (each_in_order cmp P xs each.1)
 

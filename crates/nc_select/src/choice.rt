@@ -102,8 +102,8 @@ fn alone(alloc: Global, place: u32) -> Result<Vec<u32>, AllocError>
 ///
 /// That is the best one by [`preference_cmp`], and, where it was learnt from another autonomous
 /// system, those to which [`is_equal_to`] likens it, at most `limit` in all (`maximum-paths`).
-/// There are fewer than 2^32 candidates. Where one candidate alone is there, or the best was
-/// begun or learnt inside, no more memory is taken than the list of places needs.
+/// There are fewer than 2^32 candidates. Where one candidate alone is there or may be used, or the
+/// best was begun or learnt inside, no more memory is taken than the list of places needs.
 ///
 /// # Errors
 ///
@@ -127,6 +127,10 @@ pub fn choose<C: Candidate>(
     }
     let place = best_place(candidates);
     let best = &candidates[place];
+    if limit == 1 {
+        let single = alone(alloc, place as u32)?;
+        return Ok(single);
+    }
     if is_external(best) {
         let used = used_with(alloc, candidates, best, limit, relax)?;
         return Ok(used);

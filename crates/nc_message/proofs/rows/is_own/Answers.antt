@@ -6,7 +6,7 @@ use Rattle.nc_types.specs.Network.{has_address}
 use Rattle.nc_types.specs.declared.config.IfaceId.{IfaceId}
 use Rattle.nc_types.proofs.Placing.{same_some}
 use Rattle.nc_sessions.specs.Views.{link_view}
-use Rattle.nc_message.proofs.Lists.{is_placed}
+use Rattle.nc_types.proofs.Lookups.{is_placed}
 use Rattle.nc_message.proofs.rows.is_own.Goals as goal
 
 pub returns : goal.returns

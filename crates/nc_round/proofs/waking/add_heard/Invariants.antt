@@ -1,9 +1,10 @@
-use Rattle.std.proofs.Common.{◌≡◌, ◌++◌, [], map, drop, slice_index_or}
+use Rattle.std.proofs.Common.{◌≡◌, ◌++◌, map, drop}
 use Rattle.std.specs.List.{flat_map}
+use Rattle.nc_round.specs.Waking.{heard_over}
 use Rattle.nc_round.proofs.waking.add_heard.Given as goal
 
--- what is noted so far and what changed at the peers that are left are all
+-- what is noted so far and what is heard from the peers that are left are all
 abbrev pub invariant-rows : goal.invariant-rows
 invariant-rows l =
-    l.prefixes.items ++ flat_map (λ s. slice_index_or (map (λ list. list.items) l.lists) s.peer.0 []) (drop l.row-index l.rows)
-    ≡ l.fn.prefixes.items ++ flat_map (λ s. slice_index_or (map (λ list. list.items) l.lists) s.peer.0 []) l.rows
+    l.prefixes.items ++ flat_map (heard_over l.given l.table (map (λ list. list.items) l.lists) l.router.0) (drop l.row-index l.rows)
+    ≡ l.fn.prefixes.items ++ flat_map (heard_over l.given l.table (map (λ list. list.items) l.lists) l.router.0) l.rows

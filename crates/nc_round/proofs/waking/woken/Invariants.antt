@@ -7,6 +7,6 @@ use Rattle.nc_round.proofs.waking.woken.Given as goal
 abbrev pub invariant-routers : goal.invariant-routers
 invariant-routers l = record {
   -- the rows of the routers so far are woken
-  woken : (router : ℕ) (p : Cidr) → router < l.router → Contains (woken_at l.network l.sessions (map (λ list. list.items) l.lists) router) p → Contains l.keys.items (key router p);
-  within : All (λ k. k.0.0 < length l.network) l.keys.items;
+  woken : (router : ℕ) (p : Cidr) → router < l.router → Contains (woken_at l.given l.table (map (λ list. list.items) l.lists) router) p → Contains l.keys.items (key router p);
+  within : All (λ k. k.0.0 < length l.given.network.now) l.keys.items;
 }

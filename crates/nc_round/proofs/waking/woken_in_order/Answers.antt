@@ -1,4 +1,4 @@
-use Rattle.std.proofs.Common.{◌≡◌, ℕ, ◌<◌, ◌==◌, Bool, cond, Vec, Global, List, [], All, Contains, Option, Some, None, length, map, filter, slice_index_or, refl, sym, ap, subst, arith, inl, inr}
+use Rattle.std.proofs.Common.{◌≡◌, ℕ, ◌<◌, ◌==◌, Bool, cond, not, Vec, Global, List, [], All, Contains, Option, Some, None, length, map, filter, slice_index_or, refl, sym, ap, subst, arith, inl, inr}
 use Rattle.std.specs.List.{flat_map, list_any}
 use Rattle.std.proofs.lemmas.Bool.{eq-eqb}
 use Rattle.std.proofs.lemmas.List.{length-map}
@@ -7,9 +7,11 @@ use Rattle.nc_types.specs.Config.{ConfigView, config_view}
 use Rattle.nc_types.specs.declared.config.AggregateStatement.{AggregateStatement}
 use Rattle.nc_types.proofs.Members.{In, in_left, in_right, in_map, in_filter, in_by_contains, contains_by_in, all_in, all_by_in, passes_some}
 use Rattle.nc_tables.specs.declared.bgp.SessionRow.{SessionRow}
-use Rattle.nc_tables.specs.Rounds.{is_longer_in}
+use Rattle.nc_tables.specs.Rounds.{BgpRowView, is_longer_in}
+use Rattle.nc_message.specs.Idle.{is_idle}
+use Rattle.nc_message.specs.declared.given.Given.{Given}
 use Rattle.nc_round.specs.Keys.{Key, key}
-use Rattle.nc_round.specs.Waking.{aggregates_of, changed_at, woken_at, IsHeard, IsAround, IsWoken}
+use Rattle.nc_round.specs.Waking.{aggregates_of, changed_at, heard_over, woken_at, IsHeard, IsAround, IsWoken}
 use Rattle.nc_round.proofs.Lists.{in_flat_map, in_filter_map}
 use Rattle.nc_round.proofs.waking.woken_in_order.Goals as goal
 
@@ -18,54 +20,59 @@ there : (changed : List Key) (router : ℕ) (p : Cidr) → In (key router p) cha
 there changed router p i =
     in_filter_map (λ (k : Key). cond {A = Option Cidr} (k.0.0 == router) (Some k.1) None) changed (key router p) p i (ap (λ (b : Bool). cond {A = Option Cidr} b (Some p) None) (eq-eqb router router refl))
 
-module _ (routers : List ConfigView) (sessions : List (List SessionRow)) (changed : List Key) (lists : List (List Cidr)) (within : All (λ (k : Key). k.0.0 < length routers) changed)
-    (each : (r : ℕ) → r < length routers → slice_index_or lists r [] ≡ changed_at changed r) where
+module _ (i : Given) (table : List (List BgpRowView)) (changed : List Key) (lists : List (List Cidr)) (within : All (λ (k : Key). k.0.0 < length i.network.now) changed)
+    (each : (r : ℕ) → r < length i.network.now → slice_index_or lists r [] ≡ changed_at changed r) where
   -- so it is in the list of the router
   listed : (router : ℕ) (p : Cidr) → Contains changed (key router p) → In p (slice_index_or lists router [])
   listed router p some =
-      let i = in_by_contains changed (key router p) some in
-      subst (In p) (sym (each router (all_in (λ (k : Key). k.0.0 < length routers) changed within (key router p) i))) (there changed router p i)
+      let j = in_by_contains changed (key router p) some in
+      subst (In p) (sym (each router (all_in (λ (k : Key). k.0.0 < length i.network.now) changed within (key router p) j))) (there changed router p j)
 
   module _ (router : ℕ) (p : Cidr) where
+    abbrev sessions_there : List SessionRow
+    sessions_there = slice_index_or i.sessions.now router []
+
     abbrev heard : List Cidr
-    heard = flat_map (λ (s : SessionRow). slice_index_or lists s.peer.0 []) (slice_index_or sessions router [])
+    heard = flat_map (heard_over i table lists router) sessions_there
 
     abbrev is_around : AggregateStatement → Bool
     is_around a = list_any (λ (q : Cidr). is_longer_in q a.prefix) (slice_index_or lists router [])
 
     abbrev around : List AggregateStatement
-    around = filter is_around (aggregates_of routers router)
+    around = filter is_around (aggregates_of i.network.now router)
 
-    by_session : IsHeard sessions changed router p → In p (woken_at routers sessions lists router)
+    by_session : IsHeard i table changed router p → In p (woken_at i table lists router)
     by_session h =
         in_left heard (map (λ (a : AggregateStatement). a.prefix) around) p
-        (in_flat_map (λ (s : SessionRow). slice_index_or lists s.peer.0 []) (slice_index_or sessions router []) h.session p (in_by_contains (slice_index_or sessions router []) h.session h.own) (listed h.session.peer.0 p h.row))
+        (in_flat_map (heard_over i table lists router) sessions_there h.session p (in_by_contains sessions_there h.session h.own)
+        (in_filter (λ (q : Cidr). not (is_idle i.network.now i.base.now i.sessions.now table router h.session.neighbor q)) (slice_index_or lists h.session.peer.0 []) p (listed h.session.peer.0 p h.row) (ap not h.counts)))
 
-    by_aggregate : IsAround routers changed router p → In p (woken_at routers sessions lists router)
+    by_aggregate : IsAround i.network.now changed router p → In p (woken_at i table lists router)
     by_aggregate h =
         in_right heard (map (λ (a : AggregateStatement). a.prefix) around) p
         (subst (λ (q : Cidr). In q (map (λ (a : AggregateStatement). a.prefix) around)) h.same
         (in_map (λ (a : AggregateStatement). a.prefix) around h.aggregate
-        (in_filter is_around (aggregates_of routers router) h.aggregate (in_by_contains (aggregates_of routers router) h.aggregate h.own)
+        (in_filter is_around (aggregates_of i.network.now router) h.aggregate (in_by_contains (aggregates_of i.network.now router) h.aggregate h.own)
         (passes_some (λ (q : Cidr). is_longer_in q h.aggregate.prefix) (slice_index_or lists router []) h.inside (listed router h.inside h.row) h.longer))))
 
-    is_woken : IsWoken routers sessions changed router p → Contains (woken_at routers sessions lists router) p
-    is_woken (inl h) = contains_by_in (woken_at routers sessions lists router) p (by_session h)
-    is_woken (inr h) = contains_by_in (woken_at routers sessions lists router) p (by_aggregate h)
+    is_woken : IsWoken i table changed router p → Contains (woken_at i table lists router) p
+    is_woken (inl h) = contains_by_in (woken_at i table lists router) p (by_session h)
+    is_woken (inr h) = contains_by_in (woken_at i table lists router) p (by_aggregate h)
 
 pub returns-clause-woken : goal.returns-clause-woken
 returns-clause-woken c router p lt within woken =
-    let network = c.args.network.now in
+    let i = c.args.given.now in
+    let network = i.network.now in
     let lists : List (List Cidr) = map (λ l. l.items) c.deref.result.now in
     let each : (r : ℕ) → r < length network → slice_index_or lists r [] ≡ changed_at c.args.changed.now r =
     λ r less. subst (λ (ls : List (Vec Cidr Global)). slice_index_or (map (λ l. l.items) ls) r [] ≡ changed_at c.args.changed.now r) (sym c.deref.ensures.value)
     (c.in_ok-lists.ensures.each r (omega (arith, length-map c.routers.result.now config_view, ap (length {A = ConfigView}) c.routers.ensures.routers))) in
     (c.in_order.ensures.same (key router p)).1
-    (c.in_ok-keys.ensures.woken router p lt (is_woken network c.args.sessions.now c.args.changed.now lists within each router p woken))
+    (c.in_ok-keys.ensures.woken router p lt (is_woken i c.args.table.now c.args.changed.now lists within each router p woken))
 
 pub returns-clause-within : goal.returns-clause-within
 returns-clause-within c =
     let keys = c.in_ok-keys.keys.items in
     let rows = c.in_order.result.items in
-    all_by_in (λ (k : Key). k.0.0 < length c.args.network.now) rows
-    (λ k j. all_in (λ (q : Key). q.0.0 < length c.args.network.now) keys c.in_ok-keys.ensures.within k (in_by_contains keys k ((c.in_order.ensures.same k).0 (contains_by_in rows k j))))
+    all_by_in (λ (k : Key). k.0.0 < length c.args.given.now.network.now) rows
+    (λ k j. all_in (λ (q : Key). q.0.0 < length c.args.given.now.network.now) keys c.in_ok-keys.ensures.within k (in_by_contains keys k ((c.in_order.ensures.same k).0 (contains_by_in rows k j))))

@@ -3,7 +3,7 @@ use Rattle.std.proofs.lemmas.List.{length-map, nil_from_length}
 use Rattle.nc_tables.specs.declared.bgp.Chosen.{Chosen}
 use Rattle.nc_tables.specs.Choice.{by_preference, choose, is_external, Ranked}
 use Rattle.nc_select.proofs.Alike.{is_equal}
-use Rattle.nc_select.proofs.Choosing.{chosen_alone, chosen_many, only_one}
+use Rattle.nc_select.proofs.Choosing.{chosen_alone, chosen_first, chosen_many, only_one}
 use Rattle.nc_select.proofs.Mapped.{read_view}
 use Rattle.nc_select.proofs.choice.choose.Goals as goal
 
@@ -20,6 +20,14 @@ returns-then-limit-gt0 g c =
     let f = g.C.Candidate.candidate_of in
     let all = map f c.args.candidates.now in
     c.in_ok-only.ensures ∙ only_one all c.args.limit c.args.relax (omega (arith, length-map c.args.candidates.now f, c.if-candidates-eq1.true)) (omega (arith, c.if-limit-gt0.true))
+
+pub returns-then-limit-eq1 : goal.returns-then-limit-eq1
+returns-then-limit-eq1 g c =
+    let f = g.C.Candidate.candidate_of in
+    let all = map f c.args.candidates.now in
+    let place = c.best_place-place.result in
+    let best = f c.index-candidates-place.result in
+    c.in_ok-single.ensures ∙ chosen_first all place best c.best_place-place.ensures.best c.args.limit c.args.relax c.if-limit-eq1.true
 
 pub returns-then-is_external : goal.returns-then-is_external
 returns-then-is_external g c =
