@@ -23,7 +23,7 @@ pub work : ℕ → ℕ
 work zero = 1
 work (suc n) = 5 * work n
 
-work-positive : (n : ℕ) → 0 < work n
+pub work-positive : (n : ℕ) → 0 < work n
 unfolding work
 work-positive zero = omega arith
 work-positive (suc n) = omega (arith, work-positive n)
@@ -33,10 +33,10 @@ unfolding work
 work-more m zero = let e : m + 0 ≡ m = omega arith in omega (arith, ap work e)
 work-more m (suc k) = let e : m + suc k ≡ suc (m + k) = omega arith in omega (arith, ap work e, work-more m k, work-positive (m + k))
 
-work-mono : (m n : ℕ) → m ≤ n → work m ≤ work n
+pub work-mono : (m n : ℕ) → m ≤ n → work m ≤ work n
 work-mono m n h = let e : m + (n - m) ≡ n = omega arith in omega (arith, work-more m (n - m), ap work e)
 
-work-falls : (n : ℕ) → 0 < n → work n ≡ 5 * work (n - 1)
+pub work-falls : (n : ℕ) → 0 < n → work n ≡ 5 * work (n - 1)
 unfolding work
 work-falls zero h = absurd (omega arith)
 work-falls (suc n) h = let e : suc n - 1 ≡ n = omega arith in omega (arith, ap work e)

@@ -9,8 +9,6 @@ use Rattle.nc_diagram.specs.declared.apply.Operator.{Operator}
 use Rattle.nc_diagram.specs.declared.apply.Operator.TheVariants.{And, Or}
 use Rattle.nc_diagram.specs.declared.apply.Pair.{Pair}
 use Rattle.nc_diagram.specs.declared.recent.Question.{Question}
-use Rattle.nc_diagram.specs.Sets.{Members, Same}
-use Rattle.nc_diagram.specs.Diagrams.{Diagrams, Belongs, meaning, Means, Adds}
 use Rattle.nc_diagram.specs.Operations.{IsAnswer}
 use Rattle.nc_diagram.specs.contracts.recent.QuestionPartialEq.TheImpl.{eq-value}
 use Rattle.nc_diagram.specs.Recent.{AreAnswers}

@@ -1,5 +1,5 @@
 -- When one function implies another, and the greatest set on which it doesn't.
-use Rattle.std.specs.Prelude.{◌≡◌, ◌≢◌, ℕ, ◌<◌, ◌≤◌, ◌⊎◌, Bool, true, false, List}
+use Rattle.std.specs.Prelude.{◌≡◌, ℕ, ◌<◌, ◌≤◌, ◌⊎◌, Bool, true, false, List}
 use Rattle.nc_diagram.specs.declared.node.Node.{Node}
 use Rattle.nc_diagram.specs.Sets.{Members, has, fixing, below}
 use Rattle.nc_diagram.specs.Diagrams.{meaning, level}
@@ -27,11 +27,6 @@ pub record IsGreater (s t : Members) : Type 0 where
 pub record IsGreatest (f g : Members → Bool) (s : Members) : Type 0 where
   pub separates : Separates f g s
   pub greatest : (t : Members) → Separates f g t → SameMembers s t ⊎ IsGreater s t
-
--- two functions differ on the set, and on no greater one
-pub record IsGreatestDifference (f g : Members → Bool) (s : Members) : Type 0 where
-  pub differs : f s ≢ g s
-  pub no_greater : (t : Members) → f t ≢ g t → IsGreater t s → ⊥
 
 -- the reference e is r where the variable is fixed to a value and the function asks for no variable above it
 pub record IsEndAt (nodes : List Node) (r v : ℕ) (side : Bool) (e : ℕ) : Type 0 where

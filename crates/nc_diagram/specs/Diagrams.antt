@@ -43,13 +43,16 @@ pub record IsStore (d : Diagrams) : Type 0 where
   pub within : length d.nodes ≤ d.limit
   pub narrow : d.limit ≤ 4294967293
 
--- an operation with the result f kept all nodes, references kept their functions, and each node added means f with its
--- lowest variables fixed
-pub record Adds (f : Members → Bool) (old new : Diagrams) : Type 0 where
+-- all nodes were kept, references kept their functions, and each node added means a part
+pub record Grows (IsPart : (Members → Bool) → Type 0) (old new : Diagrams) : Type 0 where
   pub same_limit : new.limit ≡ old.limit
   pub kept : (added : List Node) × (new.nodes ≡ added ++ old.nodes)
   pub unchanged : (r : ℕ) → Belongs old.nodes r → Belongs new.nodes r × Same (meaning new.nodes r) (meaning old.nodes r)
-  pub parts : (r : ℕ) → length old.nodes + 2 ≤ r → Belongs new.nodes r → IsLowestFixed f (meaning new.nodes r)
+  pub parts : (r : ℕ) → length old.nodes + 2 ≤ r → Belongs new.nodes r → IsPart (meaning new.nodes r)
+
+-- what an operation with the result f adds: nodes that mean f with its lowest variables fixed
+abbrev pub Adds : (Members → Bool) → Diagrams → Diagrams → Type 0
+Adds f old new = Grows (IsLowestFixed f) old new
 
 -- a reference of the new store means f
 pub record Means (new : Diagrams) (r : ℕ) (f : Members → Bool) : Type 0 where
@@ -60,10 +63,14 @@ pub record Means (new : Diagrams) (r : ℕ) (f : Members → Bool) : Type 0 wher
 abbrev pub IsHeld : List Node → (Members → Bool) → Type 0
 IsHeld nodes g = (r : ℕ) × (2 ≤ r) × Belongs nodes r × Same g (meaning nodes r)
 
--- there are more functions than the limit, distinct in pairs, none constant, each of a node held or f with its lowest variables fixed
-pub record IsCrowded (f : Members → Bool) (old : Diagrams) : Type 0 where
+-- there are more functions than the limit, distinct in pairs, none constant, each of a node held or a part
+pub record HasNoRoom (IsPart : (Members → Bool) → Type 0) (old : Diagrams) : Type 0 where
   pub functions : List (Members → Bool)
   pub more : old.limit < length functions
   pub distinct : AllPairs Differ functions
   pub not_constant : All IsNotConstant functions
-  pub each : All (λ g. IsHeld old.nodes g ⊎ IsLowestFixed f g) functions
+  pub each : All (λ g. IsHeld old.nodes g ⊎ IsPart g) functions
+
+-- there is no room for f with its lowest variables fixed
+abbrev pub IsCrowded : (Members → Bool) → Diagrams → Type 0
+IsCrowded f old = HasNoRoom (IsLowestFixed f) old

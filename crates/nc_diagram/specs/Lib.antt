@@ -4,3 +4,4 @@ pub mod Places
 pub mod Operations
 pub mod Counter
 pub mod Recent
+pub mod Search

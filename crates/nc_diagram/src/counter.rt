@@ -1,22 +1,64 @@
 // The greatest set that tells one function from another.
 
-ghost use Rattle.std.specs.Prelude.{◌≡◌, ◌≢◌, ◌≤◌, ◌⊎◌, min, IfOk, OnOk, OnErr, IsErrOf, MatchOption};
+ghost use Rattle.std.specs.Prelude.{◌≡◌, ◌≤◌, ◌⊎◌, min, IfOk, IsErrOf, MatchOption};
 ghost use Rattle.std.specs.List.Sorted.{IsStrictlyIncreasing};
-ghost use Rattle.nc_diagram.specs.Sets.{both, all_but};
-ghost use Rattle.nc_diagram.specs.Diagrams.{Belongs, Adds, IsCrowded, meaning, level};
-ghost use Rattle.nc_diagram.specs.Counter.{Implies, IsGreatest, IsGreatestDifference, IsEndAt};
+ghost use Rattle.indexmap.specs.IndexSet.{contains};
+ghost use Rattle.nc_diagram.specs.Sets.{all_but};
+ghost use Rattle.nc_diagram.specs.Diagrams.{Belongs, meaning, level};
+ghost use Rattle.nc_diagram.specs.Counter.{Implies, IsGreatest, IsEndAt};
+ghost use Rattle.nc_diagram.specs.Operations.{BothBelong, pair_eq};
+ghost use Rattle.nc_diagram.specs.Search.{AreEndsAt, Looks, low_variables};
 
-use crate::apply::{Operator, Pair};
+use crate::apply::Pair;
 use crate::fault::StoreFault;
 use crate::node::Ref;
 use crate::store::Store;
+use indexmap::IndexSet;
 use std::alloc::{AllocError, Global};
+
+/// A pair of references whose ends are searched: the high ones, while the low ones wait, or the low
+/// ones, since no set was found by the high ones.
+#[derive(Clone, Copy)]
+pub(crate) enum Turn {
+    High {
+        pair: Pair,
+        variable: u32,
+        low: Pair,
+    },
+    Low {
+        pair: Pair,
+        variable: u32,
+    },
+}
+
+/// What the search is at: a pair to look at, a pair whose functions no set tells apart, or the end,
+/// where one is true and the other false.
+#[derive(Clone, Copy)]
+pub(crate) enum Search {
+    Look(Pair),
+    Barren(Pair),
+    Found,
+}
+
+// The variables at which the search went on with the low ends, in its order.
+fn low_variables(alloc: Global, turns: &[Turn]) -> Result<Vec<u32>, AllocError>
+    ensures { IfOk result (λ missing. missing.items ≡ low_variables turns.now) }
+{
+    let mut missing = Vec::new(alloc);
+    'turns: for turn in turns {
+        match *turn {
+            Turn::High { .. } => {}
+            Turn::Low { variable, .. } => missing.push(variable)?,
+        }
+    }
+    Ok(missing)
+}
 
 impl Store {
     /// None where every set with a true has b true. Else the variables, ascending, that are missing in
     /// the greatest set with a true and b false; of two sets that one is greater which has the lowest
-    /// variable in which they differ. The nodes of the conjunction stay in the store. Refusals are as
-    /// for `and`.
+    /// variable in which they differ. The store stays as it is. `Memory` comes where none is found, and
+    /// `Full` never. No pair of references is looked into twice.
     pub fn counter(&mut self, a: Ref, b: Ref) -> Result<Option<Vec<u32>>, StoreFault>
         requires left { Belongs self.old.nodes a }
         requires right { Belongs self.old.nodes b }
@@ -24,62 +66,99 @@ impl Store {
             (Implies (meaning self.old.nodes a) (meaning self.old.nodes b))
             (λ missing. IsStrictlyIncreasing missing.items
             × IsGreatest (meaning self.old.nodes a) (meaning self.old.nodes b) (all_but missing.items))) }
-        ensures adds { OnOk result (Adds
-            (both (meaning self.old.nodes a) (meaning self.old.nodes b)) self.old self.new) }
-        ensures full { IsErrOf result StoreFault.Full
-            → IsCrowded (both (meaning self.old.nodes a) (meaning self.old.nodes b)) self.old }
-        ensures err { OnErr result (self.new ≡ self.old) }
+        ensures unchanged { self.new ≡ self.old }
+        ensures never_full { IsErrOf result StoreFault.Full → ⊥ }
     {
-        let alloc = self.alloc;
-        let mark = self.len();
         let pair = Pair {
             left: a.0,
             right: b.0,
         };
-        let both = match self.operate(Operator::And, pair) {
-            Ok(both) => both,
-            Err(fault) => return Err(fault),
-        };
-        if both == pair.left {
-            return Ok(None);
-        }
-        match self.difference(alloc, pair.left, both) {
-            Ok(missing) => Ok(Some(missing)),
-            Err(_memory) => {
-                self.roll_back(mark);
-                Err(StoreFault::Memory)
-            }
+        match self.greatest(self.alloc, pair) {
+            Ok(missing) => Ok(missing),
+            Err(_memory) => Err(StoreFault::Memory),
         }
     }
 
-    // The variables that are missing in the greatest set on which two functions differ.
-    fn difference(&self, alloc: Global, left: u32, right: u32) -> Result<Vec<u32>, AllocError>
-        requires left { Belongs self.now.nodes left }
-        requires right { Belongs self.now.nodes right }
-        requires differ { left ≢ right }
-        ensures ascending { IfOk result (λ missing. IsStrictlyIncreasing missing.items) }
-        ensures greatest { IfOk result (λ missing.
-            IsGreatestDifference (meaning self.now.nodes left) (meaning self.now.nodes right)
-            (all_but missing.items)) }
+    // What `counter` answers of a pair, by a search of its high ends before its low ones.
+    fn greatest(&self, alloc: Global, pair: Pair) -> Result<Option<Vec<u32>>, AllocError>
+        requires { BothBelong self.now.nodes pair }
+        ensures { IfOk result (λ o. MatchOption o
+            (Implies (meaning self.now.nodes pair.left) (meaning self.now.nodes pair.right))
+            (λ missing. IsStrictlyIncreasing missing.items
+            × IsGreatest (meaning self.now.nodes pair.left) (meaning self.now.nodes pair.right)
+            (all_but missing.items))) }
     {
         self.checked();
-        let mut missing = Vec::new(alloc);
-        let mut p = left;
-        let mut q = right;
-        'walk: while p >= 2 || q >= 2 {
-            let variable = self.top(p, q);
-            let high_p = self.end(p, variable, true);
-            let high_q = self.end(q, variable, true);
-            if high_p != high_q {
-                p = high_p;
-                q = high_q;
-            } else {
-                missing.push(variable)?;
-                p = self.end(p, variable, false);
-                q = self.end(q, variable, false);
-            }
+        let mut turns: Vec<Turn> = Vec::new(alloc);
+        let mut barren: IndexSet<Pair> = IndexSet::new(alloc);
+        let mut at = Search::Look(pair);
+        'walk: loop {
+            at = match at {
+                Search::Look(pair) => self.look(pair, &mut turns, &barren)?,
+                Search::Found => {
+                    let missing = low_variables(alloc, &turns)?;
+                    return Ok(Some(missing));
+                }
+                Search::Barren(_ends) => match turns.pop() {
+                    None => return Ok(None),
+                    Some(
+                        Turn::High {
+                            pair,
+                            variable,
+                            low,
+                        },
+                    ) => {
+                        turns.push(Turn::Low { pair, variable })?;
+                        Search::Look(low)
+                    }
+                    Some(Turn::Low { pair, .. }) => {
+                        barren.insert(pair)?;
+                        Search::Barren(pair)
+                    }
+                },
+            };
         }
-        Ok(missing)
+    }
+
+    // Looks at a pair: whether its references decide it, or it is known that no set tells its
+    // functions apart. Else its high ends come next, and the turn is listed.
+    fn look(
+        &self,
+        pair: Pair,
+        turns: &mut Vec<Turn>,
+        barren: &IndexSet<Pair>,
+    ) -> Result<Search, AllocError>
+        requires { BothBelong self.now.nodes pair }
+        ensures { IfOk result (Looks self.now.nodes (contains pair_eq barren.now) pair
+            turns.old.items turns.new.items) }
+    {
+        if pair.left == 0 || pair.right == 1 || pair.left == pair.right || barren.contains(&pair) {
+            return Ok(Search::Barren(pair));
+        }
+        if pair.left == 1 && pair.right == 0 {
+            return Ok(Search::Found);
+        }
+        let variable = self.top(pair.left, pair.right);
+        let low = self.ends_at(pair, variable, false);
+        turns.push(Turn::High {
+            pair,
+            variable,
+            low,
+        })?;
+        Ok(Search::Look(self.ends_at(pair, variable, true)))
+    }
+
+    // Both references of a pair on one side of a variable that is not below theirs.
+    fn ends_at(&self, pair: Pair, variable: u32, side: bool) -> Pair
+        requires belong { BothBelong self.now.nodes pair }
+        requires left_above { variable ≤ level self.now.nodes pair.left }
+        requires right_above { variable ≤ level self.now.nodes pair.right }
+        ensures { AreEndsAt self.now.nodes pair variable side result }
+    {
+        Pair {
+            left: self.end(pair.left, variable, side),
+            right: self.end(pair.right, variable, side),
+        }
     }
 
     // The lowest variable that one of two references asks for.

@@ -196,3 +196,40 @@ fn a_refusal_leaves_the_store(rt: HostRuntime) -> Result<(), Fail> {
     }
     Ok(())
 }
+
+// The disjunction of as many variables from the first on.
+fn clause(rt: &impl Abort, store: &mut Store, first: u32, width: u32) -> Result<Ref, StoreFault> {
+    let mut any = store.constant(false);
+    for offset in 0..width {
+        let one = store.variable(first.wrapping_add(offset))?;
+        let a = held(rt, store, any);
+        let b = held(rt, store, one);
+        any = store.or(a, b)?;
+    }
+    Ok(any)
+}
+
+// The conjunction of 200 such clauses, whose first variables are two apart.
+fn clauses(rt: &impl Abort, store: &mut Store, width: u32) -> Result<Ref, StoreFault> {
+    let mut all = store.constant(true);
+    for number in 0..200u32 {
+        let one = clause(rt, store, number * 2, width)?;
+        let a = held(rt, store, all);
+        let b = held(rt, store, one);
+        all = store.and(a, b)?;
+    }
+    Ok(all)
+}
+
+// A pair of references is reached in some 2^200 ways here, and looked into once.
+#[test]
+fn pairs_are_looked_into_once(rt: HostRuntime) -> Result<(), Fail> {
+    let mut store = Store::new(rt.alloc(), 1000000);
+    let narrow = clauses(&rt, &mut store, 2)?;
+    let wide = clauses(&rt, &mut store, 3)?;
+    let a = held(&rt, &store, narrow);
+    let b = held(&rt, &store, wide);
+    assert!(rt; store.counter(a, b)?.is_none());
+    assert!(rt; store.counter(b, a)?.is_some());
+    Ok(())
+}

@@ -2,16 +2,14 @@
 use Rattle.std.proofs.Common.{◌≡◌, ℕ, ◌<◌, inl, inr, Bool, true, false, cond, ◌&&◌, ◌||◌, List, [], ◌∷◌, length, map, take, slice_get, Option, Some, Result, Ok, Err, nat_eq, sym, ap, subst, ◌∙◌, refl, All, IfOk, OnOk, OnErr, if◌then◌else◌}
 use Rattle.std.proofs.lemmas.Bool.{lt-ltb, eqb-true}
 use Rattle.std.proofs.lemmas.List.{take-map}
-use Rattle.std.proofs.lemmas.List.Elements.{All-from_recursion}
-use Rattle.std.proofs.lemmas.Option.{get_or_from_slice_get}
-use Rattle.std.specs.List.{AllByRecursion}
 use Rattle.std.specs.Option.{option_map_or}
 use Rattle.nc_graph.specs.declared.node.NodeKind.{NodeKind}
 use Rattle.nc_graph.specs.declared.node.NodeKind.TheVariants as kind
 use Rattle.nc_graph.specs.declared.node.NodeId.{NodeId}
 use Rattle.nc_graph.specs.Flow.{Flow, by_kind}
 use Rattle.nc_graph.specs.Nodes.{Nodes, node_flow, IsGraph}
-use Rattle.nc_graph.proofs.Members.{In, of_all}
+use Rattle.nc_graph.proofs.Members.{In, of_all, all_from}
+use Rattle.nc_graph.proofs.Parents.{in-map, kind-at, parents-at}
 use Rattle.nc_graph.proofs.DerivationLaws.{carried-step}
 use Rattle.nc_graph.proofs.WalkLemmas.{prefix-in}
 use Rattle.nc_diagram.specs.declared.node.Node.{Node}
@@ -22,14 +20,6 @@ use Rattle.nc_diagram.proofs.Canonicity.{canonical}
 use Rattle.nc_formula.specs.Parts.{carrying, carrying_each, carrying_one, carrying_first, IsBaseOf, IsBaseOfTest, Gains}
 use Rattle.nc_formula.specs.Formulas.{known, IsKnown, StillKnown, IsDiagram, AreFormulas, HasReference, known_value, each_known, one_known, IsFirstEachKnown, IsFirstOneKnown}
 use Rattle.nc_formula.proofs.GainLemmas.{Bases, Within, gains-none, gains-adds}
-
--- from each element to all
-pub all_from : {X : Type 0} (P : X → Type 0) (xs : List X) → ((x : X) → In x xs → P x) → All P xs
-all_from P xs h = All-from_recursion P xs (each xs h)
-  where
-    each : (ys : List _) → ((x : _) → In x ys → P x) → AllByRecursion P ys
-    each [] h = tt
-    each (y ∷ ys) h = (h y (inl refl), each ys (λ x i. h x (inr i)))
 
 -- the outcome of an operation under another name of its function, and what it gains at each outcome
 pub means-same : (d : Diagrams) (r : Result ℕ StoreFault) (f h : Members → Bool) → IfOk r (λ x. Means d x f) → Same f h → IfOk r (λ x. Means d x h)
@@ -101,30 +91,19 @@ module _ (g : Flow ℕ) (nodes : List Node) (table : List (Option ℕ)) (are : A
   pub have-references : (ids : List NodeId) → ((p : NodeId) → In p ids → IsKnown table p.0) → All (λ p. HasReference table nodes p.0) ids
   have-references ids h = all_from (λ p. HasReference table nodes p.0) ids (λ p i. let k = h p i in (k.0, k.1, (are.each p.0 k.0 k.1).belongs))
 
-pub in-map : (ps : List NodeId) (p : NodeId) → In p ps → In p.0 (map (λ p. p.0) ps)
-in-map [] p i = absurd i
-in-map (q ∷ qs) p i = elim i [ inl e ↦ inl (ap (λ p. p.0) e) | inr i' ↦ inr (in-map qs p i') ]
-
--- the numbers of a node's parents
-pub parents-are : {F : Type 0} (n : Nodes F) (i : ℕ) (ps : List NodeId) → slice_get n.parents i ≡ Some ps → (node_flow n).parents i ≡ map (λ p. p.0) ps
-parents-are n i ps at = ap (map (λ p. p.0)) (get_or_from_slice_get n.parents i ps [] at)
-
 module _ {F : Type 0} (n : Nodes F) (is : IsGraph n) (i : ℕ) (valid : i < length n.facts) (k : NodeKind) (at : slice_get n.kinds i ≡ Some k) where
-  kind-is : (node_flow n).kind i ≡ k
-  kind-is = get_or_from_slice_get n.kinds i k kind.Every at
-
   by-parents : (s : Members) → carrying (node_flow n) i s
       ≡ by_kind k (has s) (carrying_each (node_flow n) ((node_flow n).parents i) s) (carrying_one (node_flow n) ((node_flow n).parents i) s)
   by-parents s =
       let ps = (node_flow n).parents i in
       carried-step (node_flow n) is.flow (has s) i (lt-ltb i (length n.facts) valid)
-      ∙ ap (λ v. by_kind v (has s) (carrying_each (node_flow n) ps s) (carrying_one (node_flow n) ps s)) kind-is
+      ∙ ap (λ v. by_kind v (has s) (carrying_each (node_flow n) ps s) (carrying_one (node_flow n) ps s)) (kind-at n i k at)
 
   first-is : (j : ℕ) (s : Members) → carrying_first (node_flow n) i j s
       ≡ by_kind k (has s) (carrying_each (node_flow n) (take j ((node_flow n).parents i)) s) (carrying_one (node_flow n) (take j ((node_flow n).parents i)) s)
   first-is j s =
       let ps = take j ((node_flow n).parents i) in
-      ap (λ v. by_kind v (has s) (carrying_each (node_flow n) ps s) (carrying_one (node_flow n) ps s)) kind-is
+      ap (λ v. by_kind v (has s) (carrying_each (node_flow n) ps s) (carrying_one (node_flow n) ps s)) (kind-at n i k at)
 
   -- a leaf is carried by the sets with its element
   pub leaf-is : (e : ℕ) → k ≡ kind.Leaf e → Same (λ s. has s e) (carrying (node_flow n) i)
@@ -138,7 +117,7 @@ module _ {F : Type 0} (n : Nodes F) (is : IsGraph n) (i : ℕ) (valid : i < leng
   module _ (nodes : List Node) (table : List (Option ℕ)) (are : AreFormulas (node_flow n) nodes table) (ps : List NodeId) (parents : slice_get n.parents i ≡ Some ps)
       (below : All (IsKnown table) ((node_flow n).parents i)) where
     pub each-known : (p : NodeId) → In p ps → IsKnown table p.0
-    each-known p within = of_all (IsKnown table) ((node_flow n).parents i) p.0 below (subst (In p.0) (sym (parents-are n i ps parents)) (in-map ps p within))
+    each-known p within = of_all (IsKnown table) ((node_flow n).parents i) p.0 below (subst (In p.0) (sym (parents-at n i ps parents)) (in-map ps p within))
 
     pub references : All (λ p. HasReference table nodes p.0) ps
     references = have-references (node_flow n) nodes table are ps each-known
@@ -148,7 +127,7 @@ module _ {F : Type 0} (n : Nodes F) (is : IsGraph n) (i : ℕ) (valid : i < leng
     every-is q s =
         let qs = (node_flow n).parents i in
         each-is (node_flow n) nodes table are ps each-known s
-        ∙ ap (λ is. carrying_each (node_flow n) is s) (sym (parents-are n i ps parents))
+        ∙ ap (λ is. carrying_each (node_flow n) is s) (sym (parents-at n i ps parents))
         ∙ sym (by-parents s ∙ ap (λ v. by_kind v (has s) (carrying_each (node_flow n) qs s) (carrying_one (node_flow n) qs s)) q)
 
     pub every-bases : k ≡ kind.Every → Within (IsFirstEachKnown nodes table ps) (IsBaseOf (node_flow n) i)
@@ -157,7 +136,7 @@ module _ {F : Type 0} (n : Nodes F) (is : IsGraph n) (i : ℕ) (valid : i < leng
       λ s.
           let qs = take j ((node_flow n).parents i) in
           e s ∙ first-each (node_flow n) nodes table are ps each-known j s
-          ∙ ap (λ is. carrying_each (node_flow n) (take j is) s) (sym (parents-are n i ps parents))
+          ∙ ap (λ is. carrying_each (node_flow n) (take j is) s) (sym (parents-at n i ps parents))
           ∙ sym (first-is j s ∙ ap (λ v. by_kind v (has s) (carrying_each (node_flow n) qs s) (carrying_one (node_flow n) qs s)) q),
     )
 
@@ -166,7 +145,7 @@ module _ {F : Type 0} (n : Nodes F) (is : IsGraph n) (i : ℕ) (valid : i < leng
     any-is q s =
         let qs = (node_flow n).parents i in
         one-is (node_flow n) nodes table are ps each-known s
-        ∙ ap (λ is. carrying_one (node_flow n) is s) (sym (parents-are n i ps parents))
+        ∙ ap (λ is. carrying_one (node_flow n) is s) (sym (parents-at n i ps parents))
         ∙ sym (by-parents s ∙ ap (λ v. by_kind v (has s) (carrying_each (node_flow n) qs s) (carrying_one (node_flow n) qs s)) q)
 
     pub any-bases : k ≡ kind.Any → Within (IsFirstOneKnown nodes table ps) (IsBaseOf (node_flow n) i)
@@ -175,6 +154,6 @@ module _ {F : Type 0} (n : Nodes F) (is : IsGraph n) (i : ℕ) (valid : i < leng
       λ s.
           let qs = take j ((node_flow n).parents i) in
           e s ∙ first-one (node_flow n) nodes table are ps each-known j s
-          ∙ ap (λ is. carrying_one (node_flow n) (take j is) s) (sym (parents-are n i ps parents))
+          ∙ ap (λ is. carrying_one (node_flow n) (take j is) s) (sym (parents-at n i ps parents))
           ∙ sym (first-is j s ∙ ap (λ v. by_kind v (has s) (carrying_each (node_flow n) qs s) (carrying_one (node_flow n) qs s)) q),
     )

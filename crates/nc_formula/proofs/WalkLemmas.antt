@@ -10,16 +10,12 @@ use Rattle.nc_graph.specs.Closure.{IsReachedFrom}
 use Rattle.nc_graph.specs.Walk.{Step, visit, number, expanded}
 use Rattle.nc_graph.proofs.Members.{In, of_all}
 use Rattle.nc_graph.proofs.WalkLemmas.{in-reverse, reverse-in, fact_of, Waits, Waits-more, Waits-visits, Sound, reached-parent, reached-itself, reached-holds}
+use Rattle.nc_graph.proofs.StackLemmas.{reverse-map}
 use Rattle.nc_graph.proofs.Weights.{weight, skip-lighter, infer-lighter}
 use Rattle.nc_formula.specs.declared.walk.Task.{Task}
 use Rattle.nc_formula.specs.declared.walk.Task.TheVariants.{Need, Make}
 use Rattle.nc_formula.specs.Formulas.{IsKnown, StillKnown}
 use Rattle.nc_formula.specs.Tasks.{Opens}
-
-reverse-map : {X Y : Type 0} (f : X → Y) (xs : List X) → reverse (map f xs) ≡ map f (reverse xs)
-reverse-map f [] = refl
-reverse-map f (x ∷ xs) =
-    reverse-append (f x ∷ []) (map f xs) ∙ ap (λ ys. ys ++ f x ∷ []) (reverse-map f xs) ∙ sym (map-append f (reverse xs) (x ∷ [])) ∙ ap (map f) (sym (reverse-append (x ∷ []) xs))
 
 module _ (g : Flow ℕ) where
   -- a task as a step of a walk through the nodes, and the steps of a stack, the next one first

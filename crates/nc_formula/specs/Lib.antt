@@ -1,3 +1,4 @@
 pub mod Formulas
 pub mod Parts
+pub mod Session
 pub mod Tasks

@@ -1,12 +1,11 @@
 -- What carries a fact, as a function of sets of elements, and the parts that diagrams of facts are made of.
-use Rattle.std.specs.Prelude.{◌≡◌, ℕ, ◌+◌, ◌<◌, ◌≤◌, ◌⊎◌, Bool, List, ◌++◌, length, take, All, AllPairs}
+use Rattle.std.specs.Prelude.{ℕ, ◌⊎◌, Bool, List, take}
 use Rattle.std.specs.List.{list_any, list_all}
 use Rattle.nc_graph.specs.Flow.{Flow, by_kind}
 use Rattle.nc_graph.specs.Derivation.{carried}
 use Rattle.nc_graph.specs.Closure.{IsReachedFrom}
-use Rattle.nc_diagram.specs.declared.node.Node.{Node}
-use Rattle.nc_diagram.specs.Sets.{Members, has, Same, Differ, IsNotConstant, IsLowestFixed}
-use Rattle.nc_diagram.specs.Diagrams.{Diagrams, Belongs, meaning, IsHeld}
+use Rattle.nc_diagram.specs.Sets.{Members, has, Same, IsLowestFixed}
+use Rattle.nc_diagram.specs.Diagrams.{Diagrams, Grows, HasNoRoom}
 
 module _ {F : Type 0} (g : Flow F) where
   -- the sets of elements that carry a fact: each has all elements of some derivation of it
@@ -41,6 +40,10 @@ module _ {F : Type 0} (g : Flow F) where
   abbrev pub IsBaseOfTest : List F → (Members → Bool) → Type 0
   IsBaseOfTest fs b = IsBaseFrom fs b ⊎ IsFirstEach fs b
 
+  -- the bases of two tests
+  abbrev pub IsBaseOfBoth : List F → List F → (Members → Bool) → Type 0
+  IsBaseOfBoth first second b = IsBaseOfTest first b ⊎ IsBaseOfTest second b
+
 -- a base with the variables below some number fixed to some values; where it isn't constant it is a part
 pub record IsFixed (IsBase : (Members → Bool) → Type 0) (h : Members → Bool) : Type 0 where
   pub base : Members → Bool
@@ -48,17 +51,9 @@ pub record IsFixed (IsBase : (Members → Bool) → Type 0) (h : Members → Boo
   pub fixed : IsLowestFixed base h
 
 -- all nodes were kept, references kept their functions, and each node added means a base with its lowest variables fixed
-pub record Gains (IsBase : (Members → Bool) → Type 0) (old new : Diagrams) : Type 0 where
-  pub same_limit : new.limit ≡ old.limit
-  pub kept : (added : List Node) × (new.nodes ≡ added ++ old.nodes)
-  pub unchanged : (r : ℕ) → Belongs old.nodes r → Belongs new.nodes r × Same (meaning new.nodes r) (meaning old.nodes r)
-  pub parts : (r : ℕ) → length old.nodes + 2 ≤ r → Belongs new.nodes r → IsFixed IsBase (meaning new.nodes r)
+abbrev pub Gains : ((Members → Bool) → Type 0) → Diagrams → Diagrams → Type 0
+Gains IsBase old new = Grows (IsFixed IsBase) old new
 
--- there are more functions than the limit, distinct in pairs, none constant, each of a node held or a base with its lowest
--- variables fixed
-pub record IsCrowdedBy (IsBase : (Members → Bool) → Type 0) (old : Diagrams) : Type 0 where
-  pub functions : List (Members → Bool)
-  pub more : old.limit < length functions
-  pub distinct : AllPairs Differ functions
-  pub not_constant : All IsNotConstant functions
-  pub each : All (λ h. IsHeld old.nodes h ⊎ IsFixed IsBase h) functions
+-- there is no room for the bases with their lowest variables fixed
+abbrev pub IsCrowdedBy : ((Members → Bool) → Type 0) → Diagrams → Type 0
+IsCrowdedBy IsBase old = HasNoRoom (IsFixed IsBase) old

@@ -8,3 +8,6 @@ pub mod StackLemmas
 pub mod WalkLemmas
 pub mod Weights
 pub mod WalkSteps
+pub mod Parents
+pub mod Extension
+pub mod FactLemmas

@@ -2,7 +2,7 @@
 use Rattle.std.proofs.Common.{◌≡◌, ℕ, suc, zero, ◌<◌, ◌⊎◌, inl, inr, Bool, true, false, ◌||◌, ◌&&◌, List, [], ◌∷◌, ◌++◌, length, Some, slice_get, sym, ap, ◌∙◌, subst, refl, arith}
 use Rattle.std.proofs.lemmas.Bool.{false≢true}
 use Rattle.std.specs.List.{list_any, list_all, All, flat_map, AllByRecursion}
-use Rattle.std.proofs.lemmas.List.Elements.{recursion_from_All}
+use Rattle.std.proofs.lemmas.List.Elements.{recursion_from_All, All-from_recursion}
 
 abbrev pub In : {X : Type 0} → X → List X → Type 0
 In x [] = ⊥
@@ -99,3 +99,11 @@ of_all P xs x h i = by_rec xs (recursion_from_All P xs h) i
     by_rec : (ys : List _) → AllByRecursion P ys → In x ys → P x
     by_rec [] h i = absurd i
     by_rec (y ∷ ys) h i = elim i [ inl e ↦ subst P e h.0 | inr i' ↦ by_rec ys h.1 i' ]
+
+-- and what holds of each holds of all
+pub all_from : {X : Type 0} (P : X → Type 0) (xs : List X) → ((x : X) → In x xs → P x) → All P xs
+all_from P xs h = All-from_recursion P xs (each xs h)
+  where
+    each : (ys : List _) → ((x : _) → In x ys → P x) → AllByRecursion P ys
+    each [] h = tt
+    each (y ∷ ys) h = (h y (inl refl), each ys (λ x i. h x (inr i)))

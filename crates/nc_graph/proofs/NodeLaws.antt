@@ -12,10 +12,10 @@ use Rattle.nc_graph.proofs.DerivationLaws.{by_rank, carried-step, occurs-step, s
 
 module _ {F : Type 0} (n : Nodes F) (p : ℕ → Bool) (q : F → Bool) where
   -- the test of each node is that of its fact
-  abbrev Agree : List NodeId → Type 0
+  abbrev pub Agree : List NodeId → Type 0
   Agree ids = (i : ℕ) (f : F) → In i (map (λ d. d.0) ids) → slice_get n.facts i ≡ Some f → p i ≡ q f
 
-  all_agree : (ids : List NodeId) (fs : List F) → map (λ d. slice_get n.facts d.0) ids ≡ map Some fs → Agree ids → list_all p (map (λ d. d.0) ids) ≡ list_all q fs
+  pub all_agree : (ids : List NodeId) (fs : List F) → map (λ d. slice_get n.facts d.0) ids ≡ map Some fs → Agree ids → list_all p (map (λ d. d.0) ids) ≡ list_all q fs
   all_agree [] [] e h = refl
   all_agree [] (f ∷ fs) e h = absurd (cc)
   all_agree (d ∷ ds) [] e h = absurd (cc)
@@ -24,7 +24,7 @@ module _ {F : Type 0} (n : Nodes F) (p : ℕ → Bool) (q : F → Bool) where
       let rest : map (λ d. slice_get n.facts d.0) ds ≡ map Some fs = cc in
       ap (λ b. b && list_all p (map (λ d. d.0) ds)) (h d.0 f (inl refl) here) ∙ ap (λ b. q f && b) (all_agree ds fs rest (λ i x j. h i x (inr j)))
 
-  any_agree : (ids : List NodeId) (fs : List F) → map (λ d. slice_get n.facts d.0) ids ≡ map Some fs → Agree ids → list_any p (map (λ d. d.0) ids) ≡ list_any q fs
+  pub any_agree : (ids : List NodeId) (fs : List F) → map (λ d. slice_get n.facts d.0) ids ≡ map Some fs → Agree ids → list_any p (map (λ d. d.0) ids) ≡ list_any q fs
   any_agree [] [] e h = refl
   any_agree [] (f ∷ fs) e h = absurd (cc)
   any_agree (d ∷ ds) [] e h = absurd (cc)
@@ -38,7 +38,7 @@ module _ {F : Type 0} (g : Flow F) (law : IsFlow g) (n : Nodes F) (is : IsGraph 
   node-holds : (i : ℕ) (f : F) → slice_get n.facts i ≡ Some f → (node_flow n).holds i ≡ true
   node-holds i f at = lt-ltb i (length n.facts) (slice_get_within n.facts i f at)
 
-  carried-node : (x : ℕ → Bool) (i : ℕ) (f : F) → slice_get n.facts i ≡ Some f → carried (node_flow n) x i ≡ carried g x f
+  pub carried-node : (x : ℕ → Bool) (i : ℕ) (f : F) → slice_get n.facts i ≡ Some f → carried (node_flow n) x i ≡ carried g x f
   carried-node x i f at = by_rank (node_flow n) is.flow (λ i. (f : F) → slice_get n.facts i ≡ Some f → carried (node_flow n) x i ≡ carried g x f) step i (node-holds i f at) f at
     where
       step : (i : ℕ) → (node_flow n).holds i ≡ true → ((p : ℕ) → In p ((node_flow n).parents i) → (f : F) → slice_get n.facts p ≡ Some f → carried (node_flow n) x p ≡ carried g x f)

@@ -11,7 +11,8 @@ use Rattle.nc_formula.specs.declared.walk.Task.TheVariants.{Need, Make}
 use Rattle.nc_formula.specs.Parts.{IsBaseOf, IsBaseFrom}
 use Rattle.nc_formula.specs.Formulas.{IsKnown}
 use Rattle.nc_formula.proofs.GainLemmas.{Within, gains-none, gains-wider, gains-more, crowded-wider, crowded-before}
-use Rattle.nc_formula.proofs.NodeLemmas.{all_from, in-map}
+use Rattle.nc_graph.proofs.Members.{all_from}
+use Rattle.nc_graph.proofs.Parents.{in-map}
 use Rattle.nc_formula.proofs.WalkLemmas.{IsMaking, steps, steps-pop, begins, opened, parents-known, makes, ends, step-holds, roots-hold}
 use Rattle.nc_formula.proofs.formulas.Formulas.know_each.Goals as goal
 
