@@ -9,7 +9,7 @@ use Rattle.nc_graph.specs.declared.node.NodeId.{NodeId}
 use Rattle.nc_graph.specs.Derivation.{strong, occurs}
 use Rattle.nc_graph.specs.Nodes.{Nodes, node_flow, IsGraph}
 use Rattle.nc_types.proofs.Truth.{same_truth}
-use Rattle.nc_graph.proofs.Members.{any_in, in_any, in_parts, of_all}
+use Rattle.nc_graph.proofs.Members.{any_in, in_any, in_parts, of_all, all_from}
 use Rattle.nc_graph.proofs.WalkLemmas.{prefix-length}
 use Rattle.nc_marks.specs.declared.mark.Mark.TheVariants.{Strong, Weak, Uncovered}
 use Rattle.nc_marks.specs.Kept.{Kept, AreKept}
@@ -19,7 +19,7 @@ use Rattle.nc_marks.specs.Sets.{Table, Gathering, ArePlaced, IsTable, Grows, IsA
 use Rattle.nc_marks.proofs.MarkLemmas.{marks-are, strong-told, some-told}
 use Rattle.nc_marks.proofs.StrongLemmas.{tested-strong}
 use Rattle.nc_marks.proofs.RaiseLemmas.{node-in}
-use Rattle.nc_marks.proofs.ReachLemmas.{all_from, or_cases, or_left, or_right, leaf-below, leaf-occurs, flag-within}
+use Rattle.nc_marks.proofs.ReachLemmas.{or_cases, or_left, or_right, leaf-below, leaf-occurs, flag-within}
 
 pub or_swap : (a b : Bool) → (a || b) ≡ (b || a)
 or_swap true true = refl

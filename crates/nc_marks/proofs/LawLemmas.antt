@@ -1,9 +1,7 @@
 -- The laws of marks: over a graph that extends another, and over facts in place of nodes.
-use Rattle.std.proofs.Common.{◌≡◌, ◌↔◌, ℕ, ◌<◌, ◌≤◌, inl, inr, Bool, true, List, [], ◌∷◌, length, map, get_or, Some, None, Option, slice_get, nat_eq, nat_lt, sym, ap, ◌∙◌, subst, refl, arith, All}
-use Rattle.std.proofs.lemmas.Bool.{lt-ltb, ltb-true}
-use Rattle.std.proofs.lemmas.List.{get_or-take}
+use Rattle.std.proofs.Common.{◌≡◌, ◌↔◌, ℕ, ◌<◌, Bool, true, List, length, map, Some, None, Option, slice_get, nat_eq, nat_lt, sym, ap, ◌∙◌, subst, arith, All}
+use Rattle.std.proofs.lemmas.Bool.{lt-ltb}
 use Rattle.std.specs.List.{list_any, list_all, Any}
-use Rattle.nc_graph.specs.declared.node.NodeKind.TheVariants as kind
 use Rattle.nc_graph.specs.declared.node.NodeId.{NodeId}
 use Rattle.nc_graph.specs.Derivation.{IsStrong, IsInSome, strong, occurs}
 use Rattle.nc_graph.specs.Flow.{Flow, IsFlow, by_kind}
@@ -11,7 +9,9 @@ use Rattle.nc_graph.specs.Nodes.{Nodes, node_flow, IsGraph, Mirrors, Extends}
 use Rattle.nc_graph.proofs.Members.{In, any_same, all_same, of_all}
 use Rattle.nc_graph.proofs.DerivationLaws.{by_rank, strong-step, occurs-step, IsStrong-is, IsInSome-is}
 use Rattle.nc_graph.proofs.NodeLaws.{IsStrong-node, IsInSome-node}
-use Rattle.nc_graph.proofs.WalkLemmas.{Contains-in, in-Contains, prefix-length}
+use Rattle.nc_graph.proofs.WalkLemmas.{Contains-in, in-Contains}
+use Rattle.nc_graph.proofs.Extension.{holds-new, kind-same, parents-same}
+use Rattle.nc_graph.proofs.FactLemmas.{With, fact-of, node-of}
 use Rattle.nc_marks.specs.declared.mark.Mark.{Mark}
 use Rattle.nc_marks.specs.declared.mark.Mark.TheVariants.{Strong, Weak, Uncovered, Outside}
 use Rattle.nc_marks.specs.Kept.{Kept, AreKept}
@@ -19,10 +19,6 @@ use Rattle.nc_marks.specs.Marks.{IsMark, AreMarks, ElementMarks, mark_of}
 use Rattle.nc_marks.specs.Reach.{AreReached}
 use Rattle.nc_marks.specs.Sets.{flag}
 use Rattle.nc_marks.proofs.ReachLemmas.{flag-within}
-
--- an element of a list with a fact of it
-abbrev With : {X : Type 0} → (X → Type 0) → List X → Type 0
-With {X} P xs = (x : X) × In x xs × P x
 
 any-from : {X Y : Type 0} (P : X → Type 0) (Q : Y → Type 0) (xs : List X) (ys : List Y) → ((x : X) → In x xs → P x → With Q ys) → Any P xs → Any Q ys
 any-from P Q xs ys f a =
@@ -55,26 +51,12 @@ module _ {X Y : Type 0} (g : Flow X) (xs : List X) (h : Flow Y) (ys : List Y)
 -- ---- a graph that extends another
 
 module _ {F : Type 0} (old new : Nodes F) (is : IsGraph old) (longer : IsGraph new) (ext : Extends old new) where
-  more : length old.facts ≤ length new.facts
-  more = prefix-length old.facts new.facts ext.facts
-
-  holds-new : (i : ℕ) → nat_lt i (length old.facts) ≡ true → nat_lt i (length new.facts) ≡ true
-  holds-new i h = let lt = ltb-true i (length old.facts) h in let all = more in lt-ltb i (length new.facts) (omega arith)
-
-  kind-same : (i : ℕ) → nat_lt i (length old.facts) ≡ true → (node_flow new).kind i ≡ (node_flow old).kind i
-  kind-same i h =
-      sym (get_or-take (length old.facts) new.kinds i kind.Every (ltb-true i (length old.facts) h)) ∙ ap (λ ks. get_or ks i kind.Every) ext.kinds
-
-  parents-same : (i : ℕ) → nat_lt i (length old.facts) ≡ true → (node_flow new).parents i ≡ (node_flow old).parents i
-  parents-same i h =
-      ap (map (λ (p : NodeId). p.0)) (sym (get_or-take (length old.facts) new.parents i [] (ltb-true i (length old.facts) h)) ∙ ap (λ ps. get_or ps i []) ext.parents)
-
   strong-same : (e i : ℕ) → nat_lt i (length old.facts) ≡ true → strong (node_flow new) e i ≡ strong (node_flow old) e i
   strong-same e = by_rank (node_flow old) is.flow (λ i. strong (node_flow new) e i ≡ strong (node_flow old) e i) (λ i h below.
       let ps = (node_flow old).parents i in
-      strong-step (node_flow new) longer.flow e i (holds-new i h)
-      ∙ ap (λ k. by_kind k (nat_eq e) (list_any (strong (node_flow new) e) ((node_flow new).parents i)) (list_all (strong (node_flow new) e) ((node_flow new).parents i))) (kind-same i h)
-      ∙ ap (λ qs. by_kind ((node_flow old).kind i) (nat_eq e) (list_any (strong (node_flow new) e) qs) (list_all (strong (node_flow new) e) qs)) (parents-same i h)
+      strong-step (node_flow new) longer.flow e i (holds-new old new is longer ext i h)
+      ∙ ap (λ k. by_kind k (nat_eq e) (list_any (strong (node_flow new) e) ((node_flow new).parents i)) (list_all (strong (node_flow new) e) ((node_flow new).parents i))) (kind-same old new is longer ext i h)
+      ∙ ap (λ qs. by_kind ((node_flow old).kind i) (nat_eq e) (list_any (strong (node_flow new) e) qs) (list_all (strong (node_flow new) e) qs)) (parents-same old new is longer ext i h)
       ∙ ap (λ b. by_kind ((node_flow old).kind i) (nat_eq e) b (list_all (strong (node_flow new) e) ps)) (any_same (strong (node_flow new) e) (strong (node_flow old) e) ps below)
       ∙ ap (λ b. by_kind ((node_flow old).kind i) (nat_eq e) (list_any (strong (node_flow old) e) ps) b) (all_same (strong (node_flow new) e) (strong (node_flow old) e) ps below)
       ∙ sym (strong-step (node_flow old) is.flow e i h))
@@ -82,9 +64,9 @@ module _ {F : Type 0} (old new : Nodes F) (is : IsGraph old) (longer : IsGraph n
   occurs-same : (e i : ℕ) → nat_lt i (length old.facts) ≡ true → occurs (node_flow new) e i ≡ occurs (node_flow old) e i
   occurs-same e = by_rank (node_flow old) is.flow (λ i. occurs (node_flow new) e i ≡ occurs (node_flow old) e i) (λ i h below.
       let ps = (node_flow old).parents i in
-      occurs-step (node_flow new) longer.flow e i (holds-new i h)
-      ∙ ap (λ k. by_kind k (nat_eq e) (list_any (occurs (node_flow new) e) ((node_flow new).parents i)) (list_any (occurs (node_flow new) e) ((node_flow new).parents i))) (kind-same i h)
-      ∙ ap (λ qs. by_kind ((node_flow old).kind i) (nat_eq e) (list_any (occurs (node_flow new) e) qs) (list_any (occurs (node_flow new) e) qs)) (parents-same i h)
+      occurs-step (node_flow new) longer.flow e i (holds-new old new is longer ext i h)
+      ∙ ap (λ k. by_kind k (nat_eq e) (list_any (occurs (node_flow new) e) ((node_flow new).parents i)) (list_any (occurs (node_flow new) e) ((node_flow new).parents i))) (kind-same old new is longer ext i h)
+      ∙ ap (λ qs. by_kind ((node_flow old).kind i) (nat_eq e) (list_any (occurs (node_flow new) e) qs) (list_any (occurs (node_flow new) e) qs)) (parents-same old new is longer ext i h)
       ∙ ap (λ b. by_kind ((node_flow old).kind i) (nat_eq e) b b) (any_same (occurs (node_flow new) e) (occurs (node_flow old) e) ps below)
       ∙ sym (occurs-step (node_flow old) is.flow e i h))
 
@@ -92,20 +74,20 @@ module _ {F : Type 0} (old new : Nodes F) (is : IsGraph old) (longer : IsGraph n
   strong-both e i lt =
       let h = lt-ltb i (length old.facts) lt in
       let here = IsStrong-is (node_flow old) is.flow e i h in
-      let there = IsStrong-is (node_flow new) longer.flow e i (holds-new i h) in
+      let there = IsStrong-is (node_flow new) longer.flow e i (holds-new old new is longer ext i h) in
       (λ s. there.1 (strong-same e i h ∙ here.0 s), λ s. here.1 (sym (strong-same e i h) ∙ there.0 s))
 
   some-both : (e i : ℕ) → i < length old.facts → IsInSome (node_flow old) e i ↔ IsInSome (node_flow new) e i
   some-both e i lt =
       let h = lt-ltb i (length old.facts) lt in
       let here = IsInSome-is (node_flow old) is.flow e i h in
-      let there = IsInSome-is (node_flow new) longer.flow e i (holds-new i h) in
+      let there = IsInSome-is (node_flow new) longer.flow e i (holds-new old new is longer ext i h) in
       (λ s. there.1 (occurs-same e i h ∙ here.0 s), λ s. here.1 (sym (occurs-same e i h) ∙ there.0 s))
 
   reached-extended : (tested : List ℕ) (flags : List Bool) → length flags ≡ length old.facts → AreReached (node_flow old) tested flags → AreReached (node_flow new) tested flags
   reached-extended tested flags long r = record {
     tops = r.tops;
-    closed = record { each = λ i low h. subst (All (λ p. flag flags p ≡ true)) (sym (parents-same i (here i h))) (r.closed.each i low h) };
+    closed = record { each = λ i low h. subst (All (λ p. flag flags p ≡ true)) (sym (parents-same old new is longer ext i (here i h))) (r.closed.each i low h) };
     within = λ e. record {
       each = λ i h o.
           let there = (r.within e).each i h (sym (occurs-same e i (here i h)) ∙ o) in
@@ -129,31 +111,6 @@ module _ {F : Type 0} (old new : Nodes F) (is : IsGraph old) (longer : IsGraph n
   }
 
 -- ---- facts in place of nodes
-
-module _ {F : Type 0} (n : Nodes F) where
-  -- the fact of each of the nodes, and the node of each of the facts
-  fact-of : (ids : List NodeId) (fs : List F) → map (λ p. slice_get n.facts p.0) ids ≡ map Some fs → (j : ℕ) → In j (map (λ p. p.0) ids) → With (λ f. slice_get n.facts j ≡ Some f) fs
-  fact-of [] fs are j i = absurd i
-  fact-of (d ∷ ds) [] are j i = absurd (cc)
-  fact-of (d ∷ ds) (f ∷ fs) are j i =
-      let here : slice_get n.facts d.0 ≡ Some f = cc in
-      let rest : map (λ p. slice_get n.facts p.0) ds ≡ map Some fs = cc in
-      elim i [
-        | inl e ↦ (f, inl refl, subst (λ k. slice_get n.facts k ≡ Some f) e here)
-        | inr i' ↦ let r = fact-of ds fs rest j i' in (r.0, inr r.1, r.2)
-      ]
-
-  node-of : (ids : List NodeId) (fs : List F) → map (λ p. slice_get n.facts p.0) ids ≡ map Some fs → (f : F) → In f fs → With (λ j. slice_get n.facts j ≡ Some f) (map (λ p. p.0) ids)
-  node-of [] [] are f i = absurd i
-  node-of [] (g ∷ gs) are f i = absurd (cc)
-  node-of (d ∷ ds) [] are f i = absurd i
-  node-of (d ∷ ds) (g ∷ gs) are f i =
-      let here : slice_get n.facts d.0 ≡ Some g = cc in
-      let rest : map (λ p. slice_get n.facts p.0) ds ≡ map Some gs = cc in
-      elim i [
-        | inl e ↦ (d.0, inl refl, here ∙ ap Some e)
-        | inr i' ↦ let r = node-of ds gs rest f i' in (r.0, inr r.1, r.2)
-      ]
 
 module _ {F : Type 0} (g : Flow F) (law : IsFlow g) (n : Nodes F) (is : IsGraph n) (m : Mirrors g n) (ids : List NodeId) (facts : List F)
     (are : map (λ p. slice_get n.facts p.0) ids ≡ map Some facts) where

@@ -1,7 +1,11 @@
+pub mod ChangedLemmas
+pub mod ExampleLaws
+pub mod ForgetLemmas
 pub mod KeptLemmas
 pub mod LawLemmas
 pub mod MarkLemmas
 pub mod OwnerLemmas
+pub mod NeededLemmas
 pub mod ReachLemmas
 pub mod SetLemmas
 pub mod StrongLemmas

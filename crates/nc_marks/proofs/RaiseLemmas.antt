@@ -8,10 +8,10 @@ use Rattle.nc_graph.specs.declared.node.NodeId.{NodeId}
 use Rattle.nc_graph.specs.Derivation.{occurs}
 use Rattle.nc_graph.specs.Flow.{Flow}
 use Rattle.nc_graph.specs.Nodes.{Nodes, node_flow, IsGraph}
-use Rattle.nc_graph.proofs.Members.{In, in_any, any_in, in_parts, in_right, of_all}
+use Rattle.nc_graph.proofs.Members.{In, in_any, any_in, in_parts, in_right, of_all, all_from}
 use Rattle.nc_marks.specs.Sets.{flag, has, has_node}
 use Rattle.nc_marks.specs.Reach.{AreReached, IsClosed, IsReached, IsOpenAt, Raises}
-use Rattle.nc_marks.proofs.ReachLemmas.{all_from, has-in, in-has, has_node-map, or_cases, or_left, or_right, occurs-up, flag-within}
+use Rattle.nc_marks.proofs.ReachLemmas.{has-in, in-has, has_node-map, or_cases, or_left, or_right, occurs-up, flag-within}
 
 -- a node that is listed
 pub node-in : (ps : List NodeId) (p : NodeId) → In p ps → has_node ps p.0 ≡ true

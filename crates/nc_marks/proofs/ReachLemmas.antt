@@ -1,9 +1,7 @@
 -- What is reached downward from nodes, and which elements are at the leaves there.
-use Rattle.std.proofs.Common.{◌≡◌, ℕ, suc, zero, ◌+◌, ◌<◌, ◌≤◌, ◌⊎◌, inl, inr, Bool, true, false, ◌||◌, List, [], ◌∷◌, ◌++◌, take, length, map, Some, slice_get, sym, ap, ◌∙◌, subst, refl, arith, nat_eq, nat_lt, All}
+use Rattle.std.proofs.Common.{◌≡◌, ℕ, suc, zero, ◌+◌, ◌<◌, ◌≤◌, ◌⊎◌, inl, inr, Bool, true, false, ◌||◌, List, [], ◌∷◌, ◌++◌, take, length, map, sym, ap, ◌∙◌, subst, refl, arith, nat_eq, nat_lt, All}
 use Rattle.std.proofs.lemmas.Bool.{eqb-true, eq-eqb, lt-ltb, ltb-true, cases_eq}
-use Rattle.std.proofs.lemmas.Option.{get_or_from_slice_get}
-use Rattle.std.specs.List.{list_any, AllByRecursion}
-use Rattle.std.proofs.lemmas.List.Elements.{All-from_recursion}
+use Rattle.std.specs.List.{list_any}
 use Rattle.std.proofs.Math.Seq.{take-append_seam}
 use Rattle.nc_graph.specs.declared.node.NodeKind.{NodeKind}
 use Rattle.nc_graph.specs.declared.node.NodeKind.TheVariants.{Leaf, Every, Any}
@@ -12,7 +10,7 @@ use Rattle.nc_graph.specs.Flow.{Flow, by_kind}
 use Rattle.nc_graph.specs.Derivation.{occurs}
 use Rattle.nc_graph.specs.Nodes.{Nodes, node_flow, IsGraph}
 use Rattle.nc_types.proofs.Truth.{same_truth}
-use Rattle.nc_graph.proofs.Members.{In, any_in, in_any, of_all}
+use Rattle.nc_graph.proofs.Members.{In, any_in, in_any, of_all, all_from}
 use Rattle.nc_graph.proofs.DerivationLaws.{by_rank, parent_lower, occurs-step}
 use Rattle.nc_marks.specs.Sets.{has, has_node, flag}
 use Rattle.nc_marks.specs.Reach.{is_leaf_of, occurs_in, IsClosed, IsReached, IsAtLeaf, TellsLeaf}
@@ -23,14 +21,6 @@ has-in xs x h = let r = any_in (nat_eq x) xs h in subst (λ y. In y xs) (sym (eq
 
 pub in-has : (xs : List ℕ) (x : ℕ) → In x xs → has xs x ≡ true
 in-has xs x i = in_any (nat_eq x) xs x i (eq-eqb x x refl)
-
--- from each element to all
-pub all_from : {X : Type 0} (P : X → Type 0) (xs : List X) → ((x : X) → In x xs → P x) → All P xs
-all_from P xs h = All-from_recursion P xs (each xs h)
-  where
-    each : (ys : List _) → ((x : _) → In x ys → P x) → AllByRecursion P ys
-    each [] h = tt
-    each (y ∷ ys) h = (h y (inl refl), each ys (λ x i. h x (inr i)))
 
 pub has_node-map : (ps : List NodeId) (i : ℕ) → has_node ps i ≡ has (map (λ p. p.0) ps) i
 has_node-map [] i = refl
@@ -48,10 +38,6 @@ or_left a b e = ap (λ v. v || b) e
 pub or_right : (a b : Bool) → b ≡ true → (a || b) ≡ true
 or_right true b e = refl
 or_right false b e = e
-
--- the numbers of a node's parents
-pub parents-at : {F : Type 0} (n : Nodes F) (i : ℕ) (ps : List NodeId) → slice_get n.parents i ≡ Some ps → (node_flow n).parents i ≡ map (λ p. p.0) ps
-parents-at n i ps at = ap (map (λ p. p.0)) (get_or_from_slice_get n.parents i ps [] at)
 
 module _ {F : Type 0} (n : Nodes F) (is : IsGraph n) where
   -- an element that occurs at a parent occurs at the node

@@ -3,7 +3,6 @@ use Rattle.std.proofs.Common.{◌≡◌, ℕ, ◌+◌, ◌<◌, ◌≤◌, inl, 
 use Rattle.std.proofs.lemmas.Bool.{cases_lt}
 use Rattle.std.proofs.lemmas.List.{length-map, get_or_append_left, get_or_push}
 use Rattle.std.proofs.lemmas.List.Folds.{list_all-map}
-use Rattle.std.proofs.lemmas.Option.{get_or_from_slice_get}
 use Rattle.std.specs.List.{list_any, list_all}
 use Rattle.nc_graph.specs.declared.node.NodeKind.{NodeKind}
 use Rattle.nc_graph.specs.declared.node.NodeKind.TheVariants.{Leaf, Every, Any}
@@ -11,26 +10,18 @@ use Rattle.nc_graph.specs.declared.node.NodeId.{NodeId}
 use Rattle.nc_graph.specs.Flow.{by_kind}
 use Rattle.nc_graph.specs.Derivation.{strong}
 use Rattle.nc_graph.specs.Nodes.{Nodes, node_flow, IsGraph}
-use Rattle.nc_graph.proofs.Members.{In, any_same, all_same, of_all}
+use Rattle.nc_graph.proofs.Members.{In, any_same, all_same, of_all, all_from}
+use Rattle.nc_graph.proofs.Parents.{in-map, parents-at}
 use Rattle.nc_graph.proofs.DerivationLaws.{strong-step}
 use Rattle.nc_marks.specs.Sets.{Table, has, has_at, Grows, IsAt, in_some, in_each}
-use Rattle.nc_marks.proofs.ReachLemmas.{all_from, parents-at}
 
 -- the same set by another test
 pub at-same : (t : Table) (place : ℕ) (p q : ℕ → Bool) → IsAt t place p → ((e : ℕ) → e < t.width → p e ≡ q e) → IsAt t place q
 at-same t place p q is same = record { within = is.within; exact = λ e lt. is.exact e lt ∙ same e lt }
 
-in-map : (ps : List NodeId) (p : NodeId) → In p ps → In p.0 (map (λ p. p.0) ps)
-in-map [] p i = absurd i
-in-map (q ∷ qs) p i = elim i [ inl e ↦ inl (ap (λ p. p.0) e) | inr i' ↦ inr (in-map qs p i') ]
-
 pub any-map : (f : ℕ → Bool) (ps : List NodeId) → list_any f (map (λ p. p.0) ps) ≡ list_any (λ p. f p.0) ps
 any-map f [] = refl
 any-map f (p ∷ ps) = ap (λ b. f p.0 || b) (any-map f ps)
-
--- a node's kind
-pub kind-at : {F : Type 0} (n : Nodes F) (i : ℕ) (k : NodeKind) → slice_get n.kinds i ≡ Some k → (node_flow n).kind i ≡ k
-kind-at n i k at = get_or_from_slice_get n.kinds i k Every at
 
 module _ {F : Type 0} (n : Nodes F) (is : IsGraph n) (i : ℕ) (h : nat_lt i (length n.facts) ≡ true) where
   through : (e : ℕ) (k : NodeKind) → (node_flow n).kind i ≡ k

@@ -1,4 +1,6 @@
+pub mod Example
 pub mod Kept
 pub mod Marks
+pub mod Needed
 pub mod Reach
 pub mod Sets

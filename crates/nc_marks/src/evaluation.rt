@@ -4,7 +4,7 @@ ghost use Rattle.nc_graph.specs.Nodes.{node_flow, IsGraph};
 ghost use Rattle.nc_graph.specs.Derivation.{strong};
 ghost use Rattle.nc_marks.specs.Marks.{AreMarks};
 ghost use Rattle.nc_marks.specs.Reach.{IsClosed, strong_in};
-ghost use Rattle.nc_marks.specs.Sets.{flag, Grows, IsAt};
+ghost use Rattle.nc_marks.specs.Sets.{flag, Grows, IsAt, in_some};
 
 use crate::combine::{intersection_of, union_of};
 use crate::flags::flag_strong;
@@ -78,8 +78,26 @@ fn places_of<F: Copy + Eq + Hash>(
     Ok(places)
 }
 
+// Which elements are in the set of some node.
+pub(crate) fn strong_of(
+    alloc: Global,
+    sets: &Sets,
+    places: &[u32],
+    nodes: &[NodeId],
+) -> Result<Vec<bool>, AllocError>
+    requires within { All (λ p. p.0 < length places.now) nodes.now }
+    requires placed { All (λ p. slice_index_or places.now p.0 0 < length sets.now.sets) nodes.now }
+    ensures len { IfOk result (λ flags. length flags.items ≡ sets.now.width) }
+    ensures strong { IfOk result (λ flags. (e : ℕ) → e < sets.now.width
+        → flag flags.items e ≡ in_some sets.now places.now nodes.now e) }
+{
+    let mut flags = vec![in alloc; false; sets.width() as usize]?;
+    flag_strong(sets, places, nodes, &mut flags);
+    Ok(flags)
+}
+
 // Which elements are strong for a tested node.
-fn elements_strong<F: Copy + Eq + Hash>(
+pub(crate) fn elements_strong<F: Copy + Eq + Hash>(
     alloc: Global,
     graph: &Graph<F>,
     elements: u32,
@@ -97,9 +115,8 @@ fn elements_strong<F: Copy + Eq + Hash>(
     let mut sets = Sets::new(alloc, elements)?;
     let mut gathered = Gathered::new(alloc, elements)?;
     let places = places_of(alloc, graph, &mut sets, &mut gathered, reached)?;
-    let mut flags = vec![in alloc; false; elements as usize]?;
-    flag_strong(&sets, &places, tested, &mut flags);
-    Ok(flags)
+    let strong = strong_of(alloc, &sets, &places, tested)?;
+    Ok(strong)
 }
 
 /// The marks of the elements below `elements`, for tested nodes of a graph: of each element whether

@@ -9,10 +9,12 @@ ghost use Rattle.nc_marks.specs.Marks.{marked_elements};
 ghost use Rattle.nc_marks.specs.Reach.{AreReached, leaf_in};
 ghost use Rattle.nc_marks.specs.Sets.{Grows, IsAt, ArePlaced, flag, has, has_node, in_some};
 
-use crate::evaluation::place_of;
+use crate::changed::changed;
+use crate::evaluation::{place_of, strong_of};
 use crate::gathered::Gathered;
 use crate::mark::Marks;
 use crate::raise::{lower_nodes, raise};
+use crate::reach::{elements_reached, reach};
 use crate::sets::Sets;
 use nc_graph::graph::Graph;
 use nc_graph::node::NodeId;
@@ -294,5 +296,43 @@ impl KeptMarks {
                 Err(error)
             }
         }
+    }
+
+    /// Keeps the marks for these live nodes, those that are left where tests are forgotten, in place
+    /// of the marks for the live nodes so far, and answers the elements that have another mark now,
+    /// ascending. The strong elements of all nodes stay kept. It takes one pass over the graph, and
+    /// time for the sets of the live nodes and for the elements.
+    ///
+    /// # Errors
+    ///
+    /// That memory is refused. All is then as it was before.
+    pub fn forget<F: Copy + Eq + Hash>(
+        &mut self,
+        graph: &Graph<F>,
+        live: &[NodeId],
+    ) -> Result<Vec<u32>, AllocError>
+        requires valid { All (λ p. p.0 < length graph.now.facts) live.now }
+        requires all { kept_nodes self.old ≡ length graph.now.facts }
+
+        // What was kept for the live nodes before is now kept for those that are live still.
+        ensures kept { OnOk result ((before : List ℕ) (elements : ℕ)
+            → AreKept (node_flow graph.now) (length graph.now.facts) before elements self.old
+            → AreKept (node_flow graph.now) (length graph.now.facts)
+            (map (λ p. p.0) live.now) elements self.new) }
+        ensures touched { IfOk result
+            (λ touched. TouchesOnly touched.items self.old.marks self.new.marks) }
+        ensures count { OnOk result (kept_nodes self.new ≡ length graph.now.facts) }
+        ensures elements { marked_elements self.new.marks ≡ marked_elements self.old.marks }
+        ensures unchanged { OnErr result (self.new ≡ self.old) }
+    {
+        let elements = self.nodes.sets.width();
+        let reached = reach(self.alloc, graph, live)?;
+        let some = elements_reached(self.alloc, graph, elements, live, &reached)?;
+        let strong = strong_of(self.alloc, &self.nodes.sets, &self.nodes.places, live)?;
+        let marks = Marks::new(strong, some);
+        let touched = changed(self.alloc, elements, &self.marks, &marks)?;
+        self.nodes.reached = reached;
+        self.marks = marks;
+        Ok(touched)
     }
 }

@@ -2,17 +2,21 @@
 //!
 //! An element is strong where it stands in every derivation of some tested fact, weak where it
 //! stands in some derivation of one, and uncovered elsewhere; a line without an owner is outside.
-//! This crate stands on `nc_graph`, whose graphs of facts and derivations it reads, and on
-//! `nc_types` for the elements and lines of a network. Its contract promises the marks by their
-//! definition, over all derivations of the tested nodes of any graph. They are worked out in one
-//! pass down the numbers of the nodes, for what the tested ones reach, and one pass up, which makes
-//! each node's set of strong elements of those of its parents. This takes time for the sets of the
-//! parents together, and keeps one set for a node, or none where a parent's serves. For a graph
-//! that grows, `KeptMarks` keeps these sets, which nodes the live ones reach, and the marks, so
-//! that a further test costs what is new; that the marks of nodes are those of their facts, and
-//! that what is kept of a graph is kept of a longer one, are the laws of `laws`.
+//! This crate stands on `nc_graph`, whose graphs of facts and derivations it reads, on `nc_types`
+//! for the elements and lines of a network, and on `nc_formula` with `nc_diagram` for the marks by
+//! diagrams. Its contract promises the marks by their definition, over all derivations of the
+//! tested nodes of any graph. They are worked out in one pass down the numbers of the nodes, for
+//! what the tested ones reach, and one pass up, which makes each node's set of strong elements of
+//! those of its parents. This takes time for the sets of the parents together, and keeps one set
+//! for a node, or none where a parent's serves. `marks_by_diagrams` answers the same marks by what
+//! the diagrams of the tested nodes need. For a graph that grows, `KeptMarks` keeps the sets, which
+//! nodes the live ones reach, and the marks, so that a further test costs what is new, and to
+//! forget tests costs one pass over the graph; that the marks of nodes are those of their facts,
+//! and that what is kept of a graph is kept of a longer one, are the laws of `laws`.
 #![tactic(auto)]
 
+pub mod by_diagrams;
+mod changed;
 mod combine;
 pub mod evaluation;
 mod flags;
@@ -23,3 +27,5 @@ pub mod mark;
 mod raise;
 mod reach;
 mod sets;
+#[cfg(test)]
+mod tests;

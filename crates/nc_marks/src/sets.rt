@@ -57,6 +57,13 @@ impl Sets {
         })
     }
 
+    // The elements below this number count.
+    pub(crate) fn width(&self) -> u32
+        ensures { result ≡ self.now.width }
+    {
+        self.width
+    }
+
     // How many sets there are.
     pub(crate) fn len(&self) -> usize
         ensures { result ≡ length self.now.sets }

@@ -3,7 +3,8 @@ use Rattle.std.proofs.lemmas.Bool.{lt-ltb}
 use Rattle.nc_graph.specs.Derivation.{strong}
 use Rattle.nc_graph.specs.Nodes.{node_flow}
 use Rattle.nc_marks.specs.Sets.{in_some, in_each}
-use Rattle.nc_marks.proofs.StrongLemmas.{at-same, kind-at, leaf-strong, of-parents, some-parent, every-strong, any-strong}
+use Rattle.nc_graph.proofs.Parents.{kind-at}
+use Rattle.nc_marks.proofs.StrongLemmas.{at-same, leaf-strong, of-parents, some-parent, every-strong, any-strong}
 use Rattle.nc_marks.proofs.evaluation.place_of.Goals as goal
 
 pub union_of-requires-clause-placed : goal.union_of-requires-clause-placed

@@ -3,10 +3,9 @@ use Rattle.std.proofs.lemmas.Bool.{lt-ltb}
 use Rattle.std.proofs.lemmas.List.{length_push}
 use Rattle.nc_graph.specs.Derivation.{strong}
 use Rattle.nc_graph.specs.Nodes.{node_flow}
-use Rattle.nc_graph.proofs.Members.{of_all}
+use Rattle.nc_graph.proofs.Members.{of_all, all_from}
 use Rattle.nc_graph.proofs.DerivationLaws.{parent_lower}
 use Rattle.nc_marks.specs.Sets.{flag, Grows, IsAt}
-use Rattle.nc_marks.proofs.ReachLemmas.{all_from}
 use Rattle.nc_marks.proofs.StrongLemmas.{place-more, at-grown, grows-none}
 use Rattle.nc_marks.proofs.evaluation.places_of.Goals.{then-reached-number+in_ok-place, else-reached-number}
 use Rattle.nc_marks.proofs.evaluation.places_of.Goals as goal

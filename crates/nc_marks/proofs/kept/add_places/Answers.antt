@@ -5,7 +5,7 @@ use Rattle.nc_graph.specs.Derivation.{strong}
 use Rattle.nc_graph.specs.Nodes.{node_flow}
 use Rattle.nc_graph.proofs.DerivationLaws.{parent_lower}
 use Rattle.nc_marks.specs.Sets.{IsAt}
-use Rattle.nc_marks.proofs.ReachLemmas.{all_from}
+use Rattle.nc_graph.proofs.Members.{all_from}
 use Rattle.nc_marks.proofs.StrongLemmas.{place-more}
 use Rattle.nc_marks.proofs.KeptLemmas.{placed-more, take-more, grows-on}
 use Rattle.nc_marks.proofs.kept.add_places.Goals as goal

@@ -3,7 +3,8 @@ use Rattle.std.proofs.lemmas.Grind.{common_steps}
 use Rattle.std.proofs.lemmas.List.{length-append}
 use Rattle.nc_graph.specs.Nodes.{node_flow}
 use Rattle.nc_marks.specs.Sets.{flag, has}
-use Rattle.nc_marks.proofs.ReachLemmas.{has_node-map, parents-at}
+use Rattle.nc_graph.proofs.Parents.{parents-at}
+use Rattle.nc_marks.proofs.ReachLemmas.{has_node-map}
 use Rattle.nc_marks.proofs.RaiseLemmas.{raises-trans, all-raised, open-more, within-more}
 use Rattle.nc_marks.proofs.raise.spread.Goals as goal
 

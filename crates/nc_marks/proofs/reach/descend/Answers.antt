@@ -2,7 +2,8 @@ use Rattle.std.proofs.Common.{◌≡◌, ◌||◌, ℕ, ◌+◌, ◌<◌, ◌-�
 use Rattle.nc_graph.specs.Nodes.{node_flow}
 use Rattle.nc_marks.specs.Sets.{flag, has}
 use Rattle.nc_marks.specs.Reach.{IsClosed}
-use Rattle.nc_marks.proofs.ReachLemmas.{has_node-map, parents-at, flag-stays, closed-more, reached-more}
+use Rattle.nc_graph.proofs.Parents.{parents-at}
+use Rattle.nc_marks.proofs.ReachLemmas.{has_node-map, flag-stays, closed-more, reached-more}
 use Rattle.nc_marks.proofs.reach.descend.Goals as goal
 
 pub nodes-preserved-then-reached-number : goal.nodes-preserved-then-reached-number
