@@ -1,6 +1,6 @@
 -- The text of what was read is what was read.
 use Rattle.std.proofs.Common.{◌≡◌, ℕ, ◌+◌, ◌-◌, ◌*◌, ◌/◌, ◌%◌, ◌^◌, ◌<◌, ◌≤◌, ◌&&◌, Bool, true, false, cond, List, [], ◌∷◌, ◌++◌, length, Option, Some, None, codes, append_assoc, refl, sym, ap, ◌∙◌, subst, arith}
-use Rattle.std.specs.Prelude.{nat_lt, nat_le, ◌==◌}
+use Rattle.std.specs.Prelude.{nat_lt, nat_le, ◌==◌, option_and_then}
 use Rattle.std.specs.List.{list_all, slice_split, join_with_byte}
 use Rattle.std.specs.Option.{option_map, option_map_or}
 use Rattle.std.specs.Str.{bytes_eq}
@@ -21,9 +21,10 @@ use Rattle.nc_lines.specs.Lines.{words_of}
 use Rattle.nc_lines.specs.Numbers.{is_digit, value_after, is_plain, number_of, address_of, address_of_parts, prefix_of, prefix_of_parts}
 use Rattle.nc_lines.proofs.NumberLemmas.{value_after-ge}
 use Rattle.nc_command.specs.declared.command.Command.{Command}
-use Rattle.nc_command.specs.declared.command.Command.TheVariants.{Test, Lcov, Json, Quit}
+use Rattle.nc_command.specs.declared.command.Command.TheVariants.{Test, Forget, Implies, Lcov, Json, Quit}
 use Rattle.nc_command.specs.declared.TheConstants.{MOST_NUMBER}
-use Rattle.nc_command.specs.Command.{Passed, TooLong, Unread, Asks, begins_note, addr_of, address_behind, prefix_test_of, address_test_of, line_test_of, test_of, alone, show_by, command_by, asked_by, command_of, dotted, cidr_text, spaced, prefix_text, address_text, line_text, text_of}
+use Rattle.nc_types.specs.Dotted.{dotted}
+use Rattle.nc_command.specs.Command.{Passed, TooLong, Unread, Asks, begins_note, addr_of, address_behind, prefix_test_of, address_test_of, line_test_of, test_of, alone, show_by, forget_by, implies_by, command_by, asked_by, command_of, cidr_text, spaced, prefix_text, address_text, line_text, text_of}
 
 -- ---- numbers
 
@@ -230,8 +231,14 @@ module _ (word : List ℕ) (words : List (List ℕ)) where
   abbrev bgp_test : Option TestCommand
   bgp_test = cond (bytes_eq word (codes "bgp")) (prefix_test_of Bgp (codes "from") words) session_test
 
+  abbrev implies_command : Option Command
+  implies_command = cond (bytes_eq word (codes "implies")) (implies_by words) (option_map Test (test_of word words))
+
+  abbrev forget_command : Option Command
+  forget_command = cond (bytes_eq word (codes "forget")) (forget_by words) implies_command
+
   abbrev json_command : Option Command
-  json_command = cond (bytes_eq word (codes "json")) (alone Json words) (option_map Test (test_of word words))
+  json_command = cond (bytes_eq word (codes "json")) (alone Json words) forget_command
 
   abbrev lcov_command : Option Command
   lcov_command = cond (bytes_eq word (codes "lcov")) (alone Lcov words) json_command
@@ -285,9 +292,37 @@ asked-text (word ∷ words) test at = by_note (begins_note word) at
     not-shown (name ∷ []) is = absurd (cc)
     not-shown (name ∷ w ∷ ws) is = absurd (cc)
 
-    by_json : (b : Bool) → cond b (alone Json words) (option_map Test (test_of word words)) ≡ Some (Test test) → text_of test ≡ spaced (word ∷ words)
+    not-forgetting : (n : Option ℕ) → option_map Forget n ≡ Some (Test test) → text_of test ≡ spaced (word ∷ words)
+    not-forgetting None is = absurd (cc)
+    not-forgetting (Some n) is = absurd (cc)
+
+    not-forgot : (ws : List (List ℕ)) → forget_by ws ≡ Some (Test test) → text_of test ≡ spaced (word ∷ words)
+    not-forgot [] is = absurd (cc)
+    not-forgot (number ∷ []) is = not-forgetting (number_of MOST_NUMBER number) is
+    not-forgot (number ∷ w ∷ ws) is = absurd (cc)
+
+    not-implying : (m n : Option ℕ) → option_and_then (λ k. option_map (Implies k) n) m ≡ Some (Test test) → text_of test ≡ spaced (word ∷ words)
+    not-implying None n is = absurd (cc)
+    not-implying (Some m) None is = absurd (cc)
+    not-implying (Some m) (Some n) is = absurd (cc)
+
+    not-implied : (ws : List (List ℕ)) → implies_by ws ≡ Some (Test test) → text_of test ≡ spaced (word ∷ words)
+    not-implied [] is = absurd (cc)
+    not-implied (first ∷ []) is = absurd (cc)
+    not-implied (first ∷ second ∷ []) is = not-implying (number_of MOST_NUMBER first) (number_of MOST_NUMBER second) is
+    not-implied (first ∷ second ∷ w ∷ ws) is = absurd (cc)
+
+    by_implies : (b : Bool) → cond b (implies_by words) (option_map Test (test_of word words)) ≡ Some (Test test) → text_of test ≡ spaced (word ∷ words)
+    by_implies true is = not-implied words is
+    by_implies false is = by_test (test_of word words) refl is
+
+    by_forget : (b : Bool) → cond b (forget_by words) (implies_command word words) ≡ Some (Test test) → text_of test ≡ spaced (word ∷ words)
+    by_forget true is = not-forgot words is
+    by_forget false is = by_implies (bytes_eq word (codes "implies")) is
+
+    by_json : (b : Bool) → cond b (alone Json words) (forget_command word words) ≡ Some (Test test) → text_of test ≡ spaced (word ∷ words)
     by_json true is = not-alone Json words (λ e. absurd (cc)) is
-    by_json false is = by_test (test_of word words) refl is
+    by_json false is = by_forget (bytes_eq word (codes "forget")) is
 
     by_lcov : (b : Bool) → cond b (alone Lcov words) (json_command word words) ≡ Some (Test test) → text_of test ≡ spaced (word ∷ words)
     by_lcov true is = not-alone Lcov words (λ e. absurd (cc)) is

@@ -1,10 +1,11 @@
 -- The session language: what a line of a session asks, and the text of a test.
-use Rattle.std.specs.Prelude.{◌≡◌, ℕ, ◌/◌, ◌%◌, Bool, false, ◌==◌, nat_lt, List, [], ◌∷◌, length, Option, Some, None, Result, Ok, Err, option_and_then, codes, if◌then◌else◌}
+use Rattle.std.specs.Prelude.{◌≡◌, ℕ, Bool, false, ◌==◌, nat_lt, List, [], ◌∷◌, length, Option, Some, None, Result, Ok, Err, option_and_then, codes, if◌then◌else◌}
 use Rattle.std.specs.List.{join_with_byte}
 use Rattle.std.specs.Option.{option_map, option_map_or}
 use Rattle.std.specs.Str.{bytes_eq}
 use Rattle.std.specs.Fmt.{decimal}
 use Rattle.nc_types.specs.Cidr.{Cidr}
+use Rattle.nc_types.specs.Dotted.{dotted}
 use Rattle.nc_types.specs.declared.addr.Addr.{Addr}
 use Rattle.nc_types.specs.declared.command.TestCommand.{TestCommand}
 use Rattle.nc_types.specs.declared.command.TestCommand.TheVariants.{Rib, Bgp, Session, Reach, Every, Element}
@@ -12,7 +13,7 @@ use Rattle.nc_lines.specs.Lines.{words_of}
 use Rattle.nc_lines.specs.Numbers.{number_of, address_of, prefix_of}
 use Rattle.nc_command.specs.declared.TheConstants.{LINE_LIMIT, MOST_NUMBER}
 use Rattle.nc_command.specs.declared.command.Command.{Command}
-use Rattle.nc_command.specs.declared.command.Command.TheVariants.{Test, Show, Lcov, Json, Quit}
+use Rattle.nc_command.specs.declared.command.Command.TheVariants.{Test, Forget, Implies, Show, Lcov, Json, Quit}
 use Rattle.nc_command.specs.declared.fault.CommandFault.{CommandFault}
 use Rattle.nc_command.specs.declared.fault.CommandFault.TheVariants.{Long, Syntax, Memory}
 
@@ -79,6 +80,16 @@ abbrev pub show_by : List (List ℕ) → Option Command
 show_by (name ∷ []) = Some (Show name)
 show_by words = None
 
+-- the number of a test behind `forget`, and nothing more
+abbrev pub forget_by : List (List ℕ) → Option Command
+forget_by (number ∷ []) = option_map Forget (number_of MOST_NUMBER number)
+forget_by words = None
+
+-- the numbers of two tests behind `implies`, and nothing more
+abbrev pub implies_by : List (List ℕ) → Option Command
+implies_by (first ∷ second ∷ []) = option_and_then (λ m. option_map (Implies m) (number_of MOST_NUMBER second)) (number_of MOST_NUMBER first)
+implies_by words = None
+
 -- the command that a first word and the words behind it make, if they make one
 abbrev pub command_by : List ℕ → List (List ℕ) → Option Command
 command_by word words =
@@ -86,7 +97,9 @@ command_by word words =
     else (if bytes_eq word (codes "show") then show_by words
     else (if bytes_eq word (codes "lcov") then alone Lcov words
     else (if bytes_eq word (codes "json") then alone Json words
-    else option_map Test (test_of word words))))
+    else (if bytes_eq word (codes "forget") then forget_by words
+    else (if bytes_eq word (codes "implies") then implies_by words
+    else option_map Test (test_of word words))))))
 
 -- what the words of a line ask
 abbrev pub asked_by : List (List ℕ) → Line
@@ -106,10 +119,6 @@ IsRead line (Err Syntax) = line ≡ Unread
 IsRead line (Err Memory) = Unit {0}
 
 -- ---- the text of a test
-
--- an address as four numbers with dots between them
-abbrev pub dotted : ℕ → List ℕ
-dotted a = join_with_byte 46 (decimal (a / 16777216) ∷ decimal (a / 65536 % 256) ∷ decimal (a / 256 % 256) ∷ decimal (a % 256) ∷ [])
 
 -- a prefix as its address and its length with a slash between them
 abbrev pub cidr_text : Cidr → List ℕ

@@ -5,6 +5,10 @@ use nc_types::{TestCommand, Text};
 pub enum Command {
     /// A test, for facts of the network.
     Test(TestCommand),
+    /// That the test of this number counts no longer.
+    Forget(u32),
+    /// Whether the test of the first number implies that of the second.
+    Implies(u32, u32),
     /// A listing of the file of the router of this name, with the mark of each line.
     Show(Text),
     /// An LCOV tracefile of all files.

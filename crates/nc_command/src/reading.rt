@@ -4,7 +4,7 @@ ghost use Rattle.std.specs.Prelude.{◌≡◌, ℕ, List, Option, IfOk, codes};
 ghost use Rattle.std.specs.Option.{option_map};
 ghost use Rattle.nc_lines.specs.Lines.{words_of};
 ghost use Rattle.nc_command.specs.Command.{address_behind, prefix_test_of, address_test_of};
-ghost use Rattle.nc_command.specs.Command.{line_test_of, test_of, alone, show_by, command_by, command_of, IsRead};
+ghost use Rattle.nc_command.specs.Command.{line_test_of, test_of, alone, show_by, forget_by, implies_by, command_by, command_of, IsRead};
 ghost use Rattle.nc_types.specs.Cidr.{Cidr};
 ghost use Rattle.nc_types.specs.declared.addr.Addr.{Addr};
 ghost use Rattle.nc_types.specs.declared.command.TestCommand.{TestCommand};
@@ -195,6 +195,32 @@ fn read_show(alloc: Global, rest: &[u8]) -> Result<Option<Command>, AllocError>
     Ok(Some(Command::Show(name)))
 }
 
+// The command that the words behind `forget` make, if they make one.
+fn read_forget(rest: &[u8]) -> Option<Command>
+    ensures { result ≡ forget_by (words_of rest.now) }
+{
+    let (word, behind) = cut_word(rest)?;
+    if cut_word(behind).is_some() {
+        return None;
+    }
+    let number = read_number(word, MOST_NUMBER)?;
+    Some(Command::Forget(number))
+}
+
+// The command that the words behind `implies` make, if they make one.
+fn read_implies(rest: &[u8]) -> Option<Command>
+    ensures { result ≡ implies_by (words_of rest.now) }
+{
+    let (first, rest) = cut_word(rest)?;
+    let (second, behind) = cut_word(rest)?;
+    if cut_word(behind).is_some() {
+        return None;
+    }
+    let first = read_number(first, MOST_NUMBER)?;
+    let second = read_number(second, MOST_NUMBER)?;
+    Some(Command::Implies(first, second))
+}
+
 // The command that a first word and the words behind it make, if they make one.
 fn read_words(alloc: Global, word: &[u8], rest: &[u8]) -> Result<Option<Command>, AllocError>
     ensures { IfOk result (λ command. command ≡ command_by word.now (words_of rest.now)) }
@@ -210,6 +236,12 @@ fn read_words(alloc: Global, word: &[u8], rest: &[u8]) -> Result<Option<Command>
     }
     if word == b"json".as_slice() {
         return Ok(alone(Command::Json, rest));
+    }
+    if word == b"forget".as_slice() {
+        return Ok(read_forget(rest));
+    }
+    if word == b"implies".as_slice() {
+        return Ok(read_implies(rest));
     }
     let Some(test) = read_test(alloc, word, rest)? else {
         return Ok(None);

@@ -2,7 +2,8 @@
 
 ghost use Rattle.std.specs.Prelude.{◌≡◌, ◌++◌, ◌∷◌, IfOk, OnOk, string_bytes};
 ghost use Rattle.std.specs.Fmt.{decimal};
-ghost use Rattle.nc_command.specs.Command.{dotted, cidr_text, prefix_text, address_text, line_text, text_of};
+ghost use Rattle.nc_types.specs.Dotted.{dotted};
+ghost use Rattle.nc_command.specs.Command.{cidr_text, prefix_text, address_text, line_text, text_of};
 
 use nc_types::{Addr, Prefix, TestCommand, Text};
 use std::alloc::{AllocError, Global};
@@ -23,22 +24,11 @@ fn number_text(alloc: Global, number: u32) -> Result<String, AllocError>
     format!(in alloc; "{number}")
 }
 
-// The text of an address.
-fn dotted_text(alloc: Global, addr: Addr) -> Result<String, AllocError>
-    ensures { IfOk result (λ text. string_bytes text ≡ dotted addr.0) }
-{
-    let first = addr.0 / 16_777_216;
-    let second = addr.0 / 65_536 % 256;
-    let third = addr.0 / 256 % 256;
-    let fourth = addr.0 % 256;
-    format!(in alloc; "{first}.{second}.{third}.{fourth}")
-}
-
 // Appends a space and an address.
 fn push_address(alloc: Global, text: &mut Vec<u8>, addr: Addr) -> Result<(), AllocError>
     ensures { OnOk result (text.new.items ≡ text.old.items ++ 32 ∷ dotted addr.0) }
 {
-    push_word(text, dotted_text(alloc, addr)?.as_bytes())
+    push_word(text, addr.dotted(alloc)?.as_bytes())
 }
 
 // Appends a space and a prefix.

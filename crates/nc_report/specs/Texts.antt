@@ -1,5 +1,5 @@
 -- The forms of a report, byte for byte. They say how each line of the files of a network is marked, by a letter a line.
-use Rattle.std.specs.Prelude.{ℕ, ◌+◌, ◌||◌, ◌==◌, nat_lt, List, [], ◌∷◌, ◌++◌, length, map, Option, Some, None, codes, count_by, slice_index_or, if◌then◌else◌}
+use Rattle.std.specs.Prelude.{ℕ, ◌+◌, Bool, ◌||◌, ◌==◌, nat_lt, List, [], ◌∷◌, ◌++◌, length, map, Option, Some, None, codes, count_by, slice_index_or, if◌then◌else◌}
 use Rattle.std.specs.List.{flat_map, join_with_byte, range_with_len}
 use Rattle.std.specs.Fmt.{decimal}
 use Rattle.json.specs.Print.{quoted}
@@ -57,9 +57,17 @@ summary_of letters =
 abbrev pub sheet_of : Sheet → List ℕ
 sheet_of s = line_of (s.name ++ (32 ∷ s.letters))
 
+-- the line of counts over all routers
+abbrev pub totals_of : List Sheet → List ℕ
+totals_of sheets = line_of (summary_of (letters_of sheets))
+
 -- a report: the counts over all routers, then the line of each
 abbrev pub report_of : List Sheet → List ℕ
-report_of sheets = line_of (summary_of (letters_of sheets)) ++ flat_map sheet_of sheets
+report_of sheets = totals_of sheets ++ flat_map sheet_of sheets
+
+-- a report that lists the lines of the routers, or one of the counts alone
+abbrev pub report_by : Bool → List Sheet → List ℕ
+report_by listed sheets = if listed then report_of sheets else totals_of sheets
 
 -- ---- a listing
 

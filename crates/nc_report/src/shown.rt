@@ -7,7 +7,7 @@ ghost use Rattle.nc_types.specs.Network.{element_count, owner_at};
 ghost use Rattle.nc_marks.specs.Kept.{TouchesOnly};
 ghost use Rattle.nc_marks.specs.Marks.{ElementMarks, marked_elements};
 ghost use Rattle.nc_marks.specs.Sets.{has};
-ghost use Rattle.nc_report.specs.Texts.{count_of, json_of, lcov_of, letters_of, object_text, report_of, sheet_in, show_of, summary_of};
+ghost use Rattle.nc_report.specs.Texts.{count_of, json_of, lcov_of, letters_of, object_text, report_of, sheet_in, show_of, summary_of, totals_of};
 ghost use Rattle.nc_report.specs.Sheets.{sheets_from};
 ghost use Rattle.nc_report.specs.Shown.{AreFreshBut, is_owner, one, put_letter};
 ghost use Rattle.nc_report.specs.Values.{report_data};
@@ -201,6 +201,18 @@ impl Shown {
         push_line(out, summary.as_bytes())?;
         push_sheets(out, &self.sheets)?;
         Ok(())
+    }
+
+    /// Appends the counts of the marks of all lines, with which a report begins.
+    ///
+    /// # Errors
+    ///
+    /// That memory is refused.
+    pub fn push_totals(&self, alloc: Global, out: &mut Vec<u8>) -> Result<(), AllocError>
+        ensures { OnOk result (out.new.items ≡ out.old.items ++ totals_of self.now) }
+    {
+        let summary = self.summary(alloc)?;
+        push_line(out, summary.as_bytes())
     }
 
     // The letters of a router, none where it isn't there.
