@@ -1,4 +1,4 @@
-//! Words and files that are refused before the session is read, also where that can't be written.
+//! Words, files and generated networks that are refused before the session is read, also where that can't be written.
 
 use crate::judging::{Expectation, Verdict};
 use crate::network::{Config, Network};
@@ -37,7 +37,7 @@ const FILES: [Config; 3] = [
 // A session that none of the runs may answer.
 const SESSION: &[u8] = b"frob\n";
 
-const REFUSALS: [Refused; 13] = [
+const REFUSALS: [Refused; 20] = [
     Refused {
         name: "no word",
         words: &[],
@@ -128,6 +128,55 @@ const REFUSALS: [Refused; 13] = [
         failing: Failing::Room(10),
         status: Status::OutputFault,
         written: b"refused un",
+    },
+    Refused {
+        name: "three pods",
+        words: &["--fat-tree", "3"],
+        failing: Failing::Nothing,
+        status: Status::Usage,
+        written: b"refused usage\n",
+    },
+    Refused {
+        name: "a file beside a generated network",
+        words: &["--fat-tree=2", "good.cfg"],
+        failing: Failing::Nothing,
+        status: Status::Usage,
+        written: b"refused usage\n",
+    },
+    Refused {
+        name: "a generated network in a round too few, and a call of the files that would fail",
+        words: &["--fat-tree", "2", "--rounds", "5"],
+        failing: Failing::Files(0),
+        status: Status::Unstable,
+        written: b"refused unstable 5\n",
+    },
+    Refused {
+        name: "a generated network in a round too few, and a read of the session that would fail",
+        words: &["--rounds=5", "--fat-tree=2"],
+        failing: Failing::Read(0),
+        status: Status::Unstable,
+        written: b"refused unstable 5\n",
+    },
+    Refused {
+        name: "a generated network in a round too few, and a write that fails",
+        words: &["--fat-tree", "2", "--rounds=5"],
+        failing: Failing::Write(0),
+        status: Status::OutputFault,
+        written: b"",
+    },
+    Refused {
+        name: "a generated network, and a write that fails",
+        words: &["--fat-tree", "2"],
+        failing: Failing::Write(0),
+        status: Status::OutputFault,
+        written: b"",
+    },
+    Refused {
+        name: "a generated network, and room for ten bytes",
+        words: &["--fat-tree", "2"],
+        failing: Failing::Room(10),
+        status: Status::OutputFault,
+        written: b"fat-tree 2",
     },
 ];
 

@@ -22,23 +22,23 @@ use Rattle.nc_command.specs.Command.{Asks, text_of}
 use Rattle.nc_session.specs.declared.TheConstants.{TEST_LIMIT, FACT_LIMIT}
 use Rattle.nc_session.specs.declared.work.Work.{Work}
 use Rattle.nc_report.specs.Texts.{line_of}
-use Rattle.nc_session.specs.Session.{KeptTest, State, IsReply, Refuses, Counts, Tests, Lined, Named, has_line, unknown_of, router_of, asked_in}
+use Rattle.nc_session.specs.Session.{KeptTest, State, with_test, IsReply, Refuses, Counts, Tests, Lined, Named, has_line, unknown_of, router_of, asked_in}
 use Rattle.nc_session.specs.Engine.{Infers, InfersAll, asked_for}
-use Rattle.nc_session.specs.Work.{IsWork, Takes, Replies, Counted, test_view, tests_of}
+use Rattle.nc_session.specs.Work.{IsWork, SameNetwork, Takes, Replies, Counted, test_view, tests_of, kept_of}
 use Rattle.nc_session.proofs.Working.{asked-more}
 
-module _ (old new : Work) (facts : List Fact) (before after : List ℕ) (state : state_of new.rules ≡ state_of old.rules) where
+module _ (old new : Work) (facts : List Fact) (before after : List ℕ) (network : SameNetwork old new) where
   -- the state of the network
   abbrev pub at : StateView
   at = state_of old.rules
 
-  counted : (room : Bool) → nat_lt (length (tests_of old)) TEST_LIMIT ≡ room → (reply : List ℕ) → Counts at room (record { tests = tests_of old }) facts reply (record { tests = tests_of new })
+  counted : (room : Bool) → nat_lt (length (tests_of old)) TEST_LIMIT ≡ room → (reply : List ℕ) → Counts at old.listed room (kept_of old) facts reply (kept_of new)
       → after ≡ before ++ reply → Infers at (tests_of old) (if room then facts else []) (asked_of old.rules) (asked_of new.rules) → Counted old new facts before after
   counted room is reply answer text infers = record {
     reply = reply;
-    answer = subst (λ (b : Bool). Counts at b (record { tests = tests_of old }) facts reply (record { tests = tests_of new })) (sym is) answer;
+    answer = subst (λ (b : Bool). Counts at old.listed b (kept_of old) facts reply (kept_of new)) (sym is) answer;
     text = text;
-    state = state;
+    network = network;
     infers = subst (λ (b : Bool). Infers at (tests_of old) (if b then facts else []) (asked_of old.rules) (asked_of new.rules)) (sym is) infers;
   }
 
@@ -53,17 +53,21 @@ module _ (old new : Work) (facts : List Fact) (before after : List ℕ) (state :
 
     -- it is taken up
     pub accepted : Takes true old new facts → IsWork new → Replies new before after → Counted old new facts before after
-    accepted taken is r = counted true has_room r.reply (inr (taken.0, ap (λ (tests : List KeptTest). record { tests = tests }) taken.1, answers)) r.text (infers-some facts some (record {
+    accepted taken is r = counted true has_room r.reply (inr (taken.0, taken.1, answers)) r.text (infers-some facts some (record {
       fits = λ few xs ys a b. taken.2 ∙ ap (λ (n : ℕ). raised (asked_of old.rules) n) (added xs ys a b);
       full = λ many. absurd (taken.0 many);
     }))
       where
-        answers : IsReply at (tests_of new) r.reply
-        answers = subst (λ (s : StateView). IsReply s (tests_of new) r.reply) state r.is_reply
+        tests : tests_of new ≡ (with_test (kept_of old) facts).tests
+        tests = ap (λ (kept : State). kept.tests) taken.1
+
+        answers : IsReply at old.listed (tests_of new) r.reply
+        answers = subst (λ (l : Bool). IsReply at l (tests_of new) r.reply) network.listed
+            (subst (λ (s : StateView). IsReply s new.listed (tests_of new) r.reply) network.state r.is_reply)
 
         closure : IsClosure (flow_of at) (asked_in (tests_of old) ++ facts) new.graph.facts
-        closure = subst (λ (fs : List Fact). IsClosure (flow_of at) fs new.graph.facts) (ap asked_in taken.1 ∙ asked-more (tests_of old) facts)
-            (subst (λ (s : StateView). IsClosure (flow_of s) (asked_in (tests_of new)) new.graph.facts) state is.marked.closure)
+        closure = subst (λ (fs : List Fact). IsClosure (flow_of at) fs new.graph.facts) (ap asked_in tests ∙ asked-more (tests_of old) facts)
+            (subst (λ (s : StateView). IsClosure (flow_of s) (asked_in (tests_of new)) new.graph.facts) network.state is.marked.closure)
 
         added : (xs ys : List Fact) → IsClosure (flow_of at) (asked_in (tests_of old)) xs → IsClosure (flow_of at) (asked_in (tests_of old) ++ facts) ys
             → length new.graph.facts - length old.graph.facts ≡ length ys - length xs
@@ -74,7 +78,7 @@ module _ (old new : Work) (facts : List Fact) (before after : List ℕ) (state :
 
     -- it is refused for its facts
     pub overfilled : Takes false old new facts → (reply : List ℕ) → reply ≡ line_of (codes "refused limit facts") → after ≡ before ++ reply → Counted old new facts before after
-    overfilled taken reply is text = counted true has_room reply (inl (taken.0, (is, ap (λ (tests : List KeptTest). record { tests = tests }) taken.1))) text (infers-some facts some (record {
+    overfilled taken reply is text = counted true has_room reply (inl (taken.0, (is, taken.1))) text (infers-some facts some (record {
       fits = λ few. absurd (few taken.0);
       full = λ many xs a. taken.2 ∙ ap (λ (n : ℕ). raised (asked_of old.rules) (FACT_LIMIT - n)) (lengths (asked_in (tests_of old)) old.graph.facts xs was.marked.closure a);
     }))
@@ -102,10 +106,9 @@ unnamed number None router out is = sym is
 unnamed number (Some r) router out is = absurd (cc)
 
 -- a test whose router isn't there
-pub unknown : (s : StateView) (tests : List KeptTest) (test : TestCommand) → router_named s.routers (router_of test) ≡ None
-    → Named s (router_named s.routers (router_of test)) (record { tests = tests }) test (line_of (unknown_of (router_of test))) (record { tests = tests })
-unknown s tests test none =
-    subst (λ (r : Option ℕ). Named s r (record { tests = tests }) test (line_of (unknown_of (router_of test))) (record { tests = tests })) (sym none) (refl, refl)
+pub unknown : (s : StateView) (listed : Bool) (kept : State) (test : TestCommand) → router_named s.routers (router_of test) ≡ None
+    → Named s listed (router_named s.routers (router_of test)) kept test (line_of (unknown_of (router_of test))) kept
+unknown s listed kept test none = subst (λ (r : Option ℕ). Named s listed r kept test (line_of (unknown_of (router_of test))) kept) (sym none) (refl, refl)
 
 -- a test of a line that no element has asks for no fact
 pub none-lined : (s : StateView) (router : ℕ) (test : TestCommand) → router_named s.routers (router_of test) ≡ Some router → has_line s router test ≡ false → tested_facts s test ≡ []
@@ -123,24 +126,24 @@ none-lined s router (Element name line) at none =
     no_owner None out = refl
     no_owner (Some element) out = absurd (cc)
 
-module _ (s : StateView) (router : ℕ) (test : TestCommand) (old new : State) (reply : List ℕ) where
+module _ (s : StateView) (listed : Bool) (router : ℕ) (test : TestCommand) (old new : State) (reply : List ℕ) where
   -- such a test is refused
-  pub unlined : has_line s router test ≡ false → Refuses old (codes "refused line") reply new → Lined s (has_line s router test) old test reply new
-  unlined none refuses = subst (λ (b : Bool). Lined s b old test reply new) (sym none) refuses
+  pub unlined : has_line s router test ≡ false → Refuses old (codes "refused line") reply new → Lined s listed (has_line s router test) old test reply new
+  unlined none refuses = subst (λ (b : Bool). Lined s listed b old test reply new) (sym none) refuses
 
   -- any other is answered as its facts are
-  pub lined : has_line s router test ≡ true → Tests s old (tested_facts s test) (text_of test) reply new → Lined s (has_line s router test) old test reply new
-  lined there tests = subst (λ (b : Bool). Lined s b old test reply new) (sym there) tests
+  pub lined : has_line s router test ≡ true → Tests s listed old (tested_facts s test) (text_of test) reply new → Lined s listed (has_line s router test) old test reply new
+  lined there tests = subst (λ (b : Bool). Lined s listed b old test reply new) (sym there) tests
 
-  pub named : router_named s.routers (router_of test) ≡ Some router → Lined s (has_line s router test) old test reply new
-      → Named s (router_named s.routers (router_of test)) old test reply new
-  named at lines = subst (λ (r : Option ℕ). Named s r old test reply new) (sym at) lines
+  pub named : router_named s.routers (router_of test) ≡ Some router → Lined s listed (has_line s router test) old test reply new
+      → Named s listed (router_named s.routers (router_of test)) old test reply new
+  named at lines = subst (λ (r : Option ℕ). Named s listed r old test reply new) (sym at) lines
 
 -- a test that tests nothing is absent
-pub untested : (s : StateView) (facts : List Fact) (old : State) (text reply : List ℕ) (new : State) → facts ≡ [] → Refuses old (codes "refused absent " ++ text) reply new → Tests s old facts text reply new
-untested s facts old text reply new none refuses = subst (λ (fs : List Fact). Tests s old fs text reply new) (sym none) refuses
+pub untested : (s : StateView) (listed : Bool) (facts : List Fact) (old : State) (text reply : List ℕ) (new : State) → facts ≡ [] → Refuses old (codes "refused absent " ++ text) reply new → Tests s listed old facts text reply new
+untested s listed facts old text reply new none refuses = subst (λ (fs : List Fact). Tests s listed old fs text reply new) (sym none) refuses
 
 -- one that tests something is counted
-pub tested : (s : StateView) (facts : List Fact) (old : State) (text reply : List ℕ) (new : State) → 0 < length facts → Counts s (nat_lt (length old.tests) TEST_LIMIT) old facts reply new → Tests s old facts text reply new
-tested s [] old text reply new few counts = absurd (omega arith)
-tested s (f ∷ fs) old text reply new some counts = counts
+pub tested : (s : StateView) (listed : Bool) (facts : List Fact) (old : State) (text reply : List ℕ) (new : State) → 0 < length facts → Counts s listed (nat_lt (length old.tests) TEST_LIMIT) old facts reply new → Tests s listed old facts text reply new
+tested s listed [] old text reply new few counts = absurd (omega arith)
+tested s listed (f ∷ fs) old text reply new some counts = counts

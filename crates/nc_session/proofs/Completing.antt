@@ -1,47 +1,43 @@
 -- How a run ends where nothing fails, and where too many files are named.
-use Rattle.std.proofs.Common.{◌≡◌, ◌⊎◌, ℕ, ◌<◌, Bool, true, cond, length, List, [], Option, None, Some, Result, Ok, Err, IfSome, refl, sym, ap, inl, inr, arith}
-use Rattle.std.specs.Option.{option_map_or}
+use Rattle.std.proofs.Common.{◌≡◌, ◌⊎◌, ℕ, ◌<◌, Bool, true, cond, length, List, Option, None, Some, Result, Ok, Err, IfSome, refl, sym, ap, inl, inr, arith}
 use Rattle.nc_outside.specs.Named.{Named}
-use Rattle.nc_outside.specs.Counts.{Faults, Rose}
+use Rattle.nc_outside.specs.Counts.{Rose}
+use Rattle.nc_words.specs.Words.{InputView, Files, Generated, RequestView}
 use Rattle.nc_session.specs.File.{LoadedView}
 use Rattle.nc_types.specs.declared.TheConstants.{ROUTER_LIMIT}
 use Rattle.nc_session.specs.declared.status.Status.{Status}
 use Rattle.nc_session.specs.declared.status.Status.TheVariants.{Done, Config, Usage, Unstable, InputFault, OutputFault, FileFault, Memory, Limit}
-use Rattle.nc_session.specs.Words.{RequestView, request_of}
-use Rattle.nc_session.specs.Load.{Refusal, load}
-use Rattle.nc_session.specs.Output.{is_within}
-use Rattle.nc_session.specs.Leaving.{Failures}
-use Rattle.nc_session.specs.Causes.{IsLimitOrUntold, files_of, status_of, Settles, IsOverLimit, IsAbsent}
-use Rattle.nc_session.specs.Ending.{Seen, IsNamingFew, EndsAs}
+use Rattle.nc_session.specs.Load.{Refusal, Missing, files_in, lists_in, load_asked, load_over, names_in}
+use Rattle.nc_session.specs.Output.{OutputAsked, Writes, is_within, needed_asked, needed_in, session_asked}
+use Rattle.nc_session.specs.Causes.{IsAnswer, IsLimitOrUntold, named_asked, named_in, status_of, Settles, IsOverLimit, IsAbsentAsked}
+use Rattle.nc_session.specs.Ending.{Seen, IfSession, IsNamingFew, IsTold, EndsAs}
+use Rattle.nc_session.proofs.Options.{some_of, some_more}
 
 abbrev Outcome : Type 0
 Outcome = Result LoadedView Refusal
 
 -- ---- the files that the words name
 
-pub files_are : (words : List (List ℕ)) (request : RequestView) → request_of words ≡ Some request → files_of words ≡ request.files
-files_are words request named = ap (λ (o : Option RequestView). option_map_or (λ (r : RequestView). r.files) o []) named
+pub files_are : (asked : Option RequestView) (request : RequestView) → asked ≡ Some request → named_asked asked ≡ named_in request.input
+files_are asked request named = ap named_asked named
 
-pub files_none : (words : List (List ℕ)) → request_of words ≡ None → files_of words ≡ []
-files_none words none = ap (λ (o : Option RequestView). option_map_or (λ (r : RequestView). r.files) o []) none
+few_files : (asked : Option RequestView) → IsNamingFew asked → ROUTER_LIMIT < length (named_asked asked) → ⊥
+few_files asked few many = absurd (omega (arith, ap length (files_are asked few.0 few.1), few.2, many))
 
-few_files : (words : List (List ℕ)) → IsNamingFew words → ROUTER_LIMIT < length (files_of words) → ⊥
-few_files words few many = absurd (omega (arith, ap length (files_are words few.0 few.1), few.2, many))
-
-no_files : (words : List (List ℕ)) → request_of words ≡ None → ROUTER_LIMIT < length (files_of words) → ⊥
-no_files words none many = absurd (omega (arith, ap length (files_none words none), many))
+no_files : (asked : Option RequestView) → asked ≡ None → ROUTER_LIMIT < length (named_asked asked) → ⊥
+no_files asked none many = absurd (omega (arith, ap length (ap named_asked none), many))
 
 -- too many files end as a limit that is passed, if that could be told
-pub many_ends : (words : List (List ℕ)) (before now : Seen) (status : Status) → EndsAs words before now status → ROUTER_LIMIT < length (files_of words) → IsLimitOrUntold status
-many_ends words before now Done e many = absurd (few_files words e.2 many)
-many_ends words before now Config e many = absurd (few_files words e.2 many)
-many_ends words before now Usage e many = absurd (no_files words e.2 many)
-many_ends words before now Unstable e many = absurd (few_files words e.2 many)
-many_ends words before now InputFault e many = absurd (few_files words e.3 many)
-many_ends words before now OutputFault e many = tt
-many_ends words before now FileFault e many = absurd (few_files words e.3 many)
-many_ends words before now Memory e many = tt
-many_ends words before now Limit e many = tt
+pub many_ends : (asked : Option RequestView) (before now : Seen) (status : Status) → EndsAs asked before now status → ROUTER_LIMIT < length (named_asked asked) → IsLimitOrUntold status
+many_ends asked before now Done e many = absurd (few_files asked e.2 many)
+many_ends asked before now Config e many = absurd (few_files asked e.2 many)
+many_ends asked before now Usage e many = absurd (no_files asked e.2 many)
+many_ends asked before now Unstable e many = absurd (few_files asked e.2 many)
+many_ends asked before now InputFault e many = absurd (few_files asked e.3 many)
+many_ends asked before now OutputFault e many = tt
+many_ends asked before now FileFault e many = absurd (few_files asked e.3 many)
+many_ends asked before now Memory e many = tt
+many_ends asked before now Limit e many = tt
 
 -- ---- where nothing fails
 
@@ -75,31 +71,108 @@ other_unstable (inl e) = absurd cc
 other_unstable (inr (inl e)) = absurd cc
 other_unstable (inr (inr e)) = absurd cc
 
-module _ (words : List (List ℕ)) (fs : List Named) (session : List ℕ) (written : Option (List ℕ)) (faults : Faults) (failures : Failures) (now : Seen) where
-  abbrev told_before : Seen
-  told_before = record { files = Some fs; faults = faults; told = record { rest = Some session; written = written }; failures = failures }
+-- ---- a file that isn't there
 
-  absent_file : Rose faults now.faults ⊎ IsAbsent words (Some fs) → ¬ Rose faults now.faults → IsComplete (load words fs) session FileFault
-  absent_file (inl rose) files = absurd (files rose)
-  absent_file (inr missing) files = inl (sym (ap (λ (l : Outcome). status_of l session) missing))
+absent_in : (rounds : ℕ) (input : InputView) (files : Option (List Named)) → IsAbsentAsked (Some (record { rounds = rounds; input = input })) files
+    → IfSome (needed_in input files) (λ fs. load_over (lists_in input) rounds (names_in input) (files_in input fs) ≡ Err Missing)
+absent_in rounds (Files names) None absent = absurd absent
+absent_in rounds (Files names) (Some fs) absent = absent
+absent_in rounds (Generated pods) None absent = absurd absent
+absent_in rounds (Generated pods) (Some fs) absent = absent
 
-  complete_by : (status : Status) → EndsAs words told_before now status → ¬ Rose faults now.faults → ¬ Rose failures.source now.failures.source
-      → ¬ Rose failures.sink now.failures.sink → IsComplete (load words fs) session status
-  complete_by Done e files source sink = within_done (load words fs) session e.3.within e.1.0
-  complete_by Memory e files source sink = inr refl
-  complete_by Usage e files source sink = by_refusal (load words fs) session Usage other_usage e.1.0
-  complete_by Config e files source sink = by_refusal (load words fs) session Config other_config e.1.0
-  complete_by Limit e files source sink = over_limit (load words fs) session e.3 e.1.0
-  complete_by InputFault e files source sink = absurd (source e.1)
-  complete_by OutputFault e files source sink = absurd (sink e.2)
-  complete_by FileFault e files source sink = absent_file e.0 files
-  complete_by Unstable e files source sink = by_refusal (load words fs) session Unstable other_unstable e.1.0
+absent_needed : (asked : Option RequestView) (files : Option (List Named)) → IsAbsentAsked asked files → IfSome (needed_asked asked files) (λ fs. load_asked asked fs ≡ Err Missing)
+absent_needed None None absent = absurd absent
+absent_needed None (Some fs) absent = absent
+absent_needed (Some request) files absent = absent_in request.rounds request.input files absent
 
--- the same for all objects
-pub completes : (words : List (List ℕ)) (files : Option (List Named)) (rest written : Option (List ℕ)) (faults : Faults) (failures : Failures) (now : Seen) (status : Status)
-    → EndsAs words (record { files = files; faults = faults; told = record { rest = rest; written = written }; failures = failures }) now status
-    → IfSome files (λ fs. IfSome rest (λ session. ¬ Rose faults now.faults → ¬ Rose failures.source now.failures.source
-    → ¬ Rose failures.sink now.failures.sink → (status ≡ status_of (load words fs) session) ⊎ (status ≡ Memory)))
-completes words None rest written faults failures now status e = tt
-completes words (Some fs) None written faults failures now status e = tt
-completes words (Some fs) (Some session) written faults failures now status e = complete_by words fs session written faults failures now status e
+-- ---- what is known where the files and the session are told
+
+module _ (asked : Option RequestView) (before now : Seen) where
+  -- P holds of what was loaded and of the session that is answered
+  abbrev Over : (Outcome → List ℕ → Type 0) → Type 0
+  Over P = IfSome (needed_asked asked before.files) (λ fs. IfSome (needed_asked asked before.told.rest) (λ session. P (load_asked asked fs) (session_asked asked session)))
+
+  abbrev OverFiles : (Outcome → Type 0) → Type 0
+  OverFiles P = IfSome (needed_asked asked before.files) (λ fs. P (load_asked asked fs))
+
+  abbrev OverSession : (List ℕ → Type 0) → Type 0
+  OverSession P = IfSome (needed_asked asked before.told.rest) (λ session. P (session_asked asked session))
+
+  of_all : (P : Outcome → List ℕ → Type 0) → ((l : Outcome) (session : List ℕ) → P l session) → Over P
+  of_all P holds =
+      some_of (needed_asked asked before.files) (λ fs. OverSession (P (load_asked asked fs)))
+      (λ fs. some_of (needed_asked asked before.told.rest) (λ session. P (load_asked asked fs) (session_asked asked session)) (λ session. holds (load_asked asked fs) (session_asked asked session)))
+
+  of_files : (P : Outcome → Type 0) (Q : Outcome → List ℕ → Type 0) → ((l : Outcome) (session : List ℕ) → P l → Q l session) → OverFiles P → Over Q
+  of_files P Q holds =
+      some_more (needed_asked asked before.files) (λ fs. P (load_asked asked fs)) (λ fs. OverSession (Q (load_asked asked fs)))
+      (λ fs p. some_of (needed_asked asked before.told.rest) (λ session. Q (load_asked asked fs) (session_asked asked session)) (λ session. holds (load_asked asked fs) (session_asked asked session) p))
+
+  of_both : (P : Outcome → Type 0) (Q R : Outcome → List ℕ → Type 0) → ((l : Outcome) (session : List ℕ) → P l → Q l session → R l session) → OverFiles P → Over Q → Over R
+  of_both P Q R holds p q = on (needed_asked asked before.files) p q
+    where
+      on : (files : Option (List Named)) → IfSome files (λ fs. P (load_asked asked fs)) → IfSome files (λ fs. OverSession (Q (load_asked asked fs))) → IfSome files (λ fs. OverSession (R (load_asked asked fs)))
+      on None p q = tt
+      on (Some fs) p q =
+          some_more (needed_asked asked before.told.rest) (λ session. Q (load_asked asked fs) (session_asked asked session)) (λ session. R (load_asked asked fs) (session_asked asked session))
+          (λ session. holds (load_asked asked fs) (session_asked asked session) p) q
+
+  of_session : (Q : List ℕ → Type 0) → OverSession Q → Over (λ l session. Q session)
+  of_session Q q = some_of (needed_asked asked before.files) (λ fs. OverSession Q) (λ fs. q)
+
+  settles_of : (status : Status) → IsTold asked before now status → OverFiles (λ l. Settles l status)
+  settles_of status told =
+      some_more (needed_asked asked before.files)
+      (λ fs. Settles (load_asked asked fs) status × IfSession asked before now (λ session. Writes before.told.written now.told.written (OutputAsked asked fs session status)))
+      (λ fs. Settles (load_asked asked fs) status) (λ fs both. both.0) told
+
+  -- ---- what stands written
+
+  abbrev Written : Status → List Named → Type 0
+  Written status fs = IfSession asked before now (λ session. Writes before.told.written now.told.written (OutputAsked asked fs session status))
+
+  written_of : (status : Status) → IsTold asked before now status → IfSome (needed_asked asked before.files) (Written status)
+  written_of status told =
+      some_more (needed_asked asked before.files) (λ fs. Settles (load_asked asked fs) status × Written status fs) (Written status) (λ fs both. both.1) told
+
+  -- a status that comes with its bytes
+  pub answers : (status : Status) → EndsAs asked before now status → IsAnswer status → IfSome (needed_asked asked before.files) (Written status)
+  answers Done e comes = written_of Done e.1
+  answers Config e comes = written_of Config e.1
+  answers Usage e comes = written_of Usage e.1
+  answers Unstable e comes = written_of Unstable e.1
+  answers Limit e comes = written_of Limit e.1
+  answers InputFault e comes = absurd comes
+  answers OutputFault e comes = absurd comes
+  answers FileFault e comes = absurd comes
+  answers Memory e comes = absurd comes
+
+  -- ---- by status
+
+  abbrev Ends : Status → Outcome → List ℕ → Type 0
+  Ends status l session =
+      ¬ Rose before.faults now.faults → ¬ Rose before.failures.source now.failures.source → ¬ Rose before.failures.sink now.failures.sink → IsComplete l session status
+
+  refused : (status : Status) → ((status ≡ Done) ⊎ ((status ≡ Limit) ⊎ (status ≡ InputFault)) → ⊥) → IsTold asked before now status → Over (Ends status)
+  refused status other told =
+      of_files (λ l. Settles l status) (Ends status) (λ l session settles files source sink. by_refusal l session status other settles) (settles_of status told)
+
+  by_absence : Rose before.faults now.faults ⊎ IsAbsentAsked asked before.files → Over (Ends FileFault)
+  by_absence (inl rose) = of_all (Ends FileFault) (λ l session files source sink. absurd (files rose))
+  by_absence (inr absent) =
+      of_files (λ l. l ≡ Err Missing) (Ends FileFault) (λ l session missing files source sink. inl (sym (ap (λ (o : Outcome). status_of o session) missing))) (absent_needed asked before.files absent)
+
+  -- where nothing fails
+  pub completes : (status : Status) → EndsAs asked before now status → Over (Ends status)
+  completes Done e =
+      of_both (λ l. Settles l Done) (λ l session. is_within session ≡ true) (Ends Done) (λ l session settles within files source sink. within_done l session within settles)
+      (settles_of Done e.1) (of_session (λ session. is_within session ≡ true) e.3.within)
+  completes Memory e = of_all (Ends Memory) (λ l session files source sink. inr refl)
+  completes Usage e = refused Usage other_usage e.1
+  completes Config e = refused Config other_config e.1
+  completes Limit e =
+      of_both (λ l. Settles l Limit) IsOverLimit (Ends Limit) (λ l session settles over files source sink. over_limit l session over settles) (settles_of Limit e.1) e.3
+  completes InputFault e = of_all (Ends InputFault) (λ l session files source sink. absurd (source e.1))
+  completes OutputFault e = of_all (Ends OutputFault) (λ l session files source sink. absurd (sink e.2))
+  completes FileFault e = by_absence e.0
+  completes Unstable e = refused Unstable other_unstable e.1

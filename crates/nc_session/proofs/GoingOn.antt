@@ -1,5 +1,5 @@
 -- A session can always go on: while the facts of all tests hold, there is a reply to every line.
-use Rattle.std.proofs.Common.{◌≡◌, ◌↔◌, ℕ, zero, suc, ◌+◌, ◌<◌, Bool, true, false, cond, nat_lt, List, [], ◌∷◌, ◌++◌, length, map, filter, All, Any, Option, Some, None, refl, sym, ap, ◌∙◌, subst, inl, inr, append-nil, arith}
+use Rattle.std.proofs.Common.{◌≡◌, ◌↔◌, ◌⊎◌, ℕ, zero, suc, ◌+◌, ◌<◌, Bool, true, false, cond, nat_lt, List, [], ◌∷◌, ◌++◌, length, map, filter, All, Any, Contains, Option, Some, None, refl, sym, ap, ◌∙◌, subst, inl, inr, append-nil, arith}
 use Rattle.std.specs.Prelude.{slice_get, slice_index_or, codes}
 use Rattle.std.specs.List.{list_any}
 use Rattle.std.proofs.Math.Seq.{take-append_seam, drop-append_seam}
@@ -13,7 +13,16 @@ use Rattle.nc_types.specs.Network.{owner_at, router_named}
 use Rattle.nc_types.specs.declared.command.TestCommand.{TestCommand}
 use Rattle.nc_graph.specs.Closure.{IsClosure, ReachesMoreThan}
 use Rattle.nc_graph.specs.Flow.{Flow}
-use Rattle.nc_graph.specs.Derivation.{IsStrong, IsInSome, strong, occurs}
+use Rattle.nc_graph.specs.Derivation.{IsStrong, IsInSome, strong, occurs, Carries, carried}
+use Rattle.std.specs.List.Sorted.{IsStrictlyIncreasing}
+use Rattle.nc_diagram.specs.Sets.{has, all_but}
+use Rattle.nc_diagram.specs.Counter.{Implies as IsImplying}
+use Rattle.nc_formula.specs.Parts.{carrying_each}
+use Rattle.nc_session.specs.Questions.{IsAnswer, yes_of, no_of}
+use Rattle.nc_session.proofs.Carrying.{implied, greatest}
+use Rattle.nc_session.proofs.Deciding.{AsksBelow, Missing, decide}
+use Rattle.nc_session.proofs.Bounded.{carrying_low}
+use Rattle.nc_session.proofs.Fewer.{asked-fewer}
 use Rattle.nc_marks.specs.Marks.{IsMark}
 use Rattle.nc_marks.specs.declared.mark.Mark.{Mark}
 use Rattle.nc_marks.specs.declared.mark.Mark.TheVariants.{Strong, Weak, Uncovered, Outside}
@@ -21,14 +30,14 @@ use Rattle.nc_fact.specs.declared.fact.Fact.{Fact}
 use Rattle.nc_fact.specs.Facts.{holds}
 use Rattle.nc_fact.specs.Tested.{tested_facts, named_facts}
 use Rattle.nc_rules.specs.Rules.{flow_of}
-use Rattle.nc_command.specs.declared.command.Command.TheVariants.{Test, Show, Lcov, Json, Quit}
+use Rattle.nc_command.specs.declared.command.Command.TheVariants.{Test, Forget, Implies, Show, Lcov, Json, Quit}
 use Rattle.nc_command.specs.Command.{Line, Passed, TooLong, Unread, Asks, command_of, text_of}
 use Rattle.nc_session.specs.declared.TheConstants.{TEST_LIMIT, FACT_LIMIT}
-use Rattle.nc_report.specs.Texts.{Sheet, letter, line_of, report_of, lcov_of, json_of}
-use Rattle.nc_session.specs.Session.{accepted_of}
+use Rattle.nc_report.specs.Texts.{Sheet, letter, line_of, report_by, lcov_of, json_of}
+use Rattle.nc_session.specs.Session.{accepted_of, forgot_of, untested_of}
 use Rattle.nc_session.specs.File.{LoadedView}
 use Rattle.nc_session.specs.Marks.{AreLineMarks, IsSheet, IsFormOf}
-use Rattle.nc_session.specs.Session.{KeptTest, live_test, State, no_tests, asked_in, live_in, router_of, IsReply, Counts, Tests, Lined, Named as IsNamed, has_line, unknown_of, Tells, Shows, listing_at, Answers, Run}
+use Rattle.nc_session.specs.Session.{KeptTest, live_test, State, no_tests, with_test, with_pair, without_test, test_in, live_place, IsReported, Forgets, Compares, Questions, asked_in, live_in, router_of, IsReply, Counts, Tests, Lined, Named as IsNamed, has_line, unknown_of, Tells, Shows, listing_at, Answers, Run}
 use Rattle.nc_session.specs.Leaving.{GoesOn}
 
 -- ---- lists that are made
@@ -175,31 +184,41 @@ module _ (network : LoadedView) where
   more_hold : (st : State) (facts : List Fact) → Holds st → Hold (flow_of network.state) facts → Hold (flow_of network.state) (asked_in st.tests ++ facts)
   more_hold st facts hold these = All-append (λ f. (flow_of network.state).holds f ≡ true) (asked_in st.tests) facts hold these
 
-  accepted_hold : (st : State) (facts : List Fact) → Holds st → Hold (flow_of network.state) facts → Holds (record { tests = st.tests ++ live_test facts ∷ [] })
+  accepted_hold : (st : State) (facts : List Fact) → Holds st → Hold (flow_of network.state) facts → Holds (with_test st facts)
   accepted_hold st facts hold these = subst (Hold (flow_of network.state)) (sym (one_more st.tests facts)) (more_hold st facts hold these)
 
   -- ---- a step keeps that they hold
 
-  counts_keep : (room : Bool) (old : State) (facts reply : _) (new : State) → Hold (flow_of network.state) facts → Holds old → Counts network.state room old facts reply new → Holds new
+  counts_keep : (room : Bool) (old : State) (facts reply : _) (new : State) → Hold (flow_of network.state) facts → Holds old → Counts network.state network.listed room old facts reply new → Holds new
   counts_keep true old facts reply new these hold (inl over) = subst Holds (sym over.1.1) hold
   counts_keep true old facts reply new these hold (inr took) = subst Holds (sym took.1) (accepted_hold old facts hold these)
   counts_keep false old facts reply new these hold full = subst Holds (sym full.1) hold
 
-  tests_keep : (old : State) (facts : List Fact) (text reply : List ℕ) (new : State) → Hold (flow_of network.state) facts → Holds old → Tests network.state old facts text reply new → Holds new
+  tests_keep : (old : State) (facts : List Fact) (text reply : List ℕ) (new : State) → Hold (flow_of network.state) facts → Holds old → Tests network.state network.listed old facts text reply new → Holds new
   tests_keep old [] text reply new these hold absent = subst Holds (sym absent.1) hold
   tests_keep old (fact ∷ facts) text reply new these hold counted = counts_keep (nat_lt (length old.tests) TEST_LIMIT) old (fact ∷ facts) reply new these hold counted
 
-  lined_keep : (there : Bool) (old : State) (test : TestCommand) (reply : List ℕ) (new : State) → Holds old → Lined network.state there old test reply new → Holds new
+  lined_keep : (there : Bool) (old : State) (test : TestCommand) (reply : List ℕ) (new : State) → Holds old → Lined network.state network.listed there old test reply new → Holds new
   lined_keep false old test reply new hold unlined = subst Holds (sym unlined.1) hold
   lined_keep true old test reply new hold tested = tests_keep old (tested_facts network.state test) (text_of test) reply new (tested_hold test) hold tested
 
-  named_keep : (router : Option ℕ) (old : State) (test : TestCommand) (reply : List ℕ) (new : State) → Holds old → IsNamed network.state router old test reply new → Holds new
+  named_keep : (router : Option ℕ) (old : State) (test : TestCommand) (reply : List ℕ) (new : State) → Holds old → IsNamed network.state network.listed router old test reply new → Holds new
   named_keep None old test reply new hold unknown = subst Holds (sym unknown.1) hold
   named_keep (Some router) old test reply new hold lined = lined_keep (has_line network.state router test) old test reply new hold lined
 
   shows_keep : (router : Option ℕ) (old : State) (name reply : List ℕ) (new : State) → Holds old → Shows network router old name reply new → Holds new
   shows_keep None old name reply new hold unknown = subst Holds (sym unknown.1) hold
   shows_keep (Some router) old name reply new hold told = subst Holds (sym told.1) hold
+
+  forgets_keep : (place : Option ℕ) (old : State) (number : ℕ) (reply : List ℕ) (new : State) → Holds old → Forgets network.state network.listed place old number reply new → Holds new
+  forgets_keep None old number reply new hold untested = subst Holds (sym untested.1) hold
+  forgets_keep (Some place) old number reply new hold forgot = subst Holds (sym forgot.0) (subst (Hold (flow_of network.state)) (sym (asked-fewer old.tests place)) hold)
+
+  questions_keep : (i j : Option ℕ) (old : State) (first second : ℕ) (reply : List ℕ) (new : State) → Holds old → Questions network.state i j old first second reply new → Holds new
+  questions_keep None j old first second reply new hold untested = subst Holds (sym untested.1) hold
+  questions_keep (Some i) None old first second reply new hold untested = subst Holds (sym untested.1) hold
+  questions_keep (Some i) (Some j) old first second reply new hold (inl answered) = subst Holds (sym answered.1) hold
+  questions_keep (Some i) (Some j) old first second reply new hold (inr refused) = subst Holds (sym refused.1.1) hold
 
   answer_keeps : (old : State) (line : Line) (reply : List ℕ) (new : State) → Holds old → Answers network old line reply new → Holds new
   answer_keeps old Passed reply new hold a = subst Holds (sym a.1) hold
@@ -210,6 +229,8 @@ module _ (network : LoadedView) where
   answer_keeps old (Asks Lcov) reply new hold a = subst Holds (sym a.1) hold
   answer_keeps old (Asks Json) reply new hold a = subst Holds (sym a.1) hold
   answer_keeps old (Asks (Test test)) reply new hold a = named_keep (router_named network.state.routers (router_of test)) old test reply new hold a
+  answer_keeps old (Asks (Forget number)) reply new hold a = forgets_keep (live_place old.tests number) old number reply new hold a
+  answer_keeps old (Asks (Implies first second)) reply new hold a = questions_keep (live_place old.tests first) (live_place old.tests second) old first second reply new hold a
 
   run_keeps : (old : State) (lines : List (List ℕ)) (replies : List ℕ) (last : State) → Holds old → Run network old lines replies last → Holds last
   run_keeps old [] replies last hold run = subst Holds (sym run.1) hold
@@ -219,26 +240,31 @@ module _ (network : LoadedView) where
 
   module _ (strongs : (e : ℕ) (f : Fact) → (flow_of network.state).holds f ≡ true → IsStrong (flow_of network.state) e f ↔ (strong (flow_of network.state) e f ≡ true))
       (somes : (e : ℕ) (f : Fact) → (flow_of network.state).holds f ≡ true → IsInSome (flow_of network.state) e f ↔ (occurs (flow_of network.state) e f ≡ true))
+      (evaluated : (x : ℕ → Bool) (f : Fact) → (flow_of network.state).holds f ≡ true → Carries (flow_of network.state) x f ↔ (carried (flow_of network.state) x f ≡ true))
+      (lacks : (missing : List ℕ) (v : ℕ) → IsStrictlyIncreasing missing → (has (all_but missing) v ≡ false) ↔ Contains missing v)
       (exists : (fs : List Fact) → Hold (flow_of network.state) fs → (xs : List Fact) × IsClosure (flow_of network.state) fs xs)
       (decided : (n : ℕ) (fs xs : List Fact) → IsClosure (flow_of network.state) fs xs → ReachesMoreThan (flow_of network.state) n fs ↔ (n < length xs)) where
     form_some : (form : List Sheet → List ℕ) (tests : List KeptTest) → Hold (flow_of network.state) (asked_in tests)
         → (text : List ℕ) × IsFormOf (flow_of network.state) (live_in tests) network.state.routers form text
     form_some form tests hold = a_form (flow_of network.state) strongs somes (live_in tests) (all_live (λ f. (flow_of network.state).holds f ≡ true) tests hold) network.state.routers form
 
-    a_reply : (tests : List KeptTest) → Hold (flow_of network.state) (asked_in tests) → (reply : List ℕ) × IsReply network.state tests reply
+    a_report : (tests : List KeptTest) (first : List ℕ) → Hold (flow_of network.state) (asked_in tests) → (reply : List ℕ) × IsReported network.state network.listed tests first reply
+    a_report tests first hold =
+        let report = form_some (report_by network.listed) tests hold in
+        (first ++ report.0, record { report = report.0; is_report = report.1; text = refl })
+
+    a_reply : (tests : List KeptTest) → Hold (flow_of network.state) (asked_in tests) → (reply : List ℕ) × IsReply network.state network.listed tests reply
     a_reply tests hold =
         let closed = exists (asked_in tests) hold in
-        let report = form_some report_of tests hold in (
-          accepted_of (length tests) (length closed.0) ++ report.0,
-          record { asked = closed.0; closure = closed.1; report = report.0; is_report = report.1; text = refl },
-        )
+        let report = a_report tests (accepted_of (length tests) (length closed.0)) hold in
+        (report.0, record { asked = closed.0; closure = closed.1; reported = report.1 })
 
-    counts_some : (room : Bool) (old : State) (facts : List Fact) → Hold (flow_of network.state) facts → Holds old → (reply : List ℕ) × (new : State) × Counts network.state room old facts reply new
+    counts_some : (room : Bool) (old : State) (facts : List Fact) → Hold (flow_of network.state) facts → Holds old → (reply : List ℕ) × (new : State) × Counts network.state network.listed room old facts reply new
     counts_some false old facts these hold = (line_of (codes "refused limit tests"), old, (refl, refl))
     counts_some true old facts these hold =
         let all : Hold (flow_of network.state) (asked_in old.tests ++ facts) = more_hold old facts hold these in
         let closed = exists (asked_in old.tests ++ facts) all in
-        let next : State = record { tests = old.tests ++ live_test facts ∷ [] } in
+        let next : State = with_test old facts in
         let test = decided FACT_LIMIT (asked_in old.tests ++ facts) closed.0 closed.1 in
         elim (cases_lt FACT_LIMIT (length closed.0)) [
           | inl many ↦ (line_of (codes "refused limit facts"), old, inl (test.1 many, (refl, refl)))
@@ -247,15 +273,15 @@ module _ (network : LoadedView) where
               (reply.0, next, inr ((λ more. let many : FACT_LIMIT < length closed.0 = test.0 more in absurd (omega arith)), refl, reply.1))
         ]
 
-    tests_some : (old : State) (facts : List Fact) (text : List ℕ) → Hold (flow_of network.state) facts → Holds old → (reply : List ℕ) × (new : State) × Tests network.state old facts text reply new
+    tests_some : (old : State) (facts : List Fact) (text : List ℕ) → Hold (flow_of network.state) facts → Holds old → (reply : List ℕ) × (new : State) × Tests network.state network.listed old facts text reply new
     tests_some old [] text these hold = (line_of (codes "refused absent " ++ text), old, (refl, refl))
     tests_some old (fact ∷ facts) text these hold = counts_some (nat_lt (length old.tests) TEST_LIMIT) old (fact ∷ facts) these hold
 
-    lined_some : (there : Bool) (old : State) (test : TestCommand) → Holds old → (reply : List ℕ) × (new : State) × Lined network.state there old test reply new
+    lined_some : (there : Bool) (old : State) (test : TestCommand) → Holds old → (reply : List ℕ) × (new : State) × Lined network.state network.listed there old test reply new
     lined_some false old test hold = (line_of (codes "refused line"), old, (refl, refl))
     lined_some true old test hold = tests_some old (tested_facts network.state test) (text_of test) (tested_hold test) hold
 
-    named_some : (router : Option ℕ) (old : State) (test : TestCommand) → Holds old → (reply : List ℕ) × (new : State) × IsNamed network.state router old test reply new
+    named_some : (router : Option ℕ) (old : State) (test : TestCommand) → Holds old → (reply : List ℕ) × (new : State) × IsNamed network.state network.listed router old test reply new
     named_some None old test hold = (line_of (unknown_of (router_of test)), old, (refl, refl))
     named_some (Some router) old test hold = lined_some (has_line network.state router test) old test hold
 
@@ -266,6 +292,43 @@ module _ (network : LoadedView) where
     shows_some None old name hold = (line_of (unknown_of name), old, (refl, refl))
     shows_some (Some router) old name hold = tells_some (listing_at network router) old hold
 
+    forgets_some : (place : Option ℕ) (old : State) (number : ℕ) → Holds old → (reply : List ℕ) × (new : State) × Forgets network.state network.listed place old number reply new
+    forgets_some None old number hold = (line_of (untested_of number), old, (refl, refl))
+    forgets_some (Some place) old number hold =
+        let made = a_report (without_test old place).tests (forgot_of number) (subst (Hold (flow_of network.state)) (sym (asked-fewer old.tests place)) hold) in
+        (made.0, without_test old place, (refl, made.1))
+
+    -- the facts of a test among those that hold
+    test_holds : (tests : List KeptTest) (place : ℕ) → Hold (flow_of network.state) (asked_in tests) → Hold (flow_of network.state) (test_in tests place).facts
+    test_holds [] place hold = All-nil (λ f. (flow_of network.state).holds f ≡ true)
+    test_holds (t ∷ tests) zero hold = all_front (λ f. (flow_of network.state).holds f ≡ true) t.facts (asked_in tests) hold
+    test_holds (t ∷ tests) (suc place) hold = test_holds tests place (all_behind (λ f. (flow_of network.state).holds f ≡ true) t.facts (asked_in tests) hold)
+
+    an_answer : (left right : List Fact) → Hold (flow_of network.state) left → Hold (flow_of network.state) right → (m n : ℕ)
+        → (reply : List ℕ) × IsAnswer (flow_of network.state) network.state.routers left right m n reply
+    an_answer left right holds hold m n = on (decide lacks (carrying_each g left) (carrying_each g right) (a.0 + b.0)
+        (λ s t same. a.1 s t (λ v lt. same v (omega arith))) (λ s t same. b.1 s t (λ v lt. same v (omega arith))))
+      where
+        g : Flow Fact
+        g = flow_of network.state
+
+        a : (n : ℕ) × AsksBelow n (carrying_each g left)
+        a = carrying_low g left
+
+        b : (n : ℕ) × AsksBelow n (carrying_each g right)
+        b = carrying_low g right
+
+        on : IsImplying (carrying_each g left) (carrying_each g right) ⊎ Missing (carrying_each g left) (carrying_each g right) → (reply : List ℕ) × IsAnswer g network.state.routers left right m n reply
+        on (inl is) = (yes_of m n, inl (implied g evaluated left right holds hold is, refl))
+        on (inr lack) = (no_of network.state.routers m n lack.0, inr (record { missing = lack.0; ascend = lack.1; greatest = greatest g evaluated left right holds hold (all_but lack.0) lack.2; text = refl }))
+
+    questions_some : (i j : Option ℕ) (old : State) (first second : ℕ) → Holds old → (reply : List ℕ) × (new : State) × Questions network.state i j old first second reply new
+    questions_some None j old first second hold = (line_of (untested_of first), old, (refl, refl))
+    questions_some (Some i) None old first second hold = (line_of (untested_of second), old, (refl, refl))
+    questions_some (Some i) (Some j) old first second hold =
+        let made = an_answer (test_in old.tests i).facts (test_in old.tests j).facts (test_holds old.tests i hold) (test_holds old.tests j hold) first second in
+        (made.0, with_pair old i j, inl (made.1, refl))
+
     answer_some : (old : State) (line : Line) → Holds old → (reply : List ℕ) × (new : State) × Answers network old line reply new
     answer_some old Passed hold = ([], old, (refl, refl))
     answer_some old TooLong hold = (line_of (codes "refused long"), old, (refl, refl))
@@ -275,6 +338,8 @@ module _ (network : LoadedView) where
     answer_some old (Asks Lcov) hold = tells_some (λ sheets. lcov_of sheets network.files) old hold
     answer_some old (Asks Json) hold = tells_some json_of old hold
     answer_some old (Asks (Test test)) hold = named_some (router_named network.state.routers (router_of test)) old test hold
+    answer_some old (Asks (Forget number)) hold = forgets_some (live_place old.tests number) old number hold
+    answer_some old (Asks (Implies first second)) hold = questions_some (live_place old.tests first) (live_place old.tests second) old first second hold
 
     run_some : (old : State) (lines : List (List ℕ)) → Holds old → (replies : List ℕ) × (last : State) × Run network old lines replies last
     run_some old [] hold = ([], old, (refl, refl))

@@ -1,8 +1,8 @@
 -- What is told of configurations: of one by itself, and of several together.
-use Rattle.std.proofs.Common.{◌≡◌, ℕ, zero, suc, ◌≤◌, List, [], ◌∷◌, length, map, Option, Some, None, Ok, Err, All, refl, sym, ap, ◌∙◌, subst}
+use Rattle.std.proofs.Common.{◌≡◌, ℕ, zero, suc, ◌≤◌, List, [], ◌∷◌, length, map, Option, Some, None, Ok, Err, All, refl, sym, ap, ◌∙◌, subst, arith}
 use Rattle.std.specs.Prelude.{slice_get}
 use Rattle.std.specs.Option.{option_map, option_map_or}
-use Rattle.std.proofs.lemmas.List.Elements.{All-map}
+use Rattle.std.proofs.lemmas.List.Elements.{All-nil, All-cons, All-map}
 use Rattle.std.proofs.lemmas.List.{length-map}
 use Rattle.nc_types.specs.Config.{ConfigView, config_view}
 use Rattle.nc_types.specs.WellFormed.{IsWellFormed}
@@ -19,7 +19,8 @@ use Rattle.nc_network.specs.Told.{IsTold, fault_of, router_of}
 use Rattle.nc_network.specs.declared.fault.JoinFault.{JoinFault}
 use Rattle.nc_network.specs.declared.fault.JoinFault.TheVariants as joins
 use Rattle.nc_types.specs.declared.TheConstants.{LINE_LIMIT}
-use Rattle.nc_report.specs.Views.{FileView}
+use Rattle.nc_report.specs.Views.{FileView, file_view}
+use Rattle.nc_report.specs.declared.file.LoadedFile.{LoadedFile}
 use Rattle.nc_session.specs.File.{AreFilesOf}
 use Rattle.nc_session.specs.Load.{Unsettled, load_judged, load_settled}
 use Rattle.nc_session.specs.Loading.{IsFault, IsConfigured, AreBeside, joining_fault}
@@ -46,6 +47,17 @@ all_formed cs read = All-map IsWellFormed config_view cs (λ k d within. (read k
 
 pub all_short : (cs : List RouterConfig) → All (λ c. IsConfigured (config_view c)) cs → All (λ c. c.line_count ≤ LINE_LIMIT) cs
 all_short cs read = λ k d within. (read k d within).lines
+
+-- the files beside them have no more lines than a file may have
+pub files_short : (files : List LoadedFile) (cs : List RouterConfig) → AreBeside (map file_view files) (map config_view cs) → All (λ c. IsConfigured (config_view c)) cs
+    → All (λ f. length (file_view f).lines ≤ LINE_LIMIT) files
+files_short [] cs beside read = All-nil (λ f. length (file_view f).lines ≤ LINE_LIMIT)
+files_short (f ∷ fs) [] beside read = absurd cc
+files_short (f ∷ fs) (c ∷ cs) beside read =
+    let first : length (file_view f).lines ≡ (config_view c).line_count = cc in
+    let others : AreBeside (map file_view fs) (map config_view cs) = cc in
+    All-cons (λ f. length (file_view f).lines ≤ LINE_LIMIT) f fs (omega (arith, first, (read 0 c (omega arith)).lines))
+    (files_short fs cs others (λ k d lt. read (suc k) d (omega (arith, lt))))
 
 module _ (rounds : ℕ) (names : List (List ℕ)) (routers : List ConfigView) where
   abbrev Holds : Judgement → JoinFault → Type 0

@@ -1,5 +1,4 @@
 mod Options
-mod Asking
 mod EachFile
 mod OneFile
 mod Joined
@@ -8,11 +7,18 @@ mod Taking
 mod Entering
 mod WithFiles
 mod Ends
+mod GeneratedFiles
+mod GeneratedEnds
 mod Completing
 mod Closing
 mod Reporting
 mod Working
 mod Replying
+mod Carrying
+mod Deciding
+mod Bounded
+mod Fewer
+mod Comparing
 mod Answering
 mod ServedLines
 mod SessionLeft

@@ -1,5 +1,5 @@
 -- What holds of a value that may be there, and of bytes that may be told.
-use Rattle.std.proofs.Common.{◌≡◌, ◌⊎◌, ℕ, ◌<◌, ◌≤◌, Bool, true, false, nat_le, List, [], Option, Some, None, IfSome, refl, sym, ◌∙◌, append-nil, inl, inr}
+use Rattle.std.proofs.Common.{◌≡◌, ◌⊎◌, ℕ, ◌<◌, ◌≤◌, Bool, true, false, nat_le, List, [], Option, Some, None, IfSome, refl, sym, ◌∙◌, append-nil, inl, inr, ◌++◌, append_assoc, ap}
 use Rattle.std.proofs.lemmas.Bool.{leb-true, leb-false}
 use Rattle.std.specs.Io.KnownBytes.{Appends, Keeps}
 use Rattle.nc_session.specs.Output.{Writes}
@@ -34,6 +34,14 @@ pub writes_more : (old new : Option (List ℕ)) (P Q : List ℕ → Type 0) → 
 writes_more None new P Q holds w = tt
 writes_more (Some xs) None P Q holds w = w
 writes_more (Some xs) (Some ys) P Q holds w = (w.0, w.1, holds w.0 w.2)
+
+-- what was written behind a text
+pub writes_behind : (old mid new : Option (List ℕ)) (text : List ℕ) (P Q : List ℕ → Type 0) → ((bytes : List ℕ) → P bytes → Q (text ++ bytes)) → Appends old mid text → Writes mid new P → Writes old new Q
+writes_behind None mid new text P Q holds appends w = tt
+writes_behind (Some xs) None new text P Q holds appends w = absurd appends
+writes_behind (Some xs) (Some ys) None text P Q holds appends w = w
+writes_behind (Some xs) (Some ys) (Some zs) text P Q holds appends w =
+    (text ++ w.0, w.1 ∙ ap (λ (l : List ℕ). l ++ w.0) appends ∙ append_assoc xs text w.0, holds w.0 w.2)
 
 pub by_length : (n m : ℕ) → (n ≤ m) ⊎ (m < n)
 by_length n m = on (nat_le n m) refl

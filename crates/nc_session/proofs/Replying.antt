@@ -1,5 +1,5 @@
 -- The reply to a test that was taken up, and a form of the marks that is told.
-use Rattle.std.proofs.Common.{◌≡◌, ℕ, ◌<◌, List, [], ◌++◌, length, Option, None, Some, refl, sym, ap, ◌∙◌, subst, append_assoc}
+use Rattle.std.proofs.Common.{◌≡◌, ℕ, ◌<◌, Bool, List, [], ◌++◌, length, Option, None, Some, refl, sym, ap, ◌∙◌, subst, append_assoc}
 use Rattle.std.proofs.lemmas.List.{length-map}
 use Rattle.std.proofs.lemmas.List.Quantifiers.{position-Some}
 use Rattle.std.specs.Str.{bytes_eq}
@@ -9,37 +9,45 @@ use Rattle.nc_marks.specs.Marks.{ElementMarks, AreMarks}
 use Rattle.nc_rules.specs.Rules.{flow_of}
 use Rattle.nc_rules.specs.Seen.{state_of}
 use Rattle.nc_session.specs.declared.work.Work.{Work}
-use Rattle.nc_report.specs.Texts.{Sheet, report_of}
+use Rattle.nc_report.specs.Texts.{Sheet, report_by}
 use Rattle.nc_session.specs.Session.{accepted_of}
 use Rattle.nc_report.specs.Sheets.{sheets_from}
 use Rattle.nc_report.specs.Views.{FileView}
-use Rattle.nc_session.specs.Marks.{IsFormOf}
+use Rattle.nc_session.specs.Marks.{IsFormOf, IsReport}
 use Rattle.nc_session.specs.Session.{live_in}
-use Rattle.nc_session.specs.Work.{IsWork, Replies, Forms, test_view, tests_of}
+use Rattle.nc_session.specs.Work.{IsWork, Appended, Replies, Forms, test_view, tests_of}
 use Rattle.nc_session.proofs.Reporting.{form-is}
 
-abbrev pub report_for : List ConfigView → ElementMarks → List ℕ
-report_for routers m = report_of (sheets_from routers m 0 routers)
+-- the marks that are kept are those of the facts of the live tests
+abbrev pub AreLive : Work → Type 0
+AreLive w = AreMarks (flow_of (state_of w.rules)) (live_in (tests_of w)) (element_count (state_of w.rules).routers) w.marks.marks
 
-pub replies : (w : Work) → IsWork w → AreMarks (flow_of (state_of w.rules)) (live_in (tests_of w)) (element_count (state_of w.rules).routers) w.marks.marks
-    → (before mid after : List ℕ) (number facts : ℕ) → number ≡ length w.tests.items → facts ≡ length w.graph.facts
-    → mid ≡ before ++ accepted_of number facts → after ≡ mid ++ report_of w.shown → Replies w before after
-replies w is are before mid after number facts counted asked first rest = record {
-  reply = accepted_of (length (tests_of w)) (length w.graph.facts) ++ report;
+-- a report on them, which stands behind some bytes
+abbrev pub Reported : Work → List ℕ → List ℕ → Type 0
+Reported w before after = Appended (IsReport (flow_of (state_of w.rules)) (live_in (tests_of w)) (state_of w.rules).routers w.listed) before after
+
+pub reported : (w : Work) → IsWork w → AreLive w → (before after : List ℕ) → after ≡ before ++ report_by w.listed w.shown → Reported w before after
+reported w is are before after text = record {
+  reply = report_by w.listed w.shown;
+  is_reply =
+      subst (IsFormOf (flow_of (state_of w.rules)) (live_in (tests_of w)) (state_of w.rules).routers (report_by w.listed)) (sym (ap (report_by w.listed) is.shown))
+      (form-is (flow_of (state_of w.rules)) (live_in (tests_of w)) (state_of w.rules).routers w.marks.marks are (report_by w.listed));
+  text = text;
+}
+
+pub replies : (w : Work) → IsWork w → (before mid after : List ℕ) (number facts : ℕ) → number ≡ length w.tests.items → facts ≡ length w.graph.facts
+    → mid ≡ before ++ accepted_of number facts → Reported w mid after → Replies w before after
+replies w is before mid after number facts counted asked first rest = record {
+  reply = accepted_of (length (tests_of w)) (length w.graph.facts) ++ rest.reply;
   is_reply = record {
     asked = w.graph.facts;
     closure = is.marked.closure;
-    report = report;
-    is_report = form-is (flow_of (state_of w.rules)) (live_in (tests_of w)) (state_of w.rules).routers w.marks.marks are report_of;
-    text = refl;
+    reported = record { report = rest.reply; is_report = rest.is_reply; text = refl };
   };
-  text = rest ∙ ap (λ (l : List ℕ). l ++ report_of w.shown) first ∙ append_assoc before (accepted_of number facts) (report_of w.shown)
-      ∙ ap (λ (l : List ℕ). before ++ l) (ap (λ (l : List ℕ). l ++ report_of w.shown) texts ∙ ap (λ (l : List ℕ). accepted_of (length (tests_of w)) (length w.graph.facts) ++ l) (ap report_of is.shown));
+  text = rest.text ∙ ap (λ (l : List ℕ). l ++ rest.reply) first ∙ append_assoc before (accepted_of number facts) rest.reply
+      ∙ ap (λ (l : List ℕ). before ++ (l ++ rest.reply)) texts;
 }
   where
-    report : List ℕ
-    report = report_for (state_of w.rules).routers w.marks.marks
-
     texts : accepted_of number facts ≡ accepted_of (length (tests_of w)) (length w.graph.facts)
     texts = ap (λ (n : ℕ). accepted_of n facts) (counted ∙ sym (length-map w.tests.items test_view)) ∙ ap (λ (n : ℕ). accepted_of (length (tests_of w)) n) asked
 

@@ -16,10 +16,10 @@ use Rattle.nc_tables.specs.Settling.{settled}
 use Rattle.nc_types.specs.declared.TheConstants.{ROUTER_LIMIT, LINE_LIMIT}
 use Rattle.nc_session.specs.declared.TheConstants.{FILE_LIMIT}
 use Rattle.nc_session.specs.declared.refusal.Quantity.TheVariants.{Routers, Bytes, Lines}
-use Rattle.nc_session.specs.Words.{RequestView, request_of}
+use Rattle.nc_words.specs.Words.{RequestView, request_of}
 use Rattle.nc_report.specs.Views.{FileView}
 use Rattle.nc_session.specs.File.{LoadedView}
-use Rattle.nc_session.specs.Load.{Refusal, WrongWords, TooMany, Unsettled, load, load_result, load_lines, load_content, load_each, and_then, load_judged, load_joined, load_names, load_settled, load_request, file_of, with_files}
+use Rattle.nc_session.specs.Load.{Refusal, TooMany, Unsettled, load, load_result, load_lines, load_content, load_each, and_then, load_judged, load_joined, load_names, load_settled, load_request, load_asked, names_in, files_in, lists_in, file_of, with_files}
 
 -- ---- joining
 
@@ -116,22 +116,24 @@ module _ (formed : (lines : List (List ℕ)) (c : ConfigView) → configuration 
   names_settled names files true few = joined_settled names (load_each files names) (leb-true (length names) ROUTER_LIMIT few) (each_loaded files names)
   names_settled names files false few = refusal_settled (TooMany Routers)
 
-  request_settled : (request : RequestView) (files : List Named) → IsSettled (load_names request.files files)
+  files_settled : (names : List (List ℕ)) (files : List Named) → IsSettled (load_names names files)
   unfolding load_names
-  request_settled request files = names_settled request.files files (nat_le (length request.files) ROUTER_LIMIT) refl
+  files_settled names files = names_settled names files (nat_le (length names) ROUTER_LIMIT) refl
 
-  by_files : (files : List FileView) (settles : Result StateView Refusal) (loaded : LoadedView) → ((state : StateView) → settles ≡ Ok state → IsState state)
-      → with_files files settles ≡ Ok loaded → IsState loaded.state
-  by_files files (Err refusal) loaded holds e = absurd cc
-  by_files files (Ok state) loaded holds e =
-      let same : ◌≡◌ {A = LoadedView} (record { state = state; files = files }) loaded = cc in
+  by_files : (listed : Bool) (files : List FileView) (settles : Result StateView Refusal) (loaded : LoadedView) → ((state : StateView) → settles ≡ Ok state → IsState state)
+      → with_files listed files settles ≡ Ok loaded → IsState loaded.state
+  by_files listed files (Err refusal) loaded holds e = absurd cc
+  by_files listed files (Ok state) loaded holds e =
+      let same : ◌≡◌ {A = LoadedView} (record { state = state; files = files; listed = listed }) loaded = cc in
       subst IsState (ap (λ (l : LoadedView). l.state) same) (holds state refl)
 
-  by_request : (asked : Option RequestView) (files : List Named) (loaded : LoadedView) → option_map_or (λ request. load_request request files) asked (Err WrongWords) ≡ Ok loaded → IsState loaded.state
+  by_request : (asked : Option RequestView) (files : List Named) (loaded : LoadedView) → load_asked asked files ≡ Ok loaded → IsState loaded.state
   unfolding IsSettled
   by_request None files loaded e = absurd cc
   by_request (Some request) files loaded e =
-      by_files (map (file_of files) request.files) (load_settled request.rounds (load_names request.files files)) loaded (λ state. request_settled request files request.rounds state) e
+      let own = files_in request.input files in
+      by_files (lists_in request.input) (map (file_of own) (names_in request.input)) (load_settled request.rounds (load_names (names_in request.input) own)) loaded
+      (λ state. files_settled (names_in request.input) own request.rounds state) e
 
   -- what the words and the files load is a state
   pub loaded_state : (words : List (List ℕ)) (files : List Named) (loaded : LoadedView) → load words files ≡ Ok loaded → IsState loaded.state

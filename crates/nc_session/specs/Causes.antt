@@ -1,6 +1,5 @@
 -- With which status a run ends and for what cause, and what it leaves of the files, the source and the sink.
 use Rattle.std.specs.Prelude.{◌≡◌, ◌⊎◌, ℕ, ◌+◌, ◌≤◌, false, List, [], ◌∷◌, ◌++◌, length, Option, None, Some, IfSome, Result, Ok, Err, IsOkAnd, if◌then◌else◌}
-use Rattle.std.specs.Option.{option_map_or}
 use Rattle.nc_outside.specs.Named.{Named, content_of}
 use Rattle.nc_outside.specs.Counts.{Entries, entries_after}
 use Rattle.nc_lines.specs.WholeLines.{all_but_last, whole_lines_of}
@@ -9,10 +8,10 @@ use Rattle.nc_session.specs.File.{LoadedView}
 use Rattle.nc_session.specs.declared.TheConstants.{FILE_LIMIT, SESSION_LIMIT}
 use Rattle.nc_session.specs.declared.status.Status.{Status}
 use Rattle.nc_session.specs.declared.status.Status.TheVariants.{Done, Config, Usage, Unstable, InputFault, OutputFault, FileFault, Memory, Limit}
-use Rattle.nc_session.specs.Words.{request_of}
-use Rattle.nc_session.specs.Load.{Refusal, TooMany, Missing, Unsettled, load, load_each}
+use Rattle.nc_words.specs.Words.{InputView, Files, Generated, RequestView, request_of}
+use Rattle.nc_session.specs.Load.{Refusal, TooMany, Missing, Unsettled, load_asked, load_each}
 use Rattle.nc_session.specs.Refusals.{refusal_status}
-use Rattle.nc_session.specs.Output.{Concludes, has_quit, is_within}
+use Rattle.nc_session.specs.Output.{OutputAsked, has_quit, is_within}
 use Rattle.nc_session.specs.Reading.{TakesAtMost}
 use Rattle.nc_session.specs.Leaving.{Takes, IsCutShort}
 
@@ -27,10 +26,11 @@ IsAnswer Unstable = Unit {0}
 IsAnswer Limit = Unit {0}
 IsAnswer status = ⊥
 
--- a status with which words that name no file may end: their own, or that the refusal wasn't written
+-- a status with which words that ask for nothing may end: their own, or that they weren't read or the refusal not written
 abbrev pub IsUsageOrUntold : Status → Type 0
 IsUsageOrUntold Usage = Unit {0}
 IsUsageOrUntold OutputFault = Unit {0}
+IsUsageOrUntold Memory = Unit {0}
 IsUsageOrUntold status = ⊥
 
 -- a status with which too many files may end: that a limit is passed, or that the refusal wasn't made or written
@@ -67,9 +67,29 @@ IsCut status = ⊥
 
 -- ---- causes
 
--- the files that the words name, none where they ask for nothing that is known
+-- the files that the words name: none where they ask for a generated network, or for nothing that is known
+abbrev pub named_in : InputView → List (List ℕ)
+named_in (Files names) = names
+named_in (Generated pods) = []
+
+abbrev pub named_asked : Option RequestView → List (List ℕ)
+named_asked None = []
+named_asked (Some request) = named_in request.input
+
 abbrev pub files_of : List (List ℕ) → List (List ℕ)
-files_of words = option_map_or (λ request. request.files) (request_of words) []
+files_of words = named_asked (request_of words)
+
+-- the words ask for a generated network
+abbrev pub IsGeneratedIn : InputView → Type 0
+IsGeneratedIn (Files names) = ⊥
+IsGeneratedIn (Generated pods) = Unit {0}
+
+abbrev pub IsGeneratedAsked : Option RequestView → Type 0
+IsGeneratedAsked None = ⊥
+IsGeneratedAsked (Some request) = IsGeneratedIn request.input
+
+abbrev pub IsGenerated : List (List ℕ) → Type 0
+IsGenerated words = IsGeneratedAsked (request_of words)
 
 -- the status with which a run ends where nothing fails
 abbrev pub status_of : Result LoadedView Refusal → List ℕ → Status
@@ -93,9 +113,12 @@ IsUnsettled (Err (Unsettled rounds)) = Unit {0}
 IsUnsettled loaded = ⊥
 
 -- the files are told, and the first refusal is of one that isn't there
+abbrev pub IsAbsentAsked : Option RequestView → Option (List Named) → Type 0
+IsAbsentAsked asked None = ⊥
+IsAbsentAsked asked (Some files) = load_asked asked files ≡ Err Missing
+
 abbrev pub IsAbsent : List (List ℕ) → Option (List Named) → Type 0
-IsAbsent words None = ⊥
-IsAbsent words (Some files) = load words files ≡ Err Missing
+IsAbsent words files = IsAbsentAsked (request_of words) files
 
 -- ---- what is left of the files
 
@@ -144,6 +167,9 @@ abbrev pub AnswersTaken : Result LoadedView Refusal → Option (List ℕ) → Op
 AnswersTaken loaded rest left old new = IsOkAnd loaded (λ n. Takes rest left (IsCutShort n old new))
 
 -- the bytes are a beginning of what would have been written
-abbrev pub IsBeginning : Result LoadedView Refusal → List ℕ → List ℕ → Type 0
-IsBeginning loaded session bytes =
-    (bytes ≡ []) ⊎ ((status : Status) × (more : List ℕ) × Concludes loaded session status (bytes ++ more))
+abbrev pub IsBegunAsked : Option RequestView → List Named → List ℕ → List ℕ → Type 0
+IsBegunAsked asked files session bytes =
+    (bytes ≡ []) ⊎ ((status : Status) × (more : List ℕ) × OutputAsked asked files session status (bytes ++ more))
+
+abbrev pub IsBeginning : List (List ℕ) → List Named → List ℕ → List ℕ → Type 0
+IsBeginning words files session bytes = IsBegunAsked (request_of words) files session bytes

@@ -1,5 +1,5 @@
 -- The files of a network, and a network that was loaded from them.
-use Rattle.std.specs.Prelude.{◌≡◌, ℕ, List, [], length, Some, slice_get, slice_index_or}
+use Rattle.std.specs.Prelude.{◌≡◌, ℕ, Bool, List, [], length, Some, slice_get, slice_index_or}
 use Rattle.nc_types.specs.Config.{ConfigView}
 use Rattle.nc_tables.specs.State.{StateView}
 use Rattle.nc_report.specs.Views.{FileView}
@@ -14,7 +14,9 @@ pub record AreFilesOf (routers : List ConfigView) (files : List FileView) : Type
 abbrev pub file_in : List FileView → ℕ → FileView
 file_in files router = slice_index_or files router (record { name = []; lines = [] })
 
--- a network that was loaded: the state in which its routing settles, and the files of its routers, in order
+-- a network that was loaded: the state in which its routing settles, the files of its routers, in order, and whether reports
+-- list the lines of each router behind their counts
 pub record LoadedView : Type 0 where
   pub state : StateView
   pub files : List FileView
+  pub listed : Bool

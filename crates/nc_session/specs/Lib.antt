@@ -1,11 +1,12 @@
 pub mod File
 pub mod Marks
+pub mod Questions
 pub mod Session
-pub mod Words
-pub mod CaseWords
+pub mod Generated
 pub mod Load
 pub mod Refusals
 pub mod Output
+pub mod Crowding
 pub mod Reading
 pub mod Serving
 pub mod Leaving

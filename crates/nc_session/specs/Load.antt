@@ -2,7 +2,7 @@
 -- or the first reason why there is none.
 -- The words are judged first, then how many files they name; then each file in its turn: that it is there, its length, the
 -- number of its lines, its configuration; then all configurations together; and last whether the routing settles.
-use Rattle.std.specs.Prelude.{ℕ, nat_le, List, [], ◌∷◌, length, map, slice_index_or, Option, Some, None, unwrap_or, Result, Ok, Err, if◌then◌else◌}
+use Rattle.std.specs.Prelude.{ℕ, Bool, true, false, nat_le, List, [], ◌∷◌, length, map, slice_index_or, Option, Some, None, unwrap_or, Result, Ok, Err, if◌then◌else◌}
 use Rattle.std.specs.Option.{option_map_or}
 use Rattle.nc_types.specs.Config.{ConfigView}
 use Rattle.nc_types.specs.Joining.{Clash}
@@ -25,7 +25,8 @@ use Rattle.nc_session.specs.declared.refusal.Reason.{Reason}
 use Rattle.nc_session.specs.declared.refusal.Reason.TheVariants.{Syntax, Unsupported, NoName, TwoProcesses, SameName, Overlap, SameAddress, Undefined}
 use Rattle.nc_report.specs.Views.{FileView}
 use Rattle.nc_session.specs.File.{LoadedView}
-use Rattle.nc_session.specs.Words.{RequestView, request_of}
+use Rattle.nc_words.specs.Words.{InputView, Files, Generated, RequestView, request_of}
+use Rattle.nc_session.specs.Generated.{tree_files, tree_names}
 
 -- why the words and the files give no network
 pub data Refusal : Type 0 where
@@ -119,15 +120,40 @@ abbrev pub load_settled : ℕ → Result (List ConfigView) Refusal → Result St
 load_settled rounds (Ok routers) = option_map_or Ok (settled rounds routers) (Err (Unsettled rounds))
 load_settled rounds (Err refusal) = Err refusal
 
--- a state with the files of its routers
-abbrev pub with_files : List FileView → Result StateView Refusal → Result LoadedView Refusal
-with_files files (Ok state) = Ok (record { state = state; files = files })
-with_files files (Err refusal) = Err refusal
+-- a state with the files of its routers, which reports list or don't
+abbrev pub with_files : Bool → List FileView → Result StateView Refusal → Result LoadedView Refusal
+with_files listed files (Ok state) = Ok (record { state = state; files = files; listed = listed })
+with_files listed files (Err refusal) = Err refusal
+
+-- what comes of files by their names, with so many rounds
+abbrev pub load_over : Bool → ℕ → List (List ℕ) → List Named → Result LoadedView Refusal
+load_over listed rounds names files = with_files listed (map (file_of files) names) (load_settled rounds (load_names names files))
+
+-- ---- what the words ask for
+
+-- the names of the files of a network, and the files: a generated network brings both
+abbrev pub names_in : InputView → List (List ℕ)
+names_in (Files names) = names
+names_in (Generated pods) = tree_names pods
+
+abbrev pub files_in : InputView → List Named → List Named
+files_in (Files names) files = files
+files_in (Generated pods) files = tree_files pods
+
+-- whether reports list the routers: not those of a generated network
+abbrev pub lists_in : InputView → Bool
+lists_in (Files names) = true
+lists_in (Generated pods) = false
 
 -- what comes of a request over files
 abbrev pub load_request : RequestView → List Named → Result LoadedView Refusal
-load_request request files = with_files (map (file_of files) request.files) (load_settled request.rounds (load_names request.files files))
+load_request request files = load_over (lists_in request.input) request.rounds (names_in request.input) (files_in request.input files)
+
+-- what comes of what is asked for, if it is something
+abbrev pub load_asked : Option RequestView → List Named → Result LoadedView Refusal
+load_asked None files = Err WrongWords
+load_asked (Some request) files = load_request request files
 
 -- what comes of the words and the files
 abbrev pub load : List (List ℕ) → List Named → Result LoadedView Refusal
-load words files = option_map_or (λ request. load_request request files) (request_of words) (Err WrongWords)
+load words files = load_asked (request_of words) files

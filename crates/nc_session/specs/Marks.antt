@@ -1,5 +1,5 @@
 -- How each line of a network's files is marked for the tested facts.
-use Rattle.std.specs.Prelude.{◌≡◌, ℕ, ◌+◌, ◌<◌, List, length, map, Some, slice_get, slice_index_or}
+use Rattle.std.specs.Prelude.{◌≡◌, ℕ, Bool, ◌+◌, ◌<◌, List, length, map, Some, slice_get, slice_index_or}
 use Rattle.nc_types.specs.Config.{ConfigView}
 use Rattle.nc_types.specs.Network.{owner_at}
 use Rattle.nc_graph.specs.Flow.{Flow}
@@ -7,7 +7,7 @@ use Rattle.nc_marks.specs.Marks.{IsMark}
 use Rattle.nc_marks.specs.declared.mark.Mark.{Mark}
 use Rattle.nc_marks.specs.declared.mark.Mark.TheVariants.{Outside}
 use Rattle.nc_fact.specs.declared.fact.Fact.{Fact}
-use Rattle.nc_report.specs.Texts.{Sheet, letter, report_of}
+use Rattle.nc_report.specs.Texts.{Sheet, letter, report_by}
 
 module _ (g : Flow Fact) (tested : List Fact) (routers : List ConfigView) where
   -- the marks of the lines of a router's file, each by its owner
@@ -33,6 +33,6 @@ module _ (g : Flow Fact) (tested : List Fact) (routers : List ConfigView) where
     pub are : AreSheets sheets
     pub text_is : text ≡ form sheets
 
-  -- the report of a test
-  abbrev pub IsReport : List ℕ → Type 0
-  IsReport report = IsFormOf report_of report
+  -- a report, which lists the lines of the routers or doesn't
+  abbrev pub IsReport : Bool → List ℕ → Type 0
+  IsReport listed report = IsFormOf (report_by listed) report

@@ -1,5 +1,5 @@
 -- A session: what a line of it is replied, and what is kept.
-use Rattle.std.specs.Prelude.{◌≡◌, ◌⊎◌, ℕ, Bool, true, false, nat_lt, List, [], ◌∷◌, ◌++◌, length, Option, Some, None, is_some, if◌then◌else◌, codes}
+use Rattle.std.specs.Prelude.{◌≡◌, ◌⊎◌, ℕ, zero, suc, Bool, true, false, nat_lt, List, [], ◌∷◌, ◌++◌, length, map, slice_set, slice_index_or, Option, Some, None, is_some, if◌then◌else◌, codes}
 use Rattle.std.specs.Fmt.{decimal}
 use Rattle.std.specs.List.{flat_map}
 use Rattle.nc_types.specs.Network.{router_named, owner_at}
@@ -10,10 +10,12 @@ use Rattle.nc_tables.specs.State.{StateView}
 use Rattle.nc_fact.specs.declared.fact.Fact.{Fact}
 use Rattle.nc_fact.specs.Tested.{tested_facts}
 use Rattle.nc_rules.specs.Rules.{flow_of}
-use Rattle.nc_command.specs.declared.command.Command.TheVariants.{Test, Show, Lcov, Json, Quit}
+use Rattle.nc_command.specs.declared.command.Command.TheVariants.{Test, Forget, Implies, Show, Lcov, Json, Quit}
 use Rattle.nc_command.specs.Command.{Line, Passed, TooLong, Unread, Asks, command_of, text_of}
-use Rattle.nc_session.specs.declared.TheConstants.{TEST_LIMIT, FACT_LIMIT}
+use Rattle.nc_formula.specs.Session.{Asked, HasMoreParts}
+use Rattle.nc_session.specs.declared.TheConstants.{TEST_LIMIT, FACT_LIMIT, DIAGRAM_LIMIT}
 use Rattle.nc_report.specs.Texts.{Sheet, line_of, sheet_in, show_of, lcov_of, json_of}
+use Rattle.nc_session.specs.Questions.{IsAnswer}
 use Rattle.nc_session.specs.File.{LoadedView, file_in}
 use Rattle.nc_session.specs.Marks.{IsFormOf, IsReport}
 
@@ -35,13 +37,36 @@ pub record KeptTest : Type 0 where
 abbrev pub live_test : List Fact → KeptTest
 live_test facts = record { facts = facts; live = true }
 
--- the accepted tests, in order
+-- the accepted tests, in order, and the questions that were answered, each by the places of its two tests among these
 pub record State : Type 0 where
   pub tests : List KeptTest
+  pub pairs : List (ℕ × ℕ)
 
--- no test was accepted
+-- no test was accepted, and no question answered
 abbrev pub no_tests : State
-no_tests = record { tests = [] }
+no_tests = record { tests = []; pairs = [] }
+
+-- a state with one test more, which is live
+abbrev pub with_test : State → List Fact → State
+with_test old facts = record { tests = old.tests ++ live_test facts ∷ []; pairs = old.pairs }
+
+-- a state with one question more
+abbrev pub with_pair : State → ℕ → ℕ → State
+with_pair old first second = record { tests = old.tests; pairs = old.pairs ++ (first, second) ∷ [] }
+
+-- the test at a place, which counts from 0
+abbrev pub test_in : List KeptTest → ℕ → KeptTest
+test_in tests place = slice_index_or tests place (record { facts = []; live = false })
+
+-- the place of the live test of a number: tests are numbered from 1
+abbrev pub live_place : List KeptTest → ℕ → Option ℕ
+live_place tests zero = None
+live_place tests (suc place) = if (test_in tests place).live then Some place else None
+
+-- a state in which the test at a place is no longer live
+abbrev pub without_test : State → ℕ → State
+without_test old place =
+    record { tests = slice_set old.tests place (record { facts = (test_in old.tests place).facts; live = false }); pairs = old.pairs }
 
 -- the facts of all tests: with all that they follow from these were asked
 abbrev pub asked_in : List KeptTest → List Fact
@@ -51,6 +76,10 @@ asked_in tests = flat_map (λ t. t.facts) tests
 abbrev pub live_in : List KeptTest → List Fact
 live_in tests = flat_map (λ t. if t.live then t.facts else []) tests
 
+-- what the parts of diagrams are of: the facts of each test, and the questions
+abbrev pub posed_in : State → Asked Fact
+posed_in kept = record { tests = map (λ t. t.facts) kept.tests; pairs = kept.pairs }
+
 -- a reply of one line that changes nothing
 abbrev pub Refuses : State → List ℕ → List ℕ → State → Type 0
 Refuses old text reply new = (reply ≡ line_of text) × (new ≡ old)
@@ -59,18 +88,37 @@ Refuses old text reply new = (reply ≡ line_of text) × (new ≡ old)
 abbrev pub unknown_of : List ℕ → List ℕ
 unknown_of name = codes "refused router " ++ name
 
+-- the refusal of a number that no live test has
+abbrev pub untested_of : ℕ → List ℕ
+untested_of number = codes "refused test " ++ decimal number
+
+-- the first line of the reply where a test is forgotten
+abbrev pub forgot_of : ℕ → List ℕ
+forgot_of number = line_of (codes "forgot " ++ decimal number)
+
 -- the first line of a test's reply: its number, and how many facts were asked
 abbrev pub accepted_of : ℕ → ℕ → List ℕ
 accepted_of number facts = line_of (codes "test " ++ (decimal number ++ (codes " facts " ++ decimal facts)))
 
-module _ (s : StateView) where
+-- a router has the element that a test asks for by a line, if the test asks for one
+abbrev pub has_line : StateView → ℕ → TestCommand → Bool
+has_line s router (Element name line) = is_some (owner_at s.routers router line)
+has_line s router test = true
+
+-- ---- tests, where reports list the lines of the routers or don't
+
+module _ (s : StateView) (listed : Bool) where
+  -- a reply with this first line, behind which the report for the live tests stands
+  pub record IsReported (tests : List KeptTest) (first reply : List ℕ) : Type 0 where
+    pub report : List ℕ
+    pub is_report : IsReport (flow_of s) (live_in tests) s.routers listed report
+    pub text : reply ≡ first ++ report
+
   -- the reply to a test that makes these tests: its number, how many facts were asked, and the report
   pub record IsReply (tests : List KeptTest) (reply : List ℕ) : Type 0 where
     pub asked : List Fact
     pub closure : IsClosure (flow_of s) (asked_in tests) asked
-    pub report : List ℕ
-    pub is_report : IsReport (flow_of s) (live_in tests) s.routers report
-    pub text : reply ≡ accepted_of (length tests) (length asked) ++ report
+    pub reported : IsReported tests (accepted_of (length tests) (length asked)) reply
 
   -- a test with which too many facts would be asked, and one that is accepted
   abbrev pub Overfills : State → List Fact → List ℕ → State → Type 0
@@ -79,8 +127,7 @@ module _ (s : StateView) where
 
   abbrev pub Accepts : State → List Fact → List ℕ → State → Type 0
   Accepts old facts reply new =
-      ¬ ReachesMoreThan (flow_of s) FACT_LIMIT (asked_in old.tests ++ facts)
-      × (new ≡ record { tests = old.tests ++ live_test facts ∷ [] }) × IsReply new.tests reply
+      ¬ ReachesMoreThan (flow_of s) FACT_LIMIT (asked_in old.tests ++ facts) × (new ≡ with_test old facts) × IsReply new.tests reply
 
   -- whether there is room for one more test
   abbrev pub Counts : Bool → State → List Fact → List ℕ → State → Type 0
@@ -92,11 +139,6 @@ module _ (s : StateView) where
   Tests old [] text reply new = Refuses old (codes "refused absent " ++ text) reply new
   Tests old (fact ∷ facts) text reply new = Counts (nat_lt (length old.tests) TEST_LIMIT) old (fact ∷ facts) reply new
 
-  -- a router has the element that a test asks for by a line, if the test asks for one
-  abbrev pub has_line : ℕ → TestCommand → Bool
-  has_line router (Element name line) = is_some (owner_at s.routers router line)
-  has_line router test = true
-
   -- a test of a router that is there: a line that no element has is refused before anything is tested
   abbrev pub Lined : Bool → State → TestCommand → List ℕ → State → Type 0
   Lined true old test reply new = Tests old (tested_facts s test) (text_of test) reply new
@@ -104,8 +146,36 @@ module _ (s : StateView) where
 
   -- a test by the number of its router, where one has the name
   abbrev pub Named : Option ℕ → State → TestCommand → List ℕ → State → Type 0
-  Named (Some router) old test reply new = Lined (has_line router test) old test reply new
+  Named (Some router) old test reply new = Lined (has_line s router test) old test reply new
   Named None old test reply new = Refuses old (unknown_of (router_of test)) reply new
+
+  -- a test that is forgotten, by its place if it is live
+  abbrev pub Forgets : Option ℕ → State → ℕ → List ℕ → State → Type 0
+  Forgets (Some place) old number reply new = (new ≡ without_test old place) × IsReported new.tests (forgot_of number) reply
+  Forgets None old number reply new = Refuses old (untested_of number) reply new
+
+-- ---- questions
+
+module _ (s : StateView) where
+  -- the diagrams of the tests and of the questions have more distinct parts than may be kept
+  abbrev pub IsCrowded : State → Type 0
+  IsCrowded kept = HasMoreParts (flow_of s) (posed_in kept) DIAGRAM_LIMIT
+
+  -- a question about the tests at two places, which have these numbers: it is answered, or it may be refused where the
+  -- diagrams with it have too many parts
+  abbrev pub Compares : State → ℕ → ℕ → ℕ → ℕ → List ℕ → State → Type 0
+  Compares old first second m n reply new =
+      (IsAnswer (flow_of s) s.routers (test_in old.tests first).facts (test_in old.tests second).facts m n reply
+      × (new ≡ with_pair old first second))
+      ⊎ (IsCrowded (with_pair old first second) × Refuses old (codes "refused limit diagrams") reply new)
+
+  -- a question by the places of its tests, where they are live
+  abbrev pub Questions : Option ℕ → Option ℕ → State → ℕ → ℕ → List ℕ → State → Type 0
+  Questions None second old m n reply new = Refuses old (untested_of m) reply new
+  Questions (Some first) None old m n reply new = Refuses old (untested_of n) reply new
+  Questions (Some first) (Some second) old m n reply new = Compares old first second m n reply new
+
+-- ---- a session
 
 module _ (n : LoadedView) where
   -- a form of the marks for the live tests; nothing changes
@@ -130,7 +200,10 @@ module _ (n : LoadedView) where
   Answers old (Asks (Show name)) reply new = Shows (router_named n.state.routers name) old name reply new
   Answers old (Asks Lcov) reply new = Tells (λ sheets. lcov_of sheets n.files) old reply new
   Answers old (Asks Json) reply new = Tells json_of old reply new
-  Answers old (Asks (Test test)) reply new = Named n.state (router_named n.state.routers (router_of test)) old test reply new
+  Answers old (Asks (Test test)) reply new = Named n.state n.listed (router_named n.state.routers (router_of test)) old test reply new
+  Answers old (Asks (Forget number)) reply new = Forgets n.state n.listed (live_place old.tests number) old number reply new
+  Answers old (Asks (Implies first second)) reply new =
+      Questions n.state (live_place old.tests first) (live_place old.tests second) old first second reply new
 
   -- one line of the session
   abbrev pub Step : State → List ℕ → List ℕ → State → Type 0

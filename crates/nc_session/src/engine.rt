@@ -61,8 +61,8 @@ fn hand_on(reply: &mut Vec<u8>, out: &mut Vec<u8>) -> Result<(), AllocError>
 }
 
 impl Engine {
-    /// An engine of a network that settled, with the files of its routers, in order: without tests,
-    /// and no fact was inferred.
+    /// An engine of a network that settled, with the files of its routers, in order, and whether
+    /// reports list the lines of the routers: without tests, and no fact was inferred.
     ///
     /// # Errors
     ///
@@ -71,13 +71,18 @@ impl Engine {
         alloc: Global,
         settled: SettledNetwork,
         files: Vec<LoadedFile>,
+        listed: bool,
     ) -> Result<Engine, AllocError>
         requires fit { AreFilesOf settled.state.routers (map file_view files.items) }
         ensures { IfOk result (λ engine. engine
             ≡ Some (begin_at
-            (record { state = settled.state; files = map file_view files.items }))) }
+            (record {
+              state = settled.state;
+              files = map file_view files.items;
+              listed = listed;
+            }))) }
     {
-        let work = Work::begin(alloc, settled)?;
+        let work = Work::begin(alloc, settled, listed)?;
         Ok(Engine {
             work: Some(work),
             files,

@@ -5,13 +5,13 @@ ghost use Rattle.nc_types.specs.Config.{config_view};
 ghost use Rattle.nc_lines.specs.Lines.{lines_of};
 ghost use Rattle.nc_outside.specs.Named.{content_of};
 ghost use Rattle.nc_outside.specs.Counts.{one_entry, entries_after};
-ghost use Rattle.nc_types.specs.declared.TheConstants.{ROUTER_LIMIT};
+ghost use Rattle.nc_types.specs.declared.TheConstants.{ROUTER_LIMIT, LINE_LIMIT};
 ghost use Rattle.nc_session.specs.declared.TheConstants.{FILE_LIMIT};
 ghost use Rattle.nc_session.specs.declared.refusal.LoadFault.TheVariants as LoadFault;
 ghost use Rattle.nc_session.specs.declared.refusal.Quantity.TheVariants as Quantity;
 ghost use Rattle.nc_report.specs.Views.{file_view};
 ghost use Rattle.nc_session.specs.File.{AreFilesOf};
-ghost use Rattle.nc_session.specs.Words.{texts};
+ghost use Rattle.nc_words.specs.Words.{texts};
 ghost use Rattle.nc_session.specs.Load.{file_named, load_content, load_lines, load_each, load_names, load_settled};
 ghost use Rattle.nc_session.specs.Reading.{IsInTime};
 ghost use Rattle.nc_session.specs.Causes.{TakesOfEntered, TakesOfFiles, IsInTurn, EntersInTurn, EntersEach};
@@ -275,6 +275,8 @@ pub(crate) fn load<F: Files>(
         (texts names.now) (map file_view loaded.files.items)) }
     ensures fit { IfOk result (λ loaded.
         AreFilesOf loaded.settled.state.routers (map file_view loaded.files.items)) }
+    ensures short { IfOk result (λ loaded.
+        All (λ file. length (file_view file).lines ≤ LINE_LIMIT) loaded.files.items) }
     ensures few { MatchResult result (λ _. length names.now ≤ ROUTER_LIMIT)
         (λ fault. (fault ≡ LoadFault.Over Quantity.Routers) ⊎ (length names.now ≤ ROUTER_LIMIT)) }
     ensures cause { HasCauseOf (F.files files.old)

@@ -152,15 +152,21 @@ fn serve_pieces<S: Source, K: Sink>(
 
 /// Answers a session while it is read: each whole line before the next read, up to one that ends the session, to the
 /// end of the source, or to the limit of [`SESSION_LIMIT`] bytes, past which one byte is taken and the rest refused.
+/// Reports list the lines of the routers, or have their counts alone.
 pub(crate) fn serve<S: Source, K: Sink>(
     alloc: Global,
     settled: SettledNetwork,
     files: Vec<LoadedFile>,
+    listed: bool,
     input: &mut S,
     output: &mut K,
 ) -> Status
     requires fit { AreFilesOf settled.state.routers (map file_view files.items) }
-    ensures leaves { Leaves (record { state = settled.state; files = map file_view files.items })
+    ensures leaves { Leaves (record {
+      state = settled.state;
+      files = map file_view files.items;
+      listed = listed;
+    })
         (told (S.rest input.old) (K.written output.old))
         (told (S.rest input.new) (K.written output.new)) result }
     ensures fails { FailsAs (failures (S.faults input.old) (K.faults output.old))
@@ -170,7 +176,7 @@ pub(crate) fn serve<S: Source, K: Sink>(
 {
     sessions_go_on();
     let _state = settled.state.network();
-    let Ok(mut engine) = Engine::begin(alloc, settled, files) else {
+    let Ok(mut engine) = Engine::begin(alloc, settled, files, listed) else {
         return Status::Memory;
     };
     serve_pieces(alloc, &mut engine, input, output)

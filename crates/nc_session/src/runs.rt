@@ -1,28 +1,29 @@
 //! The top call: from the words, the files and the session to the replies and the status.
 
 ghost use Rattle.std.specs.Prelude.{◌≡◌, ◌⊎◌, ◌≢◌, ◌+◌, ◌<◌, ℕ, List, true, Some, IfSome, MatchOption, MatchResult, IfOk, length};
-ghost use Rattle.std.specs.Io.KnownBytes.{Appends, Keeps, IsAtEnd};
+ghost use Rattle.std.specs.Io.KnownBytes.{Appends, Keeps};
 ghost use Rattle.nc_outside.specs.Counts.{Rose, entries_after};
 ghost use Rattle.nc_types.specs.declared.TheConstants.{ROUTER_LIMIT};
 ghost use Rattle.nc_session.specs.declared.TheConstants.{SESSION_LIMIT};
-ghost use Rattle.nc_session.specs.Words.{texts, request_of};
+ghost use Rattle.nc_words.specs.Words.{Files, texts, request_of};
 ghost use Rattle.nc_session.specs.Load.{load, file_named};
 ghost use Rattle.nc_session.specs.Refusals.{usage_text, limit_text, fault_text, unsettled_text};
-ghost use Rattle.nc_session.specs.Output.{Output, Writes, TookQuit, is_within};
+ghost use Rattle.nc_session.specs.Output.{Output, Writes, TookAll, is_within, needed, session_of};
 ghost use Rattle.nc_session.specs.Reading.{TakesAtMost, IsInTime, StaysInTime};
 ghost use Rattle.nc_session.specs.Leaving.{Takes};
-ghost use Rattle.nc_session.specs.Causes.{IsAnswer, IsUsageOrUntold, IsLimitOrUntold, IsOfFiles, IsEarly, IsLate, IsCut, files_of, status_of, Settles, IsOverLimit, IsUnsettled, IsAbsent, EntersInTurn, IsInTurn, EntersEach, TakesOfFiles, IsOpenSession, AnswersTaken, IsBeginning};
+ghost use Rattle.nc_session.specs.Causes.{IsAnswer, IsUsageOrUntold, IsLimitOrUntold, IsOfFiles, IsGenerated, IsEarly, IsLate, IsCut, files_of, status_of, Settles, IsOverLimit, IsUnsettled, IsAbsent, EntersInTurn, IsInTurn, EntersEach, TakesOfFiles, IsOpenSession, AnswersTaken, IsBeginning};
 ghost use Rattle.nc_session.specs.Ending.{Says, Silent, EndsRefused, EndsAs, IsNamingFew};
 ghost use Rattle.nc_session.specs.declared.status.Status.TheVariants as Status;
 
+use crate::generated::run_fat_tree;
 use crate::load::load;
 use crate::pieces::serve;
 use crate::refusal::{LoadFault, Quantity, Reason};
 use crate::status::Status;
-use crate::words::{file_names, read_words};
 use crate::writing::write_all;
 use nc_outside::{Files, Sink, Source};
 use nc_report::push_line;
+use nc_words::{Input, Request, WordsFault, read_words};
 use std::alloc::{AllocError, Global};
 
 // The refusal of a quantity that passes its limit.
@@ -98,7 +99,12 @@ fn name_at(names: &[String], file: usize) -> &str
 }
 
 // Writes the refusal of files that give no network.
-fn refuse<K: Sink>(alloc: Global, names: &[String], fault: LoadFault, output: &mut K) -> Status
+pub(crate) fn refuse<K: Sink>(
+    alloc: Global,
+    names: &[String],
+    fault: LoadFault,
+    output: &mut K,
+) -> Status
     ensures { EndsRefused (texts names.now) fault
         (record { written = K.written output.old; faults = K.faults output.old })
         (record { written = K.written output.new; faults = K.faults output.new }) result }
@@ -128,8 +134,8 @@ fn run_files<F: Files, S: Source, K: Sink>(
     input: &mut S,
     output: &mut K,
 ) -> Status
-    ensures ends { (words : List (List ℕ))
-        → request_of words ≡ Some (record { rounds = rounds; files = texts names.now }) → EndsAs words
+    ensures ends { EndsAs
+        (Some (record { rounds = rounds; input = Files (texts names.now) }))
         (record {
           files = F.files files.old;
           faults = F.faults files.old;
@@ -164,7 +170,7 @@ fn run_files<F: Files, S: Source, K: Sink>(
         → (S.rest input.new ≡ S.rest input.old) × (S.end input.new ≡ S.end input.old) }
 {
     match load(alloc, names, rounds, files) {
-        Ok(loaded) => serve(alloc, loaded.settled, loaded.files, input, output),
+        Ok(loaded) => serve(alloc, loaded.settled, loaded.files, true, input, output),
         Err(fault) => refuse(alloc, names, fault, output),
     }
 }
@@ -177,7 +183,7 @@ fn run_words<F: Files, S: Source, K: Sink>(
     input: &mut S,
     output: &mut K,
 ) -> Status
-    ensures ends { EndsAs (texts words.now)
+    ensures ends { EndsAs (request_of (texts words.now))
         (record {
           files = F.files files.old;
           faults = F.faults files.old;
@@ -191,6 +197,8 @@ fn run_words<F: Files, S: Source, K: Sink>(
           failures = record { source = S.faults input.new; sink = K.faults output.new };
         })
         result }
+    ensures generated { IsGenerated (texts words.now) → (files.new ≡ files.old)
+        × (input.new ≡ input.old) × (result ≢ Status.FileFault) × (result ≢ Status.InputFault) }
     ensures files { F.files files.new ≡ F.files files.old }
     ensures entered { IsInTurn (files_of (texts words.now)) (F.files files.old)
         (F.entered files.old) (F.entered files.new) }
@@ -211,12 +219,21 @@ fn run_words<F: Files, S: Source, K: Sink>(
     ensures session_unread { IsEarly result
         → (S.rest input.new ≡ S.rest input.old) × (S.end input.new ≡ S.end input.old) }
 {
-    let Some(rounds) = read_words(words) else {
-        return say(output, b"refused usage\n", Status::Usage);
-    };
-    match file_names(alloc, words) {
-        Ok(names) => run_files(alloc, &names, rounds, files, input, output),
-        Err(_) => Status::Memory,
+    match read_words(alloc, words) {
+        Ok(
+            Request {
+                rounds,
+                input: Input::Files(names),
+            },
+        ) => run_files(alloc, &names, rounds, files, input, output),
+        Ok(
+            Request {
+                rounds,
+                input: Input::FatTree(pods),
+            },
+        ) => run_fat_tree(alloc, pods, rounds, output),
+        Err(WordsFault::Usage) => say(output, b"refused usage\n", Status::Usage),
+        Err(WordsFault::Memory) => Status::Memory,
     }
 }
 
@@ -229,9 +246,12 @@ fn run_words<F: Files, S: Source, K: Sink>(
 /// longer than the limit is answered as far as its lines end within it, and then refused, unless one of them
 /// ends it. Nothing is read of a file or of the session after its end was told.
 ///
+/// Where the words ask for a generated network, its own files and session are taken in the same way, and `files` and
+/// `input` aren't touched: a line of its numbers stands in front of the replies, and reports list no routers.
+///
 /// Where the objects tell their bytes, `answer` pins every byte that is written, and at the other statuses what
 /// stands written is a beginning of that. Want of memory alone is free: [`Status::Memory`] may come in place of
-/// any other status, but that of words that name no file.
+/// any other status.
 ///
 /// [`SESSION_LIMIT`]: crate::SESSION_LIMIT
 pub fn run<F: Files, S: Source, K: Sink>(
@@ -241,44 +261,52 @@ pub fn run<F: Files, S: Source, K: Sink>(
     input: &mut S,
     output: &mut K,
 ) -> Status
-    ensures answer { IsAnswer result → IfSome (F.files files.old) (λ fs. IfSome (S.rest input.old)
-        (λ session. Writes (K.written output.old) (K.written output.new)
-        (λ bytes. Output (texts words.now) fs session result bytes))) }
-    ensures complete { IfSome (F.files files.old) (λ fs. IfSome (S.rest input.old) (λ session.
+    ensures answer { IsAnswer result → IfSome (needed (texts words.now) (F.files files.old)) (λ fs.
+        IfSome (needed (texts words.now) (S.rest input.old)) (λ session.
+        Writes (K.written output.old) (K.written output.new)
+        (Output (texts words.now) fs session result))) }
+    ensures complete { IfSome (needed (texts words.now) (F.files files.old)) (λ fs.
+        IfSome (needed (texts words.now) (S.rest input.old)) (λ session.
         ¬ Rose (F.faults files.old) (F.faults files.new)
         → ¬ Rose (S.faults input.old) (S.faults input.new)
         → ¬ Rose (K.faults output.old) (K.faults output.new)
-        → (result ≡ status_of (load (texts words.now) fs) session) ⊎ (result ≡ Status.Memory))) }
-    ensures settles { IsOfFiles result
-        → IfSome (F.files files.old) (λ fs. Settles (load (texts words.now) fs) result) }
-    ensures limit { result ≡ Status.Limit → IfSome (F.files files.old) (λ fs.
-        IfSome (S.rest input.old) (λ session. IsOverLimit (load (texts words.now) fs) session)) }
+        → (result ≡ status_of (load (texts words.now) fs) (session_of (texts words.now) session))
+        ⊎ (result ≡ Status.Memory))) }
+    ensures settles { IsOfFiles result → IfSome (needed (texts words.now) (F.files files.old))
+        (λ fs. Settles (load (texts words.now) fs) result) }
+    ensures limit { result ≡ Status.Limit → IfSome (needed (texts words.now) (F.files files.old))
+        (λ fs. IfSome (needed (texts words.now) (S.rest input.old)) (λ session.
+        IsOverLimit (load (texts words.now) fs) (session_of (texts words.now) session))) }
+    ensures generated { IsGenerated (texts words.now) → (files.new ≡ files.old)
+        × (input.new ≡ input.old) × (result ≢ Status.FileFault) × (result ≢ Status.InputFault) }
     ensures many { ROUTER_LIMIT < length (files_of (texts words.now)) → IsLimitOrUntold result }
     ensures done { result ≡ Status.Done
-        → IsAtEnd (S.rest input.new) ⊎ TookQuit (S.rest input.old) (S.rest input.new) }
+        → TookAll (texts words.now) (S.rest input.old) (S.rest input.new) }
     ensures done_within { result ≡ Status.Done
-        → IfSome (S.rest input.old) (λ session. is_within session ≡ true) }
+        → IfSome (needed (texts words.now) (S.rest input.old))
+        (λ session. is_within (session_of (texts words.now) session) ≡ true) }
     ensures usage { MatchOption (request_of (texts words.now))
         (IsUsageOrUntold result) (λ _. result ≢ Status.Usage) }
     ensures usage_text { result ≡ Status.Usage
         → Appends (K.written output.old) (K.written output.new) usage_text }
     ensures file_fault { result ≡ Status.FileFault → Rose (F.faults files.old) (F.faults files.new)
         ⊎ IsAbsent (texts words.now) (F.files files.old) }
-    ensures file_fault_few { result ≡ Status.FileFault → IsNamingFew (texts words.now) }
+    ensures file_fault_few { result ≡ Status.FileFault → IsNamingFew (request_of (texts words.now)) }
     ensures file_fault_silent { result ≡ Status.FileFault
         → Keeps (K.written output.old) (K.written output.new) }
     ensures input_fault { result ≡ Status.InputFault
         → Rose (S.faults input.old) (S.faults input.new) }
     ensures input_fault_taken { result ≡ Status.InputFault
         → Takes (S.rest input.old) (S.rest input.new) IsOpenSession }
-    ensures input_fault_answers { result ≡ Status.InputFault → IfSome (F.files files.old)
-        (λ fs. AnswersTaken (load (texts words.now) fs) (S.rest input.old) (S.rest input.new)
+    ensures input_fault_answers { result ≡ Status.InputFault
+        → IfSome (needed (texts words.now) (F.files files.old)) (λ fs. AnswersTaken (load (texts words.now) fs) (S.rest input.old) (S.rest input.new)
         (K.written output.old) (K.written output.new)) }
     ensures output_fault { result ≡ Status.OutputFault
         → Rose (K.faults output.old) (K.faults output.new) }
-    ensures cut { IsCut result → IfSome (F.files files.old) (λ fs. IfSome (S.rest input.old)
-        (λ session. Writes (K.written output.old) (K.written output.new)
-        (IsBeginning (load (texts words.now) fs) session))) }
+    ensures cut { IsCut result → IfSome (needed (texts words.now) (F.files files.old)) (λ fs.
+        IfSome (needed (texts words.now) (S.rest input.old)) (λ session.
+        Writes (K.written output.old) (K.written output.new)
+        (IsBeginning (texts words.now) fs session))) }
     ensures files_count { result ≢ Status.FileFault → F.faults files.new ≡ F.faults files.old }
     ensures input_count { result ≢ Status.InputFault → S.faults input.new ≡ S.faults input.old }
     ensures output_count { result ≢ Status.OutputFault
@@ -303,7 +331,8 @@ pub fn run<F: Files, S: Source, K: Sink>(
     ensures session_unread { IsEarly result
         → (S.rest input.new ≡ S.rest input.old) × (S.end input.new ≡ S.end input.old) }
     ensures unstable { result ≡ Status.Unstable
-        → IfSome (F.files files.old) (λ fs. IsUnsettled (load (texts words.now) fs)) }
+        → IfSome (needed (texts words.now) (F.files files.old))
+        (λ fs. IsUnsettled (load (texts words.now) fs)) }
 {
     run_words(alloc, words, files, input, output)
 }

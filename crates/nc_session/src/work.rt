@@ -1,5 +1,5 @@
 //! What the engine works with: the rules of a network, the graph of the facts that were asked,
-//! their marks, the report as it stands, and the tests.
+//! their marks, the report as it stands, the tests, and what was drawn for questions about them.
 
 ghost use Rattle.std.specs.Prelude.{◌≡◌, ◌++◌, ◌<◌, ◌-◌, List, true, Some, length, map, All, IfOk, OnOk, OnErr, IsErrOf, codes};
 ghost use Rattle.std.specs.Option.{option_map};
@@ -19,12 +19,15 @@ ghost use Rattle.nc_report.specs.Texts.{json_of, lcov_of, line_of};
 ghost use Rattle.nc_report.specs.Views.{FileView, file_view};
 ghost use Rattle.nc_session.specs.File.{file_in, AreFilesOf};
 ghost use Rattle.nc_session.specs.Engine.{Answered, begin_at, flow_behind};
-ghost use Rattle.nc_session.specs.Work.{IsWork, Takes, Replies, Counted, Told, TestedAt, Tested, Forms, Listed, progress_of, tests_of};
+ghost use Rattle.nc_session.specs.Marks.{IsReport};
+ghost use Rattle.nc_session.specs.Work.{IsWork, SameNetwork, Takes, Appended, Replies, Counted, Told, TestedAt, Tested, Forms, Listed, progress_of, tests_of};
 
 use crate::engine::Flow;
-use crate::{FACT_LIMIT, TEST_LIMIT};
+use crate::{DIAGRAM_LIMIT, FACT_LIMIT, TEST_LIMIT};
 use nc_command::{Command, CommandFault, read_command, test_text};
+use nc_diagram::Store;
 use nc_fact::{Fact, facts_of};
+use nc_formula::{Formulas, drawn_for_a_longer_graph, drawn_with_a_test, nothing_is_drawn};
 use nc_graph::fault::GraphFault;
 use nc_graph::graph::Graph;
 use nc_graph::laws::closures_have_one_length;
@@ -37,10 +40,11 @@ use nc_stable::SettledNetwork;
 use nc_types::{RouterId, TestCommand, Text};
 use std::alloc::{AllocError, Global};
 
-/// A test that was accepted: the facts that it tests, and whether it is live.
+/// A test that was accepted: the facts that it tests, their nodes, and whether it is live.
 #[derive(Drop)]
 pub(crate) struct KeptTest {
     pub(crate) facts: Vec<Fact>,
+    pub(crate) nodes: Vec<NodeId>,
     pub(crate) live: bool,
 }
 
@@ -54,6 +58,13 @@ pub(crate) struct Work {
     pub(crate) shown: Shown,
     /// The accepted tests, in order.
     pub(crate) tests: Vec<KeptTest>,
+    /// The questions that were answered, each by the places of its two tests.
+    pub(crate) pairs: Vec<(usize, usize)>,
+    /// The diagrams of what was asked about, and their references.
+    pub(crate) store: Store,
+    pub(crate) formulas: Formulas,
+    /// Whether reports list the lines of the routers.
+    pub(crate) listed: bool,
 }
 
 // The name of the router that a test is of.
@@ -147,13 +158,18 @@ fn file_at(files: &[LoadedFile], router: RouterId) -> &LoadedFile
 }
 
 impl Work {
-    /// For a network that settled, without tests.
-    pub(crate) fn begin(alloc: Global, settled: SettledNetwork) -> Result<Work, AllocError>
+    /// For a network that settled, without tests; and whether reports list the lines of the routers.
+    pub(crate) fn begin(
+        alloc: Global,
+        settled: SettledNetwork,
+        listed: bool,
+    ) -> Result<Work, AllocError>
         ensures work { IfOk result IsWork }
         ensures progress { IfOk result (λ work. (files : List FileView)
             → progress_of files work
-            ≡ begin_at (record { state = settled.state; files = files })) }
+            ≡ begin_at (record { state = settled.state; files = files; listed = listed })) }
     {
+        nothing_is_drawn::<Fact>();
         let rules = Rules::new(alloc, settled);
         let network = rules.state().network();
         let kept = KeptMarks::new(alloc, network.element_count())?;
@@ -164,6 +180,10 @@ impl Work {
             marks: kept,
             shown,
             tests: Vec::new(alloc),
+            pairs: Vec::new(alloc),
+            store: Store::new(alloc, DIAGRAM_LIMIT),
+            formulas: Formulas::new(alloc),
+            listed,
         })
     }
 
@@ -174,7 +194,7 @@ impl Work {
         requires hold { All (λ f. (flow_of (state_of self.old.rules)).holds f ≡ true) facts.items }
         requires room { length self.old.tests.items < TEST_LIMIT }
         ensures work { OnOk result (IsWork self.new) }
-        ensures state { state_of self.new.rules ≡ state_of self.old.rules }
+        ensures network { SameNetwork self.old self.new }
         ensures taken { IfOk result (λ fits. Takes fits self.old self.new facts.items) }
     {
         let nodes = match ask(&mut self.rules, &mut self.graph, &facts) {
@@ -185,9 +205,15 @@ impl Work {
         let touched = self.marks.add(&self.graph, &nodes)?;
         let network = self.rules.state().network();
         self.shown.refresh(network, self.marks.marks(), &touched);
-        self.tests.push(KeptTest { facts, live: true })?;
+        self.tests.push(KeptTest {
+            facts,
+            nodes,
+            live: true,
+        })?;
         rules_make_a_flow();
         kept_of_an_extended_graph::<Fact>();
+        drawn_for_a_longer_graph::<Fact>();
+        drawn_with_a_test::<Fact>();
         Ok(true)
     }
 
@@ -202,14 +228,29 @@ impl Work {
         let _facts = self.graph.len();
     }
 
+    /// Appends the report for the live tests.
+    pub(crate) fn push_report(&self, alloc: Global, out: &mut Vec<u8>) -> Result<(), AllocError>
+        requires { IsWork self.now }
+        ensures { OnOk result (Appended
+            (IsReport (flow_of (state_of self.now.rules)) (live_in (tests_of self.now))
+            (state_of self.now.rules).routers self.now.listed) out.old.items out.new.items) }
+    {
+        self.marks_are_kept();
+        if !self.listed {
+            self.shown.push_totals(alloc, out)?;
+            return Ok(());
+        }
+        self.shown.push_report(alloc, out)?;
+        Ok(())
+    }
+
     // Appends the reply to the last test.
     fn reply(&self, alloc: Global, out: &mut Vec<u8>) -> Result<(), AllocError>
         requires { IsWork self.now }
         ensures { OnOk result (Replies self.now out.old.items out.new.items) }
     {
-        self.marks_are_kept();
         push_accepted(alloc, out, self.tests.len(), self.graph.len())?;
-        self.shown.push_report(alloc, out)?;
+        self.push_report(alloc, out)?;
         Ok(())
     }
 
@@ -409,6 +450,8 @@ impl Work {
             Ok(None) => {}
             Ok(Some(Command::Quit)) => return Ok(Flow::Stop),
             Ok(Some(Command::Test(test))) => self.test(alloc, &test, out)?,
+            Ok(Some(Command::Forget(number))) => self.forget(alloc, number, out)?,
+            Ok(Some(Command::Implies(first, second))) => self.question(alloc, first, second, out)?,
             Ok(Some(Command::Show(name))) => self.show(alloc, &name, files, out)?,
             Ok(Some(Command::Lcov)) => self.lcov(alloc, files, out)?,
             Ok(Some(Command::Json)) => self.json(alloc, out)?,

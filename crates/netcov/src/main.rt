@@ -8,8 +8,9 @@
 ghost use Rattle.std.specs.Prelude.{◌≡◌, ◌≢◌, MatchOption};
 ghost use Rattle.std.specs.IoError.{error_kind};
 ghost use Rattle.nc_session.specs.declared.status.Status.TheVariants as Status;
-ghost use Rattle.nc_session.specs.Words.{texts, request_of};
-ghost use Rattle.netcov.specs.Ending.{number_untaken, IsWithoutFile};
+ghost use Rattle.nc_words.specs.Words.{texts, request_of};
+ghost use Rattle.nc_session.specs.Causes.{IsUsageOrUntold};
+ghost use Rattle.netcov.specs.Ending.{number_untaken};
 
 use nc_outside::{FolderFiles, StdinSource, StdoutSink};
 use nc_session::{Status, run};
@@ -42,7 +43,7 @@ fn untaken(error: &Error) -> u8
 // Runs over the system.
 fn run_here(rt: &HostRuntime, words: &[String]) -> Status
     ensures { MatchOption (request_of (texts words.now))
-        (IsWithoutFile result) (λ _. result ≢ Status.Usage) }
+        (IsUsageOrUntold result) (λ _. result ≢ Status.Usage) }
 {
     let Ok(system) = rt.clone() else {
         return Status::Memory;

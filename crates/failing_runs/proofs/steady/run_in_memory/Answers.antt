@@ -1,8 +1,9 @@
 use Rattle.std.proofs.Common.{true, refl}
 use Rattle.nc_outside.specs.Counts.{Faults}
 use Rattle.nc_outside.specs.Memory.{faults_of}
-use Rattle.nc_session.specs.Words.{texts}
+use Rattle.nc_words.specs.Words.{texts}
 use Rattle.nc_session.specs.Load.{load}
+use Rattle.nc_session.specs.Output.{session_of}
 use Rattle.failing_runs.proofs.Unfailing.{ends_complete, ends_served}
 use Rattle.failing_runs.proofs.steady.run_in_memory.Goals as goal
 
@@ -14,4 +15,5 @@ returns-clause-complete c =
     c.new-files.ensures c.new-input.ensures refl c.run.ensures.complete
 
 pub returns-clause-served : goal.returns-clause-served
-returns-clause-served c = ends_served (load (texts c.args.words.now) c.args.files.items) c.args.session.items c.run.result (returns-clause-complete c)
+returns-clause-served c =
+    ends_served (load (texts c.args.words.now) c.args.files.items) (session_of (texts c.args.words.now) c.args.session.items) c.run.result (returns-clause-complete c)

@@ -4,10 +4,10 @@ use Rattle.std.specs.String.{string_bytes}
 use Rattle.nc_types.specs.Config.{ConfigView, config_view}
 use Rattle.nc_report.specs.Views.{file_view}
 use Rattle.nc_types.specs.declared.TheConstants.{ROUTER_LIMIT}
-use Rattle.nc_session.specs.Words.{texts}
+use Rattle.nc_words.specs.Words.{texts}
 use Rattle.nc_session.proofs.AllFiles.{too_many, fault_each, cause_each, fault_together, fine_together}
 use Rattle.nc_session.specs.Loading.{AreBeside}
-use Rattle.nc_session.proofs.Joined.{files_fit}
+use Rattle.nc_session.proofs.Joined.{files_fit, files_short}
 use Rattle.nc_session.proofs.load.load.Goals as goal
 
 pub returns-then-names-gt-ROUTER_LIMIT-clause-loaded : goal.returns-then-names-gt-ROUTER_LIMIT-clause-loaded
@@ -43,3 +43,6 @@ returns-in-Ok-join_all-clause-fit g c =
     let files = map file_view c.in-Ok.each.files.items in
     let same = (c.in-Ok-join_all.ensures.joined (texts c.args.names.now)).1 in
     files_fit files c.in-Ok-join_all.settled.state.routers (subst (λ (routers : List ConfigView). AreBeside files routers) (sym same) c.in-Ok.ensures.beside)
+
+pub returns-in-Ok-join_all-clause-short : goal.returns-in-Ok-join_all-clause-short
+returns-in-Ok-join_all-clause-short g c = files_short c.in-Ok.each.files.items c.in-Ok.each.configs.items c.in-Ok.ensures.beside c.in-Ok.ensures.read

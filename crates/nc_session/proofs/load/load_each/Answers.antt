@@ -5,7 +5,7 @@ use Rattle.nc_types.specs.Config.{ConfigView, config_view}
 use Rattle.nc_outside.specs.Named.{Named, content_of}
 use Rattle.nc_outside.specs.Counts.{Faults, one_entry, entries_after}
 use Rattle.nc_report.specs.Views.{file_view}
-use Rattle.nc_session.specs.Words.{texts}
+use Rattle.nc_words.specs.Words.{texts}
 use Rattle.nc_session.specs.Load.{load_content, load_each, file_named}
 use Rattle.nc_session.specs.Causes.{TakesOfEntered}
 use Rattle.nc_session.specs.Loading.{IsFault, HasFaultCause, AddsFile}

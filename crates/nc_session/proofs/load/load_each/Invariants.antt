@@ -2,7 +2,7 @@ use Rattle.std.proofs.Common.{◌≡◌, Ok, map, take, length, All, IfSome}
 use Rattle.nc_types.specs.Config.{config_view}
 use Rattle.nc_outside.specs.Counts.{entries_after}
 use Rattle.nc_report.specs.Views.{file_view}
-use Rattle.nc_session.specs.Words.{texts}
+use Rattle.nc_words.specs.Words.{texts}
 use Rattle.nc_session.specs.Load.{load_each}
 use Rattle.nc_session.specs.Reading.{IsInTime}
 use Rattle.nc_session.specs.Causes.{IsInTurn, TakesOfFiles}

@@ -1,4 +1,4 @@
-use Rattle.std.proofs.Common.{◌≡◌, ◌⊎◌, ◌≤◌, refl, ap, sym, Err, subst, length, map, arith, ℕ}
+use Rattle.std.proofs.Common.{◌≡◌, ◌⊎◌, ◌≤◌, true, refl, ap, sym, Err, subst, length, map, arith, ℕ}
 use Rattle.std.proofs.lemmas.List.{length-map}
 use Rattle.std.specs.String.{string_bytes}
 use Rattle.nc_types.specs.declared.TheConstants.{ROUTER_LIMIT}
@@ -6,17 +6,17 @@ use Rattle.nc_session.specs.declared.refusal.LoadFault.TheVariants.{Over}
 use Rattle.nc_session.specs.declared.refusal.Quantity.TheVariants.{Routers}
 use Rattle.nc_report.specs.Views.{file_view}
 use Rattle.nc_session.specs.File.{LoadedView}
-use Rattle.nc_session.specs.Words.{RequestView, texts}
+use Rattle.nc_words.specs.Words.{Files, RequestView, texts}
 use Rattle.nc_session.specs.Leaving.{Told}
 use Rattle.nc_session.specs.Causes.{IsEarly}
 use Rattle.nc_session.specs.Ending.{Seen}
 use Rattle.nc_session.proofs.WithFiles.{loaded_with, fault_with, cause_with}
-use Rattle.nc_session.proofs.Ends.{refused_ends, served_ends, refused_early, refused_outside, served_late}
+use Rattle.nc_session.proofs.Ends.{refused_ends, files_ends, refused_early, refused_outside, served_late}
 use Rattle.nc_session.proofs.runs.run_files.Goals as goal
 
 pub returns-in-Ok-clause-ends : goal.returns-in-Ok-clause-ends
-returns-in-Ok-clause-ends g c words named =
-    let request : RequestView = record { rounds = c.args.rounds; files = texts c.args.names.now } in
+returns-in-Ok-clause-ends g c =
+    let names = texts c.args.names.now in
     let before : Seen = record {
       files = g.F.Files.files c.args.files.now;
       faults = g.F.Files.faults c.args.files.now;
@@ -29,14 +29,15 @@ returns-in-Ok-clause-ends g c words named =
       told = record { rest = g.S.Source.rest c.serve.new.input; written = g.K.Sink.written c.serve.new.output };
       failures = record { source = g.S.Source.faults c.serve.new.input; sink = g.K.Sink.faults c.serve.new.output };
     } in
-    let few : length request.files ≤ ROUTER_LIMIT = omega (arith, length-map c.args.names.now string_bytes, c.in-Ok.ensures.few) in
-    let loaded : LoadedView = record { state = c.in-Ok.loaded.settled.state; files = map file_view c.in-Ok.loaded.files.items } in
-    served_ends words before now c.serve.result request named few loaded c.in-Ok.ensures.cause
-    (loaded_with request before.files loaded.state loaded.files c.in-Ok.ensures.loaded c.in-Ok.ensures.named) c.serve.result c.serve.ensures.leaves c.serve.ensures.fails
+    let few : length names ≤ ROUTER_LIMIT = omega (arith, length-map c.args.names.now string_bytes, c.in-Ok.ensures.few) in
+    let loaded : LoadedView = record { state = c.in-Ok.loaded.settled.state; files = map file_view c.in-Ok.loaded.files.items; listed = true } in
+    files_ends c.args.rounds names before now few loaded c.in-Ok.ensures.cause
+    (loaded_with true c.args.rounds names before.files loaded.state loaded.files c.in-Ok.ensures.loaded c.in-Ok.ensures.named) c.serve.result c.serve.ensures.leaves c.serve.ensures.fails
 
 pub returns-in-Err-clause-ends : goal.returns-in-Err-clause-ends
-returns-in-Err-clause-ends g c words named =
-    let request : RequestView = record { rounds = c.args.rounds; files = texts c.args.names.now } in
+returns-in-Err-clause-ends g c =
+    let names = texts c.args.names.now in
+    let request : RequestView = record { rounds = c.args.rounds; input = Files names } in
     let before : Seen = record {
       files = g.F.Files.files c.args.files.now;
       faults = g.F.Files.faults c.args.files.now;
@@ -50,20 +51,20 @@ returns-in-Err-clause-ends g c words named =
       failures = record { source = g.S.Source.faults c.args.input.now; sink = g.K.Sink.faults c.refuse.new.output };
     } in
     let few = subst (λ (n : ℕ). (c.in-Err.fault ≡ Over Routers) ⊎ (n ≤ ROUTER_LIMIT)) (sym (length-map c.args.names.now string_bytes)) c.in-Err.ensures.few in
-    refused_ends words before now c.refuse.result request named c.in-Err.fault refl (fault_with request before.files c.in-Err.fault c.in-Err.ensures.loaded)
-    (cause_with request before.files before.faults now.faults c.in-Err.fault c.in-Err.ensures.cause) few c.refuse.ensures
+    refused_ends request before now c.refuse.result c.in-Err.fault refl (fault_with true c.args.rounds names before.files c.in-Err.fault c.in-Err.ensures.loaded)
+    (cause_with true c.args.rounds names before.files before.faults now.faults c.in-Err.fault c.in-Err.ensures.cause) few c.refuse.ensures
 
 pub returns-in-Ok-clause-entered_last : goal.returns-in-Ok-clause-entered_last
 returns-in-Ok-clause-entered_last g c is =
     let before : Told = record { rest = g.S.Source.rest c.args.input.now; written = g.K.Sink.written c.args.output.now } in
     let now : Told = record { rest = g.S.Source.rest c.serve.new.input; written = g.K.Sink.written c.serve.new.output } in
-    absurd (served_late (record { state = c.in-Ok.loaded.settled.state; files = map file_view c.in-Ok.loaded.files.items }) before now c.serve.result c.serve.ensures.leaves (subst IsEarly (sym is) tt))
+    absurd (served_late (record { state = c.in-Ok.loaded.settled.state; files = map file_view c.in-Ok.loaded.files.items; listed = true }) before now c.serve.result c.serve.ensures.leaves (subst IsEarly (sym is) tt))
 
 pub returns-in-Ok-clause-session_unread : goal.returns-in-Ok-clause-session_unread
 returns-in-Ok-clause-session_unread g c early =
     let before : Told = record { rest = g.S.Source.rest c.args.input.now; written = g.K.Sink.written c.args.output.now } in
     let now : Told = record { rest = g.S.Source.rest c.serve.new.input; written = g.K.Sink.written c.serve.new.output } in
-    absurd (served_late (record { state = c.in-Ok.loaded.settled.state; files = map file_view c.in-Ok.loaded.files.items }) before now c.serve.result c.serve.ensures.leaves early)
+    absurd (served_late (record { state = c.in-Ok.loaded.settled.state; files = map file_view c.in-Ok.loaded.files.items; listed = true }) before now c.serve.result c.serve.ensures.leaves early)
 
 pub returns-in-Err-clause-entries_all : goal.returns-in-Err-clause-entries_all
 returns-in-Err-clause-entries_all g c late = absurd (refused_early (texts c.args.names.now) c.in-Err.fault _ _ c.refuse.result c.refuse.ensures late)

@@ -13,10 +13,13 @@ use Rattle.nc_rules.specs.Rules.{flow_of}
 use Rattle.nc_rules.specs.Seen.{state_of, asked_of}
 use Rattle.nc_session.specs.declared.TheConstants.{FACT_LIMIT}
 use Rattle.nc_session.specs.declared.work.KeptTest.{KeptTest as Made}
-use Rattle.nc_session.specs.Session.{KeptTest, live_test, asked_in}
+use Rattle.std.proofs.lemmas.List.{map_push}
+use Rattle.std.proofs.lemmas.List.Elements.{All-nil, All-cons, All-append, All-weaker}
+use Rattle.nc_formula.specs.Session.{AreDrawn}
+use Rattle.nc_session.specs.Session.{KeptTest, live_test, posed_in, asked_in}
 use Rattle.nc_report.specs.Sheets.{sheets_from}
-use Rattle.nc_session.specs.Work.{IsMarked, test_view, tests_of}
-use Rattle.nc_session.proofs.Closing.{many-from, many-to}
+use Rattle.nc_session.specs.Work.{IsMarked, HaveNodes, test_view, tests_of, kept_of}
+use Rattle.nc_session.proofs.Closing.{many-from, many-to, nodes-extended}
 use Rattle.nc_session.proofs.Working.{tests-more, marked-more, shown-more}
 use Rattle.nc_session.proofs.work.Work.accept.Goals as goal
 
@@ -49,8 +52,11 @@ returns-clause-work c =
     let facts = c.deref.result.now in
     let graph = c.ask.new.graph in
     let marked = c.requires.work.marked in
-    let test : Made = record { facts = c.args.facts; live = true } in
+    let test : Made = record { facts = c.args.facts; nodes = c.in-Ok.nodes; live = true } in
+    let drawn = c.drawn_with_a_test.ensures (flow_of s) (posed_in (kept_of old)) facts graph old.store old.formulas
+    (c.drawn_for_a_longer_graph.ensures (flow_of s) (posed_in (kept_of old)) old.graph graph done.graph.0 done.graph.1 done.kept old.store old.formulas c.requires.work.drawn) in
     let tests = tests-more test_view old.tests.items c.push.new.self.items test c.in_ok-push.ensures.items in
+    let seen : map test_view c.push.new.self.items ≡ tests_of old ++ live_test facts ∷ [] = tests ∙ ap (λ (fs : List Fact). tests_of old ++ live_test fs ∷ []) (sym c.deref.ensures.value) in
     let net = c.network-network.ensures.network ∙ ap (λ (s : StateView). s.routers) (c.state.ensures ∙ done.state) in
     record {
       state = subst IsState (sym done.state) c.requires.work.state;
@@ -59,6 +65,15 @@ returns-clause-work c =
           (marked-more s (tests_of old) facts old.graph graph old.marks c.add.new.self c.deref-2.result.now marked done.mirrors done.closure done.kept
           (subst (λ (nodes : List NodeId). AreNodesOf graph nodes facts) (sym c.deref-2.ensures.value) done.nodes)
           (c.kept_of_an_extended_graph.ensures old.graph graph done.graph.0 done.graph.1 done.kept) c.in_ok-touched.ensures.kept));
+      nodes = subst (HaveNodes graph) (sym c.in_ok-push.ensures.items) (All-append (λ (t : Made). AreNodesOf graph t.nodes.items t.facts.items) old.tests.items (test ∷ [])
+          (All-weaker (λ (t : Made). AreNodesOf old.graph t.nodes.items t.facts.items) (λ (t : Made). AreNodesOf graph t.nodes.items t.facts.items)
+          (λ t are. nodes-extended old.graph graph done.kept t.nodes.items t.facts.items are) old.tests.items c.requires.work.nodes)
+          (All-cons (λ (t : Made). AreNodesOf graph t.nodes.items t.facts.items) test [] (subst (λ (fs : List Fact). AreNodesOf graph c.in-Ok.nodes.items fs) c.deref.ensures.value done.nodes)
+          (All-nil (λ (t : Made). AreNodesOf graph t.nodes.items t.facts.items))));
+      drawn = subst (λ (s : StateView). AreDrawn (flow_of s) (posed_in (record { tests = map test_view c.push.new.self.items; pairs = old.pairs.items })) graph old.store old.formulas) (sym done.state)
+          (subst (λ (ts : List KeptTest). AreDrawn (flow_of s) (posed_in (record { tests = ts; pairs = old.pairs.items })) graph old.store old.formulas) (sym seen)
+          (subst (λ (fs : List (List Fact)). AreDrawn (flow_of s) (record { tests = fs; pairs = old.pairs.items }) graph old.store old.formulas) (sym (map_push (λ (t : KeptTest). t.facts) (tests_of old) (live_test facts))) drawn));
+      room = c.requires.work.room;
       shown = subst (λ (s : StateView). c.refresh.new.self ≡ sheets_from s.routers c.add.new.self.marks 0 s.routers) (sym done.state)
           (shown-more s.routers c.network-network.result.now old.marks.marks c.add.new.self.marks c.marks.result.now c.in_ok-touched.touched.items c.deref-3.result.now old.shown c.refresh.new.self
           net c.marks.ensures c.deref-3.ensures.value marked.kept.marks.count c.in_ok-touched.ensures.touched c.requires.work.shown c.refresh.ensures);
@@ -73,6 +88,6 @@ returns-clause-taken c =
       λ many. c.in-Ok.ensures.fits (subst (λ (n : ℕ). ReachesMoreThan (flow_of s) n (old.graph.facts ++ c.deref.result.now)) (sym marked.limit)
           (subst (λ (facts : List Fact). ReachesMoreThan (flow_of s) FACT_LIMIT (old.graph.facts ++ facts)) (sym c.deref.ensures.value)
           (many-to (flow_of s) (asked_in (tests_of old)) old.graph.facts marked.closure c.args.facts.items FACT_LIMIT many))),
-      tests-more test_view old.tests.items c.push.new.self.items _ c.in_ok-push.ensures.items,
+      ap (λ (ts : List KeptTest). record { tests = ts; pairs = old.pairs.items }) (tests-more test_view old.tests.items c.push.new.self.items _ c.in_ok-push.ensures.items),
       c.in-Ok.ensures.asked,
     )

@@ -1,7 +1,12 @@
-use Rattle.std.proofs.Common.{◌≡◌, arith, ap, ◌∙◌, subst, length}
+use Rattle.std.proofs.Common.{◌≡◌, arith, sym, ap, ◌∙◌, subst, length}
 use Rattle.nc_types.specs.Network.{element_count}
 use Rattle.nc_tables.specs.State.{StateView, IsState}
+use Rattle.std.proofs.lemmas.List.Elements.{All-nil}
+use Rattle.nc_graph.specs.Nodes.{AreNodesOf}
+use Rattle.nc_formula.specs.Session.{AreDrawn}
+use Rattle.nc_rules.specs.Rules.{flow_of}
 use Rattle.nc_rules.specs.Seen.{state_of}
+use Rattle.nc_session.specs.Work.{HaveNodes}
 use Rattle.nc_session.proofs.Working.{marked-none, shown-first}
 use Rattle.nc_session.proofs.work.Work.begin.Goals as goal
 
@@ -15,5 +20,8 @@ returns-clause-work c =
           rw c.new-4.ensures.items (marked-none s c.new-3.result c.in_ok-kept.kept c.element_count.result c.new-3.ensures.empty
           (c.element_count.ensures.count ∙ ap element_count network) (c.new-3.ensures.mirrors _) c.in_ok-kept.ensures.kept);
       shown = shown-first s.routers c.network-network.result.now c.in_ok-kept.kept.marks c.marks.result.now c.in_ok-shown.shown network c.marks.ensures c.in_ok-shown.ensures;
+      nodes = subst (HaveNodes c.new-3.result) (sym c.new-4.ensures.items) (All-nil (λ t. AreNodesOf c.new-3.result t.nodes.items t.facts.items));
+      drawn = subst (AreDrawn (flow_of s) _ c.new-3.result c.new-6.result) (sym c.new-7.ensures) (c.nothing_is_drawn.ensures (flow_of s) _ c.new-3.result c.new-6.result c.new-6.ensures.constants_alone);
+      room = c.new-6.ensures.limit;
       few = omega (arith, ap length c.new-4.ensures.items);
     }

@@ -6,7 +6,7 @@ use Rattle.nc_command.specs.Command.{text_of}
 use Rattle.nc_session.specs.declared.TheConstants.{TEST_LIMIT}
 use Rattle.nc_session.specs.Session.{State, Tests}
 use Rattle.nc_session.specs.Engine.{Infers}
-use Rattle.nc_session.specs.Work.{tests_of}
+use Rattle.nc_session.specs.Work.{tests_of, kept_of}
 use Rattle.nc_session.proofs.Answering.{tested}
 use Rattle.nc_session.proofs.work.Work.judge.Goals as goal
 
@@ -16,15 +16,15 @@ returns-clause-told c =
     let s = state_of old.rules in
     let new = c.count.new.self in
     let text = text_of c.args.test.now in
-    let before : State = record { tests = tests_of old } in
-    let after : State = record { tests = tests_of new } in
+    let before : State = kept_of old in
+    let after : State = kept_of new in
     let counted = c.in_ok-count.ensures.counts in
     let facts = c.args.facts in
     let some : 0 < length facts.items = omega (arith, facts.ok.0, eqb-false facts.len 0 (sym c.if-is_empty.ensures)) in
     record {
       reply = counted.reply;
-      answer = subst (λ (fs : List Fact). Tests s before fs text counted.reply after) c.requires.facts (tested s facts.items before text counted.reply after some counted.answer);
+      answer = subst (λ (fs : List Fact). Tests s old.listed before fs text counted.reply after) c.requires.facts (tested s old.listed facts.items before text counted.reply after some counted.answer);
       text = counted.text;
-      state = counted.state;
+      network = counted.network;
       infers = subst (λ (fs : List Fact). Infers s (tests_of old) (if nat_lt (length (tests_of old)) TEST_LIMIT then fs else []) (asked_of old.rules) (asked_of new.rules)) c.requires.facts counted.infers;
     }

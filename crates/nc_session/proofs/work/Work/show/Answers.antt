@@ -7,7 +7,7 @@ use Rattle.nc_report.specs.Texts.{line_of, sheet_in, show_of}
 use Rattle.nc_report.specs.Views.{FileView, file_view}
 use Rattle.nc_session.specs.File.{file_in}
 use Rattle.nc_session.specs.Session.{Shows, listing_at, unknown_of}
-use Rattle.nc_session.specs.Work.{loaded_of, tests_of}
+use Rattle.nc_session.specs.Work.{loaded_of, kept_of}
 use Rattle.nc_session.proofs.Replying.{forms, named-within}
 use Rattle.nc_session.proofs.work.Work.show.Goals as goal
 
@@ -20,7 +20,7 @@ returns-in_default c =
     let reply = line_of (unknown_of name) in
     record {
       reply = reply;
-      answer = subst (λ (r : Option ℕ). Shows n r (record { tests = tests_of w }) name reply (record { tests = tests_of w })) (sym none) (refl, refl);
+      answer = subst (λ (r : Option ℕ). Shows n r (kept_of w) name reply (kept_of w)) (sym none) (refl, refl);
       text = c.in_ok-push_unknown.ensures ∙ ap (λ (word : List ℕ). c.args.out.now.items ++ line_of (unknown_of word)) c.bytes.ensures;
     }
 
@@ -41,6 +41,6 @@ returns c =
     (c.in_ok-push_show.ensures ∙ ap (λ (f : FileView). c.args.out.now.items ++ show_of (sheet_in w.shown router).letters f.lines) c.file_at.ensures) in
     record {
       reply = told.reply;
-      answer = subst (λ (r : Option ℕ). Shows n r (record { tests = tests_of w }) c.args.name.now told.reply (record { tests = tests_of w })) (sym at) told.answer;
+      answer = subst (λ (r : Option ℕ). Shows n r (kept_of w) c.args.name.now told.reply (kept_of w)) (sym at) told.answer;
       text = told.text;
     }

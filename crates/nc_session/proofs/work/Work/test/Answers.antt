@@ -6,7 +6,7 @@ use Rattle.nc_rules.specs.Seen.{state_of, asked_of}
 use Rattle.nc_session.specs.Session.{router_of, unknown_of}
 use Rattle.nc_report.specs.Texts.{line_of}
 use Rattle.nc_session.specs.Engine.{Infers}
-use Rattle.nc_session.specs.Work.{tests_of}
+use Rattle.nc_session.specs.Work.{tests_of, kept_of}
 use Rattle.nc_session.proofs.Answering.{named, unknown, none-asked, none-named}
 use Rattle.nc_session.proofs.work.Work.test.Goals as goal
 
@@ -19,9 +19,9 @@ returns-in_default-clause-tests c =
     let none : router_named s.routers (router_of test) ≡ None = ap (router_named s.routers) (sym c.router_of-name.ensures) ∙ sym c.router.ensures ∙ ap (option_map (λ r. r.0)) c.in_default.is in
     record {
       reply = line_of (unknown_of (router_of test));
-      answer = unknown s tests test none;
+      answer = unknown s old.listed (kept_of old) test none;
       text = c.in_ok-push_unknown.ensures ∙ ap (λ (word : List ℕ). c.args.out.now.items ++ line_of (unknown_of word)) (c.bytes.ensures ∙ c.router_of-name.ensures);
-      state = refl;
+      network = record { state = refl; listed = refl };
       infers = subst (λ (fs : List Fact). Infers s tests fs (asked_of old.rules) (asked_of old.rules)) (sym (none-asked s tests test (none-named s test none))) refl;
     }
 
@@ -32,8 +32,8 @@ returns-clause-tests c =
     let at = c.in_ok-test_at.ensures.tested in
     record {
       reply = at.reply;
-      answer = named s c.in-Some.router.0 c.args.test.now (record { tests = tests_of old }) (record { tests = tests_of c.test_at.new.self }) at.reply (ap (router_named s.routers) (sym c.router_of-name.ensures) ∙ sym c.router.ensures ∙ ap (option_map (λ r. r.0)) c.in-Some.is) at.answer;
+      answer = named s old.listed c.in-Some.router.0 c.args.test.now (kept_of old) (kept_of c.test_at.new.self) at.reply (ap (router_named s.routers) (sym c.router_of-name.ensures) ∙ sym c.router.ensures ∙ ap (option_map (λ r. r.0)) c.in-Some.is) at.answer;
       text = at.text;
-      state = at.state;
+      network = at.network;
       infers = at.infers;
     }

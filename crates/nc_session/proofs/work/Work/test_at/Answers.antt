@@ -4,7 +4,7 @@ use Rattle.nc_rules.specs.Seen.{state_of, asked_of}
 use Rattle.nc_session.specs.Session.{State, has_line}
 use Rattle.nc_report.specs.Texts.{line_of}
 use Rattle.nc_session.specs.Engine.{Infers}
-use Rattle.nc_session.specs.Work.{tests_of}
+use Rattle.nc_session.specs.Work.{tests_of, kept_of}
 use Rattle.nc_session.proofs.Answering.{lined, unlined, none-asked, none-lined}
 use Rattle.nc_session.proofs.work.Work.test_at.Goals as goal
 
@@ -16,12 +16,12 @@ returns-then-not-has_line-clause-tested c =
     let test = c.args.test.now in
     let router = c.args.router.0 in
     let none : has_line s router test ≡ false = sym c.has_line.ensures ∙ c.if-not-has_line.true in
-    let kept : State = record { tests = tests } in
+    let kept : State = kept_of old in
     record {
       reply = line_of (codes "refused line");
-      answer = unlined s router test kept kept (line_of (codes "refused line")) none (refl, refl);
+      answer = unlined s old.listed router test kept kept (line_of (codes "refused line")) none (refl, refl);
       text = c.in_ok-push_line.ensures;
-      state = refl;
+      network = record { state = refl; listed = refl };
       infers = subst (λ (fs : List Fact). Infers s tests fs (asked_of old.rules) (asked_of old.rules)) (sym (none-asked s tests test (none-lined s router test c.requires.router none))) refl;
     }
 
@@ -32,8 +32,8 @@ returns-clause-tested c =
     let told = c.in_ok-judge.ensures.told in
     record {
       reply = told.reply;
-      answer = lined s c.args.router.0 c.args.test.now (record { tests = tests_of old }) (record { tests = tests_of c.judge.new.self }) told.reply (sym c.has_line.ensures ∙ c.if-not-has_line.false) told.answer;
+      answer = lined s old.listed c.args.router.0 c.args.test.now (kept_of old) (kept_of c.judge.new.self) told.reply (sym c.has_line.ensures ∙ c.if-not-has_line.false) told.answer;
       text = told.text;
-      state = told.state;
+      network = told.network;
       infers = told.infers;
     }
