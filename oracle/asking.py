@@ -88,8 +88,20 @@ def beside(net):
     yield from ("show nobody", "show", "lcov r1", "json json")
 
 
+def with_questions(asks):
+    """The lines, with questions about tests between them, and some forgotten."""
+    lines = []
+    for count, line in enumerate(asks, 1):
+        lines.append(line)
+        if R.random() < 0.3:
+            lines.append(f"implies {R.randint(1, count)} {R.randint(1, count)}")
+        if R.random() < 0.1:
+            lines.append(f"forget {R.randint(1, count)}")
+    return lines
+
+
 def some_there(files, names, count):
     """So many tests of what is there, where the files go together and routing settles soon."""
     net, rounds = joined(files, names)
     present = there(net) if rounds else []
-    return R.sample(present, min(len(present), count))
+    return with_questions(R.sample(present, min(len(present), count)))

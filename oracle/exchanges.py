@@ -5,7 +5,7 @@ A session asks for what is there and for what is beside it.
 import itertools
 
 import oracle
-from asking import beside, joined, there
+from asking import beside, joined, there, with_questions
 from peers import Wires, routes_of
 from pieces import R, Case, b, dotted
 
@@ -21,6 +21,7 @@ def with_session(case, many=False):
     else:
         asks = R.sample(present, min(len(present), R.choice([3, 8, 20]))) + R.sample(absent, min(len(absent), R.choice([2, 5, 10])))
         R.shuffle(asks)
+        asks = with_questions(asks)
     words = list(case.words)
     if not many and R.random() < 0.3:
         n = max(1, (rounds or R.choice([2, 10])) + R.choice([-1, 0, 0, 1]))

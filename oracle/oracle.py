@@ -9,12 +9,14 @@ module, run(words, session) gives the status and the bytes.
 import os
 import sys
 
+from carriers import lacking
 from facts import closure, marks_of
 from network import HOPS, Net, base_table, join
 from paths import arrives
 from reading import Fault, read_file
 from reports import as_json, lcov, report, show
 from routes import chosen_at, entry_of, main_table, settle
+from trees import fat_tree
 from texts import address, bits, inside, large, lines_of, mask, number, prefix_word, words
 
 LIMIT_FILE, LIMIT_LINES, LIMIT_ROUTERS = 4194304, 65535, 256
@@ -75,21 +77,64 @@ def tested_facts(net, command, r, what, a):
     return [("Chosen", r, what, k) for k in range(len(chosen_at(net, r, what)))]
 
 
+def numbers_of(w, command, count):
+    """The numbers of tests behind a command, or None where it isn't that command."""
+    found = [large(x) for x in w[1:]]
+    return found if w[:1] == [command] and len(found) == count and None not in found else None
+
+
+def place_of(net, e):
+    """The router and the first line of an element, as they are written."""
+    r = max(r for r, before in enumerate(net.before) if before <= e and net.routers[r]["elements"])
+    return net.routers[r]["name"] + b":%d" % min(net.routers[r]["elements"][e - net.before[r]][1])
+
+
 class Conversation:
-    def __init__(self, net, files, texts):
-        self.net, self.files, self.texts = net, files, texts
-        self.tested, self.asked, self.accepted = [], set(), 0
+    def __init__(self, net, files, texts, listed):
+        self.net, self.files, self.texts, self.listed = net, files, texts, listed
+        self.tests, self.live, self.asked = [], [], set()
         self.names, self.sheets = [c["name"] for c in net.routers], marks_of(net, [])
+
+    def tested(self):
+        return [f for facts, live in zip(self.tests, self.live) if live for f in facts]
+
+    def reported(self):
+        return report(self.names if self.listed else [], self.sheets)
 
     def accept(self, facts):
         more = self.asked | closure(self.net, facts)
         if len(more) > LIMIT_FACTS:
             return b"refused limit facts\n"
-        if not set(facts) <= set(self.tested):
-            self.tested += facts
-            self.sheets = marks_of(self.net, self.tested)
-        self.asked, self.accepted = more, self.accepted + 1
-        return b"test %d facts %d\n" % (self.accepted, len(self.asked)) + report(self.names, self.sheets)
+        known = set(facts) <= set(self.tested())
+        self.tests, self.live, self.asked = self.tests + [facts], self.live + [True], more
+        if not known:
+            self.sheets = marks_of(self.net, self.tested())
+        return b"test %d facts %d\n" % (len(self.tests), len(self.asked)) + self.reported()
+
+    def is_live(self, n):
+        return 1 <= n <= len(self.tests) and self.live[n - 1]
+
+    def forget(self, n):
+        if not self.is_live(n):
+            return b"refused test %d\n" % n
+        self.live[n - 1] = False
+        self.sheets = marks_of(self.net, self.tested())
+        return b"forgot %d\n" % n + self.reported()
+
+    def implies(self, m, n):
+        for test in (m, n):
+            if not self.is_live(test):
+                return b"refused test %d\n" % test
+        missing = lacking(self.net, self.tests[m - 1], self.tests[n - 1])
+        head = b"implies %d %d " % (m, n)
+        return head + (b"yes\n" if missing is None else b" ".join([b"no without"] + [place_of(self.net, e) for e in missing]) + b"\n")
+
+    def asked_of_tests(self, w):
+        """The reply to a line about tests that were accepted, or None where it isn't one."""
+        forgotten, pair = numbers_of(w, b"forget", 1), numbers_of(w, b"implies", 2)
+        if forgotten is not None:
+            return self.forget(*forgotten)
+        return None if pair is None else self.implies(*pair)
 
     def told(self, w):
         """A report that a line asks for, or None where it asks for none."""
@@ -109,6 +154,8 @@ class Conversation:
         if not w or w[0][:1] == b"#":
             return b""
         told = self.told(w)
+        if told is None:
+            told = self.asked_of_tests(w)
         test = asked_for(w)
         if told is not None:
             return told
@@ -122,37 +169,50 @@ class Conversation:
             return b"refused line\n"
         if not facts:
             return b"refused absent " + b" ".join(w) + b"\n"
-        return b"refused limit tests\n" if self.accepted == LIMIT_TESTS else self.accept(facts)
+        return b"refused limit tests\n" if len(self.tests) == LIMIT_TESTS else self.accept(facts)
 
 
-def converse(net, session, files, texts):
+def converse(net, session, files, texts, listed=True):
     lines, limited = served(session)
-    conversation = Conversation(net, files, texts)
+    conversation = Conversation(net, files, texts, listed)
     out = b"".join(conversation.answer(line) for line in lines if line)
     return (8, out + b"refused limit session\n") if limited else (0, out)
 
 
 # --- the words, and the whole run -------------------------------------------------------------
-def read_words(given):
-    """(files, rounds), or None where they are refused"""
-    files, rounds, k = [], None, 0
+def values_of(given, setting):
+    """The words as they say one after another: (setting or None, value); None where one isn't allowed."""
+    said, k = [], 0
     while k < len(given):
-        w = given[k]
+        w, head = given[k], given[k].split(b"=")[0]
         k += 1
         if w == b"--":
-            files += given[k:]
-            break
-        if w == b"--rounds" or w.startswith(b"--rounds="):
-            value = w[9:] if w[8:] else given[k] if k < len(given) else b""
-            k += not w[8:]
-            if rounds is not None or number(value, 1, MOST_ROUNDS) is None:
+            return said + [(None, name) for name in given[k:]]
+        if head in setting:
+            if w == head and k == len(given):
                 return None
-            rounds = number(value, 1, MOST_ROUNDS)
+            said.append((head, given[k] if w == head else w[len(head) + 1:]))
+            k += w == head
         elif len(w) > 1 and w[:1] == b"-":
             return None
         else:
-            files.append(w)
-    return (files, rounds or ROUNDS) if files else None
+            said.append((None, w))
+    return said
+
+
+def read_words(given):
+    """(files, rounds, pods or None), or None where they are refused"""
+    said = values_of(given, (b"--rounds", b"--fat-tree"))
+    if said is None:
+        return None
+    files = [value for setting, value in said if setting is None]
+    rounds, pods = ([value for setting, value in said if setting == wanted] for wanted in (b"--rounds", b"--fat-tree"))
+    if len(rounds) > 1 or len(pods) > 1 or bool(files) == bool(pods):
+        return None
+    found = [number(value, 1, MOST_ROUNDS) for value in rounds], [number(value, 2, 8) for value in pods]
+    if None in found[0] or any(k not in (2, 4, 6, 8) for k in found[1]):
+        return None
+    return files, (found[0] or [ROUNDS])[0], (found[1] or [None])[0]
 
 
 def read_one(name):
@@ -177,21 +237,13 @@ def refused(name, line, cause):
     return 1, b"refused config " + name + b" %d " % line + cause + b"\n"
 
 
-def run(given, session):
-    for w in given:
-        try:
-            w.decode("utf-8")
-        except UnicodeDecodeError:
-            return 9, b""
-    meant = read_words(given)
-    if meant is None:
-        return 2, b"refused usage\n"
-    files, rounds = meant
+def network_of(files, read, rounds):
+    """The network of files with their lines, as (routers' network, lines); or a status and the bytes of a refusal."""
     if len(files) > LIMIT_ROUTERS:
         return 8, b"refused limit routers\n"
     routers, texts = [], []
     for name in files:
-        config = read_one(name)
+        config = read(name)
         if isinstance(config, tuple):
             return config
         routers.append(config[0])
@@ -204,6 +256,37 @@ def run(given, session):
     net = Net(routers)
     if not settle(net, rounds):
         return 3, b"refused unstable %d\n" % rounds
+    return [net, texts]
+
+
+def run_tree(pods, rounds):
+    files, session = fat_tree(pods)
+    lines = {name: lines_of(data) for name, data in files}
+    found = network_of(list(lines), lambda name: [read_file(lines[name]), lines[name]], rounds)
+    if isinstance(found, tuple):
+        return found
+    net, texts = found
+    status, out = converse(net, session, list(lines), texts, listed=False)
+    heading = b"fat-tree %d routers %d lines %d\n" % (pods, len(lines), sum(map(len, texts)))
+    return status, (heading if status == 0 else b"") + out
+
+
+def run(given, session):
+    for w in given:
+        try:
+            w.decode("utf-8")
+        except UnicodeDecodeError:
+            return 9, b""
+    meant = read_words(given)
+    if meant is None:
+        return 2, b"refused usage\n"
+    files, rounds, pods = meant
+    if pods is not None:
+        return run_tree(pods, rounds)
+    found = network_of(files, read_one, rounds)
+    if isinstance(found, tuple):
+        return found
+    net, texts = found
     return converse(net, session, files, texts)
 
 
