@@ -16,8 +16,6 @@ mod object;
 mod report;
 mod show;
 mod shown;
-#[cfg(test)]
-mod tests;
 mod texts;
 
 pub use file::LoadedFile;
