@@ -42,8 +42,8 @@ work-falls zero h = absurd (omega arith)
 work-falls (suc n) h = let e : suc n - 1 ≡ n = omega arith in omega (arith, ap work e)
 
 abbrev pub weight_of : Frame → ℕ
-weight_of (Low p v high) = 3 * work (p.left + p.right - 1)
-weight_of (High p v low) = work (p.left + p.right - 1)
+weight_of (Low p v high b) = 3 * work (p.left + p.right - 1)
+weight_of (High p v low b) = work (p.left + p.right - 1)
 
 abbrev pub focus_weight : Focus → ℕ
 focus_weight (Work p) = work (p.left + p.right)
@@ -58,12 +58,12 @@ sum_by-push frames frame = sum_by_push weight_of frames frame
 
 -- the pair that a frame is to finish, and the function of the side that it waits for
 abbrev pub pair_of : Frame → Pair
-pair_of (Low p v high) = p
-pair_of (High p v low) = p
+pair_of (Low p v high b) = p
+pair_of (High p v low b) = p
 
 abbrev pub part_of : Operator → List Node → Frame → Members → Bool
-part_of operator old (Low p v high) s = joint operator old p (fixing (below v false) s)
-part_of operator old (High p v low) s = joint operator old p (fixing (below v true) s)
+part_of operator old (Low p v high b) s = joint operator old p (fixing (below v false) s)
+part_of operator old (High p v low b) s = joint operator old p (fixing (below v true) s)
 
 -- what a waiting frame has
 pub record IsSet (operator : Operator) (old : List Node) (p : Pair) (v : ℕ) : Type 0 where
@@ -82,8 +82,8 @@ pub record HasLow (operator : Operator) (old now : List Node) (p : Pair) (v low 
   pub value : Same (meaning now low) (λ s. joint operator old p (fixing (below v false) s))
 
 abbrev pub IsFrame : Operator → List Node → List Node → Frame → Type 0
-IsFrame operator old now (Low p v high) = IsSet operator old p v × HasHigh operator old p v high
-IsFrame operator old now (High p v low) = IsSet operator old p v × HasLow operator old now p v low
+IsFrame operator old now (Low p v high b) = IsSet operator old p v × HasHigh operator old p v high
+IsFrame operator old now (High p v low b) = IsSet operator old p v × HasLow operator old now p v low
 
 -- the frames wait for g: the oldest is to give f, each waits for what the next is to give, and the newest for g
 unfoldable pub Waits : Operator → List Node → List Node → (Members → Bool) → List Frame → (Members → Bool) → Type 0
@@ -110,8 +110,8 @@ module _ (operator : Operator) (old : List Node) where
   Waits-same now f (frame ∷ frames) g h w e = (w.0, w.1, Waits-same now (part_of operator old frame) frames g h w.2 e)
 
   IsFrame-keep : (now new : List Node) → Keeps now new → (frame : Frame) → IsFrame operator old now frame → IsFrame operator old new frame
-  IsFrame-keep now new keeps (Low p v high) is = is
-  IsFrame-keep now new keeps (High p v low) is =
+  IsFrame-keep now new keeps (Low p v high b) is = is
+  IsFrame-keep now new keeps (High p v low b) is =
       let k = keeps low is.1.belongs in
       (is.0, record { belongs = k.0; value = λ s. k.1 s ∙ is.1.value s })
 
@@ -122,13 +122,13 @@ module _ (operator : Operator) (old : List Node) where
 
   -- what is waited for is a part of the result
   side_of : Frame → List Bool
-  side_of (Low p v high) = below v false
-  side_of (High p v low) = below v true
+  side_of (Low p v high b) = below v false
+  side_of (High p v low b) = below v true
 
   part-fixed : (frame : Frame) → Same (part_of operator old frame) (λ s. joint operator old (pair_of frame) (fixing (side_of frame) s))
   unfolding side_of
-  part-fixed (Low p v high) s = refl
-  part-fixed (High p v low) s = refl
+  part-fixed (Low p v high b) s = refl
+  part-fixed (High p v low b) s = refl
 
   Waits-fixed : (now : List Node) (f : Members → Bool) (frames : List Frame) (g : Members → Bool) → Waits operator old now f frames g → IsLowestFixed f g
   unfolding Waits
@@ -226,42 +226,43 @@ module _ (operator : Operator) (f : Members → Bool) (old now : Diagrams) where
         let keeps = Keeps-adds f old now u.adds in
         let v = o.1.0 in
         let high = o.1.1 in
-        let split = o.1.3 in
+        let b = o.1.2 in
+        let split = o.1.4 in
         let low_side = side_old keeps p u.belongs v false low split.low in
         let high_side = side_old keeps p u.belongs v true high split.high in
         let some : 0 < p.left + p.right = omega (arith, o.0.0) in
-        let frame : Frame = Low p v high in
-        let is : IsFrame operator old.nodes now.nodes (Low p v high) =
+        let frame : Frame = Low p v high b in
+        let is : IsFrame operator old.nodes now.nodes (Low p v high b) =
         (record { belong = u.belongs; narrow = split.top.narrow; some = some; top = top_old keeps p u.belongs v split.top }, record { belong = high_side.0; older = split.high.older; value = high_side.1 }) in (
           record {
             adds = u.adds;
             reduced = u.reduced;
             belongs = low_side.0;
-            waits = subst (λ fs. Waits operator old.nodes now.nodes f fs (joint operator old.nodes low)) (sym o.1.2) (Waits-push operator old.nodes now.nodes f frames (Low p v high) (joint operator old.nodes low) u.waits is low_side.1);
+            waits = subst (λ fs. Waits operator old.nodes now.nodes f fs (joint operator old.nodes low)) (sym o.1.3) (Waits-push operator old.nodes now.nodes f frames (Low p v high b) (joint operator old.nodes low) u.waits is low_side.1);
             done = u.done;
           },
-          omega (arith, ap (sum_by weight_of) o.1.2, sum_by-push frames (Low p v high), work-falls (p.left + p.right) some, work-positive (p.left + p.right - 1), work-mono (low.left + low.right) (p.left + p.right - 1) (omega (arith, split.low.older))),
+          omega (arith, ap (sum_by weight_of) o.1.3, sum_by-push frames (Low p v high b), work-falls (p.left + p.right) some, work-positive (p.left + p.right - 1), work-mono (low.left + low.right) (p.left + p.right - 1) (omega (arith, split.low.older))),
         )
 
     -- the low side is done, and the high side is begun
-    pub turned : (frames all : List Frame) (p : Pair) (v : ℕ) (high : Pair) (r : ℕ) → all ≡ frames ++ Low p v high ∷ [] → IsUnderway operator f old now all (Done r) found → IsUnderway operator f old now (frames ++ High p v r ∷ []) (Work high) found × (work_left (frames ++ High p v r ∷ []) (Work high) < work_left all (Done r))
-    turned frames all p v high r e u =
-        let w = Waits-pop operator old.nodes now.nodes f frames (Low p v high) (meaning now.nodes r) (subst (λ fs. Waits operator old.nodes now.nodes f fs (meaning now.nodes r)) e u.waits) in
+    pub turned : (frames all : List Frame) (p : Pair) (v : ℕ) (high : Pair) (b r : ℕ) → all ≡ frames ++ Low p v high b ∷ [] → IsUnderway operator f old now all (Done r) found → IsUnderway operator f old now (frames ++ High p v r b ∷ []) (Work high) found × (work_left (frames ++ High p v r b ∷ []) (Work high) < work_left all (Done r))
+    turned frames all p v high b r e u =
+        let w = Waits-pop operator old.nodes now.nodes f frames (Low p v high b) (meaning now.nodes r) (subst (λ fs. Waits operator old.nodes now.nodes f fs (meaning now.nodes r)) e u.waits) in
         let set = w.1.0 in
         let has_high = w.1.1 in (
           record {
             adds = u.adds;
             reduced = u.reduced;
             belongs = has_high.belong;
-            waits = Waits-push operator old.nodes now.nodes f frames (High p v r) (joint operator old.nodes high) w.0 (set, record { belongs = u.belongs; value = w.2 }) has_high.value;
+            waits = Waits-push operator old.nodes now.nodes f frames (High p v r b) (joint operator old.nodes high) w.0 (set, record { belongs = u.belongs; value = w.2 }) has_high.value;
             done = u.done;
           },
-          omega (arith, ap (sum_by weight_of) e, sum_by-push frames (Low p v high), sum_by-push frames (High p v r), work-positive (p.left + p.right - 1), work-mono (high.left + high.right) (p.left + p.right - 1) (omega (arith, has_high.older))),
+          omega (arith, ap (sum_by weight_of) e, sum_by-push frames (Low p v high b), sum_by-push frames (High p v r b), work-positive (p.left + p.right - 1), work-mono (high.left + high.right) (p.left + p.right - 1) (omega (arith, has_high.older))),
         )
 
-    module _ (frames all : List Frame) (p : Pair) (v low r : ℕ) (e : all ≡ frames ++ High p v low ∷ []) (u : IsUnderway operator f old now all (Done r) found) where
-      popped : Waits operator old.nodes now.nodes f frames (joint operator old.nodes p) × IsFrame operator old.nodes now.nodes (High p v low) × Same (meaning now.nodes r) (part_of operator old.nodes (High p v low))
-      popped = Waits-pop operator old.nodes now.nodes f frames (High p v low) (meaning now.nodes r) (subst (λ fs. Waits operator old.nodes now.nodes f fs (meaning now.nodes r)) e u.waits)
+    module _ (frames all : List Frame) (p : Pair) (v low b r : ℕ) (e : all ≡ frames ++ High p v low b ∷ []) (u : IsUnderway operator f old now all (Done r) found) where
+      popped : Waits operator old.nodes now.nodes f frames (joint operator old.nodes p) × IsFrame operator old.nodes now.nodes (High p v low b) × Same (meaning now.nodes r) (part_of operator old.nodes (High p v low b))
+      popped = Waits-pop operator old.nodes now.nodes f frames (High p v low b) (meaning now.nodes r) (subst (λ fs. Waits operator old.nodes now.nodes f fs (meaning now.nodes r)) e u.waits)
 
       -- both sides are done: what `make` requires
       pub low_belongs : Belongs now.nodes low
@@ -337,7 +338,7 @@ module _ (operator : Operator) (f : Members → Bool) (old now : Diagrams) where
                     | inr no_ ↦ IsDone-keep operator old.nodes now.nodes new.nodes keeps found u.done x t (sym (updates x ∙ ap (λ b. cond b (Some q) (found x)) no_) ∙ h)
                   ];
             },
-            omega (arith, ap (sum_by weight_of) e, sum_by-push frames (High p v low), work-positive (p.left + p.right - 1)),
+            omega (arith, ap (sum_by weight_of) e, sum_by-push frames (High p v low b), work-positive (p.left + p.right - 1)),
           )
 
 -- the loop's beginning and its end

@@ -78,5 +78,5 @@ pub record IsAnswer (nodes : List Node) (operator : Operator) (p : Pair) (r : �
 -- frame waits
 abbrev pub Opens : Operator → List Node → (Pair → Option ℕ) → Pair → List Frame → List Frame → Focus → Type 0
 Opens operator nodes found p old new (Work low) =
-    BothNodes p × ((variable : ℕ) × (high : Pair) × (new ≡ old ++ Low p variable high ∷ []) × AreCofactors nodes p (record { variable = variable; low = low; high = high }))
+    BothNodes p × ((variable : ℕ) × (high : Pair) × (begun : ℕ) × (new ≡ old ++ Low p variable high begun ∷ []) × AreCofactors nodes p (record { variable = variable; low = low; high = high }))
 Opens operator nodes found p old new (Done r) = (new ≡ old) × (IsDecided operator p r ⊎ ((found p ≡ Some r) ⊎ IsAnswer nodes operator p r))

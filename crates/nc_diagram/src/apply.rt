@@ -34,18 +34,21 @@ pub(crate) struct Cofactors {
     pub high: Pair,
 }
 
-/// What waits for a result: a pair whose low side is worked on, or one whose high side is.
+/// What waits for a result: a pair whose low side is worked on, or one whose high side is. Each knows
+/// how many pairs were done when it was begun.
 #[derive(Clone, Copy)]
 pub(crate) enum Frame {
     Low {
         pair: Pair,
         variable: u32,
         high: Pair,
+        begun: usize,
     },
     High {
         pair: Pair,
         variable: u32,
         low: u32,
+        begun: usize,
     },
 }
 
@@ -151,7 +154,7 @@ impl Store {
         if let Some(place) = done.get(&pair) {
             return Ok(Focus::Done(*place));
         }
-        if let Some(place) = self.recall(operator, pair) {
+        if let Some(place) = self.recall(operator, pair, done.len()) {
             return Ok(Focus::Done(place));
         }
         let sides = self.cofactors(pair);
@@ -159,6 +162,7 @@ impl Store {
             pair,
             variable: sides.variable,
             high: sides.high,
+            begun: done.len(),
         })?;
         Ok(Focus::Work(sides.low))
     }
@@ -260,12 +264,14 @@ impl Store {
                             pair,
                             variable,
                             high,
+                            begun,
                         },
                     ) => {
                         frames.push(Frame::High {
                             pair,
                             variable,
                             low: place,
+                            begun,
                         })?;
                         Focus::Work(high)
                     }
@@ -274,6 +280,7 @@ impl Store {
                             pair,
                             variable,
                             low,
+                            begun,
                         },
                     ) => {
                         let made = match self.make(variable, low, place) {
@@ -281,7 +288,7 @@ impl Store {
                             Err(fault) => return Err(fault),
                         };
                         done.insert(pair, made)?;
-                        self.remember(operator, pair, made);
+                        self.remember(operator, pair, made, begun, done.len());
                         Focus::Done(made)
                     }
                 },

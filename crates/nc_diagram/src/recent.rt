@@ -9,8 +9,11 @@ use std::alloc::Global;
 use std::marker::Model;
 use std::num::NonZeroUsize;
 
-// How many answers are kept at most.
-const MOST: usize = 65_536;
+/// How many answers are kept at most.
+pub(crate) const MOST: usize = 65_536;
+
+/// For how many pairs, at least, an answer is kept: what took fewer is worked out again as soon.
+pub(crate) const LEAST: usize = 8;
 
 /// An operation on two references.
 #[derive(Clone, Copy, PartialEq, Eq, Hash, Debug)]
@@ -23,7 +26,7 @@ pub(crate) struct Question {
 /// memory is found for them.
 #[derive(Drop)]
 pub(crate) struct Recent {
-    cache: Option<LruCache<Question, u32>>,
+    cache: Option<Box<LruCache<Question, u32>>>,
     alloc: Global,
 }
 
@@ -34,18 +37,33 @@ impl Model for Recent {
 
     ghost Value = { List (Question × ℕ) };
 
-    ghost view = { λ r. option_map_or (λ c. c.entries) r.cache [] };
+    ghost view = { λ r. option_map_or (λ c. c.value.entries) r.cache [] };
 }
 
 // An empty cache, where memory is found for it.
-fn empty_cache(alloc: Global) -> Option<LruCache<Question, u32>>
-    ensures { IfSome result (λ c. c.entries ≡ []) }
+fn empty_cache(alloc: Global) -> Option<Box<LruCache<Question, u32>>>
+    ensures { IfSome result (λ c. c.value.entries ≡ []) }
 {
     let most = NonZeroUsize::new(MOST)?;
-    match LruCache::sparse(alloc, most) {
+    let Ok(cache) = LruCache::sparse(alloc, most) else {
+        return None;
+    };
+    match Box::new(alloc, cache) {
         Ok(cache) => Some(cache),
         Err(_memory) => None,
     }
+}
+
+// The answer of an operation, where it is kept. It is then the one used last.
+fn used(cache: &mut LruCache<Question, u32>, question: Question) -> Option<u32>
+    ensures found { IfSome result (λ place. Contains cache.old.entries (question, place)) }
+    ensures kept { (e : Question × ℕ) → Contains cache.new.entries e → Contains cache.old.entries e }
+{
+    let found = cache.peek(&question).copied();
+    if found.is_some() {
+        cache.promote(&question);
+    }
+    found
 }
 
 impl Recent {
@@ -62,15 +80,14 @@ impl Recent {
         ensures kept { (e : Question × ℕ) → Contains self.new e → Contains self.old e }
     {
         let mut cache = self.cache.take()?;
-        let found = cache.peek(&question).copied();
-        cache.promote(&question);
+        let found = used(&mut cache, question);
         self.cache = Some(cache);
         found
     }
 
     // Takes the cache out, which is made where there is none yet and memory is found for it.
-    fn taken(&mut self) -> Option<LruCache<Question, u32>>
-        ensures cache { IfSome result (λ c. c.entries ≡ self.old) }
+    fn taken(&mut self) -> Option<Box<LruCache<Question, u32>>>
+        ensures cache { IfSome result (λ c. c.value.entries ≡ self.old) }
         ensures out { self.new ≡ [] }
     {
         match self.cache.take() {

@@ -9,7 +9,7 @@ ghost use Rattle.nc_diagram.specs.Operations.{IsAnswer};
 use crate::apply::{Operator, Pair};
 use crate::fault::StoreFault;
 use crate::node::{Node, Ref};
-use crate::recent::{Question, Recent};
+use crate::recent::{LEAST, MOST, Question, Recent};
 use indexmap::IndexSet;
 use std::alloc::Global;
 use std::marker::Model;
@@ -139,20 +139,34 @@ impl Store {
         self.nodes.truncate(mark as usize);
     }
 
-    // The result of an operation on a pair that was done not long ago.
-    pub(crate) fn recall(&mut self, operator: Operator, pair: Pair) -> Option<u32>
+    // The result of an operation on a pair that was done not long ago. It isn't looked for where this
+    // operation has done as many pairs as are kept.
+    pub(crate) fn recall(&mut self, operator: Operator, pair: Pair, done: usize) -> Option<u32>
         ensures answer { IfSome result (IsAnswer self.old.nodes operator pair) }
         ensures unchanged { self.new ≡ self.old }
     {
+        if done >= MOST {
+            return None;
+        }
         self.recent.find(Question { operator, pair })
     }
 
-    // Keeps the result of an operation on a pair, for when it comes again.
-    pub(crate) fn remember(&mut self, operator: Operator, pair: Pair, place: u32)
+    // Keeps the result of an operation on a pair, for when it comes again: where some pairs had to be
+    // done for it, since it was begun, and this operation has done fewer than are kept.
+    pub(crate) fn remember(
+        &mut self,
+        operator: Operator,
+        pair: Pair,
+        place: u32,
+        begun: usize,
+        done: usize,
+    )
         requires { IsAnswer self.old.nodes operator pair place }
         ensures { self.new ≡ self.old }
     {
-        self.recent.note(Question { operator, pair }, place);
+        if done < MOST && done.saturating_sub(begun) >= LEAST {
+            self.recent.note(Question { operator, pair }, place);
+        }
     }
 
     // Does nothing; a proof learns here that the nodes are ordered and reduced.

@@ -16,11 +16,11 @@ underway : (c : In-Done) → IsUnderway c.args.operator (joint c.args.operator c
 underway c = subst (λ f. IsUnderway c.args.operator (joint c.args.operator c.args.self.now.nodes c.args.pair) c.args.self.now c.combine.self c.combine.frames.items f (get pair_eq c.combine.done)) c.in-Done.is c.combine.invariant
 
 -- the frames, where one that waits for a low side is taken
-low_taken : (c : In-Some-Low) → c.combine.frames.items ≡ c.pop.new.self.items ++ Low c.in-Some-Low.pair c.in-Some-Low.variable c.in-Some-Low.high ∷ []
+low_taken : (c : In-Some-Low) → c.combine.frames.items ≡ c.pop.new.self.items ++ Low c.in-Some-Low.pair c.in-Some-Low.variable c.in-Some-Low.high c.in-Some-Low.begun ∷ []
 low_taken c = c.in-Some-Low.ensures.items ∙ ap (λ (x : Frame). c.pop.new.self.items ++ x ∷ []) c.in-Some-Low.field-0-is
 
 -- the frames, where one that waits for a high side is taken
-high_taken : (c : In-Some-High) → c.combine.frames.items ≡ c.pop.new.self.items ++ High c.in-Some-High.pair c.in-Some-High.variable c.in-Some-High.low ∷ []
+high_taken : (c : In-Some-High) → c.combine.frames.items ≡ c.pop.new.self.items ++ High c.in-Some-High.pair c.in-Some-High.variable c.in-Some-High.low c.in-Some-High.begun ∷ []
 high_taken c = c.in-Some-High.ensures.items ∙ ap (λ (x : Frame). c.pop.new.self.items ++ x ∷ []) c.in-Some-High.field-0-is
 
 pub combine-init : goal.combine-init
@@ -36,29 +36,29 @@ returns-in-None-clause-means c =
 pub make-requires-clause-low_older : goal.make-requires-clause-low_older
 make-requires-clause-low_older c =
     let at = goal.at.make-requires-clause-low_older c in
-    low_belongs c.args.operator (joint c.args.operator c.args.self.now.nodes c.args.pair) c.args.self.now c.combine.self (get pair_eq c.combine.done) c.pop.new.self.items c.combine.frames.items c.in-Some-High.pair c.in-Some-High.variable c.in-Some-High.low c.in-Done.place (high_taken at.In-Some-High) (underway at.In-Done)
+    low_belongs c.args.operator (joint c.args.operator c.args.self.now.nodes c.args.pair) c.args.self.now c.combine.self (get pair_eq c.combine.done) c.pop.new.self.items c.combine.frames.items c.in-Some-High.pair c.in-Some-High.variable c.in-Some-High.low c.in-Some-High.begun c.in-Done.place (high_taken at.In-Some-High) (underway at.In-Done)
 
 pub make-requires-clause-low_later : goal.make-requires-clause-low_later
 make-requires-clause-low_later c =
     let at = goal.at.make-requires-clause-low_later c in
-    low_later c.args.operator (joint c.args.operator c.args.self.now.nodes c.args.pair) c.args.self.now c.combine.self (get pair_eq c.combine.done) c.pop.new.self.items c.combine.frames.items c.in-Some-High.pair c.in-Some-High.variable c.in-Some-High.low c.in-Done.place (high_taken at.In-Some-High) (underway at.In-Done)
+    low_later c.args.operator (joint c.args.operator c.args.self.now.nodes c.args.pair) c.args.self.now c.combine.self (get pair_eq c.combine.done) c.pop.new.self.items c.combine.frames.items c.in-Some-High.pair c.in-Some-High.variable c.in-Some-High.low c.in-Some-High.begun c.in-Done.place (high_taken at.In-Some-High) (underway at.In-Done)
 
 pub make-requires-clause-high_later : goal.make-requires-clause-high_later
 make-requires-clause-high_later c =
     let at = goal.at.make-requires-clause-high_later c in
-    high_later c.args.operator (joint c.args.operator c.args.self.now.nodes c.args.pair) c.args.self.now c.combine.self (get pair_eq c.combine.done) c.pop.new.self.items c.combine.frames.items c.in-Some-High.pair c.in-Some-High.variable c.in-Some-High.low c.in-Done.place (high_taken at.In-Some-High) (underway at.In-Done)
+    high_later c.args.operator (joint c.args.operator c.args.self.now.nodes c.args.pair) c.args.self.now c.combine.self (get pair_eq c.combine.done) c.pop.new.self.items c.combine.frames.items c.in-Some-High.pair c.in-Some-High.variable c.in-Some-High.low c.in-Some-High.begun c.in-Done.place (high_taken at.In-Some-High) (underway at.In-Done)
 
 pub returns-in-Err-clause-full : goal.returns-in-Err-clause-full
 returns-in-Err-clause-full c = λ full.
     let at = goal.at.returns-in-Err-clause-full c in
     let no_room = c.in-Err.ensures.full full in
-    crowded c.args.operator (joint c.args.operator c.args.self.now.nodes c.args.pair) c.args.self.now c.combine.self (get pair_eq c.combine.done) c.pop.new.self.items c.combine.frames.items c.in-Some-High.pair c.in-Some-High.variable c.in-Some-High.low c.in-Done.place (high_taken at.In-Some-High) (underway at.In-Done) no_room.0 no_room.1
+    crowded c.args.operator (joint c.args.operator c.args.self.now.nodes c.args.pair) c.args.self.now c.combine.self (get pair_eq c.combine.done) c.pop.new.self.items c.combine.frames.items c.in-Some-High.pair c.in-Some-High.variable c.in-Some-High.low c.in-Some-High.begun c.in-Done.place (high_taken at.In-Some-High) (underway at.In-Done) no_room.0 no_room.1
 
 pub returns-in_err-insert-in-Some-High-clause-adds :
     goal.returns-in_err-insert-in-Some-High-clause-adds
 returns-in_err-insert-in-Some-High-clause-adds c =
     let at = goal.at.returns-in_err-insert-in-Some-High-clause-adds c in
-    made_adds c.args.operator (joint c.args.operator c.args.self.now.nodes c.args.pair) c.args.self.now c.combine.self (get pair_eq c.combine.done) c.pop.new.self.items c.combine.frames.items c.in-Some-High.pair c.in-Some-High.variable c.in-Some-High.low c.in-Done.place (high_taken at.In-Some-High) (underway at.In-Done) c.make.new.self c.in-Ok.made c.in-Ok.ensures.made
+    made_adds c.args.operator (joint c.args.operator c.args.self.now.nodes c.args.pair) c.args.self.now c.combine.self (get pair_eq c.combine.done) c.pop.new.self.items c.combine.frames.items c.in-Some-High.pair c.in-Some-High.variable c.in-Some-High.low c.in-Some-High.begun c.in-Done.place (high_taken at.In-Some-High) (underway at.In-Done) c.make.new.self c.in-Ok.made c.in-Ok.ensures.made
 
 pub combine-smaller-in_ok-focus-in-Work : goal.combine-smaller-in_ok-focus-in-Work
 combine-smaller-in_ok-focus-in-Work c =
@@ -75,30 +75,30 @@ combine-preserved-in_ok-focus-in-Work c =
 pub combine-smaller-in_ok-push-in-Some-Low : goal.combine-smaller-in_ok-push-in-Some-Low
 combine-smaller-in_ok-push-in-Some-Low c =
     let at = goal.at.combine-smaller-in_ok-push-in-Some-Low c in
-    let step = turned c.args.operator (joint c.args.operator c.args.self.now.nodes c.args.pair) c.args.self.now c.combine.self (get pair_eq c.combine.done) c.pop.new.self.items c.combine.frames.items c.in-Some-Low.pair c.in-Some-Low.variable c.in-Some-Low.high c.in-Done.place (low_taken at.In-Some-Low) (underway at.In-Done) in
+    let step = turned c.args.operator (joint c.args.operator c.args.self.now.nodes c.args.pair) c.args.self.now c.combine.self (get pair_eq c.combine.done) c.pop.new.self.items c.combine.frames.items c.in-Some-Low.pair c.in-Some-Low.variable c.in-Some-Low.high c.in-Some-Low.begun c.in-Done.place (low_taken at.In-Some-Low) (underway at.In-Done) in
     subst (λ f. work_left c.push.new.self.items (Work c.in-Some-Low.high) < work_left c.combine.frames.items f) (sym c.in-Done.is)
     (subst (λ fs. work_left fs (Work c.in-Some-Low.high) < work_left c.combine.frames.items (Done c.in-Done.place)) (sym c.in_ok-push-in-Some-Low.ensures.items) step.1)
 
 pub combine-preserved-in_ok-push-in-Some-Low : goal.combine-preserved-in_ok-push-in-Some-Low
 combine-preserved-in_ok-push-in-Some-Low c =
     let at = goal.at.combine-preserved-in_ok-push-in-Some-Low c in
-    let step = turned c.args.operator (joint c.args.operator c.args.self.now.nodes c.args.pair) c.args.self.now c.combine.self (get pair_eq c.combine.done) c.pop.new.self.items c.combine.frames.items c.in-Some-Low.pair c.in-Some-Low.variable c.in-Some-Low.high c.in-Done.place (low_taken at.In-Some-Low) (underway at.In-Done) in
+    let step = turned c.args.operator (joint c.args.operator c.args.self.now.nodes c.args.pair) c.args.self.now c.combine.self (get pair_eq c.combine.done) c.pop.new.self.items c.combine.frames.items c.in-Some-Low.pair c.in-Some-Low.variable c.in-Some-Low.high c.in-Some-Low.begun c.in-Done.place (low_taken at.In-Some-Low) (underway at.In-Done) in
     subst (λ fs. IsUnderway c.args.operator (joint c.args.operator c.args.self.now.nodes c.args.pair) c.args.self.now c.combine.self fs (Work c.in-Some-Low.high) (get pair_eq c.combine.done)) (sym c.in_ok-push-in-Some-Low.ensures.items) step.0
 
 -- the step that finishes a pair
 pub combine-smaller : goal.combine-smaller
 combine-smaller c =
     let at = goal.at.combine-smaller c in
-    let step = finished c.args.operator (joint c.args.operator c.args.self.now.nodes c.args.pair) c.args.self.now c.combine.self (get pair_eq c.combine.done) c.pop.new.self.items c.combine.frames.items c.in-Some-High.pair c.in-Some-High.variable c.in-Some-High.low c.in-Done.place (high_taken at.In-Some-High) (underway at.In-Done) c.make.new.self c.in-Ok.made c.in-Ok.ensures.made (get pair_eq c.insert.new.self) c.in_ok-insert-in-Some-High.ensures.updates.0 (pair_same c.in-Some-High.pair) in
+    let step = finished c.args.operator (joint c.args.operator c.args.self.now.nodes c.args.pair) c.args.self.now c.combine.self (get pair_eq c.combine.done) c.pop.new.self.items c.combine.frames.items c.in-Some-High.pair c.in-Some-High.variable c.in-Some-High.low c.in-Some-High.begun c.in-Done.place (high_taken at.In-Some-High) (underway at.In-Done) c.make.new.self c.in-Ok.made c.in-Ok.ensures.made (get pair_eq c.insert.new.self) c.in_ok-insert-in-Some-High.ensures.updates.0 (pair_same c.in-Some-High.pair) in
     subst (λ f. work_left c.pop.new.self.items (Done c.in-Ok.made) < work_left c.combine.frames.items f) (sym c.in-Done.is) step.1
 
 pub combine-preserved : goal.combine-preserved
 combine-preserved c =
     let at = goal.at.combine-preserved c in
     subst (λ (d : Diagrams). IsUnderway c.args.operator (joint c.args.operator c.args.self.now.nodes c.args.pair) c.args.self.now d c.pop.new.self.items (Done c.in-Ok.made) (get pair_eq c.insert.new.self)) (sym c.remember.ensures)
-    (finished c.args.operator (joint c.args.operator c.args.self.now.nodes c.args.pair) c.args.self.now c.combine.self (get pair_eq c.combine.done) c.pop.new.self.items c.combine.frames.items c.in-Some-High.pair c.in-Some-High.variable c.in-Some-High.low c.in-Done.place (high_taken at.In-Some-High) (underway at.In-Done) c.make.new.self c.in-Ok.made c.in-Ok.ensures.made (get pair_eq c.insert.new.self) c.in_ok-insert-in-Some-High.ensures.updates.0 (pair_same c.in-Some-High.pair)).0
+    (finished c.args.operator (joint c.args.operator c.args.self.now.nodes c.args.pair) c.args.self.now c.combine.self (get pair_eq c.combine.done) c.pop.new.self.items c.combine.frames.items c.in-Some-High.pair c.in-Some-High.variable c.in-Some-High.low c.in-Some-High.begun c.in-Done.place (high_taken at.In-Some-High) (underway at.In-Done) c.make.new.self c.in-Ok.made c.in-Ok.ensures.made (get pair_eq c.insert.new.self) c.in_ok-insert-in-Some-High.ensures.updates.0 (pair_same c.in-Some-High.pair)).0
 
 pub remember-requires : goal.remember-requires
 remember-requires c =
     let at = goal.at.remember-requires c in
-    made_answer c.args.operator (joint c.args.operator c.args.self.now.nodes c.args.pair) c.args.self.now c.combine.self (get pair_eq c.combine.done) c.pop.new.self.items c.combine.frames.items c.in-Some-High.pair c.in-Some-High.variable c.in-Some-High.low c.in-Done.place (high_taken at.In-Some-High) (underway at.In-Done) c.make.new.self c.in-Ok.made c.in-Ok.ensures.made
+    made_answer c.args.operator (joint c.args.operator c.args.self.now.nodes c.args.pair) c.args.self.now c.combine.self (get pair_eq c.combine.done) c.pop.new.self.items c.combine.frames.items c.in-Some-High.pair c.in-Some-High.variable c.in-Some-High.low c.in-Some-High.begun c.in-Done.place (high_taken at.In-Some-High) (underway at.In-Done) c.make.new.self c.in-Ok.made c.in-Ok.ensures.made
