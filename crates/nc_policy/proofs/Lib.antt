@@ -5,3 +5,4 @@ pub mod Verdicts
 pub mod Spots
 pub mod Naming
 pub mod Tables
+pub mod SpotOrder

@@ -1,54 +1,76 @@
 -- The first entries of a list by prefix and length, and the lowest place of several.
-use Rattle.std.proofs.Common.{◌≡◌, ℕ, ◌+◌, ◌-◌, ◌*◌, ◌/◌, ◌<◌, ◌≤◌, Bool, true, false, cond, ◌&&◌, ◌||◌, List, [], ◌∷◌, length, map, set, get_or, All, Option, Some, None, refl, sym, ap, subst, ◌∙◌, arith, inl, inr}
+use Rattle.std.proofs.Common.{◌≡◌, ℕ, ◌+◌, ◌-◌, ◌*◌, ◌/◌, ◌<◌, ◌≤◌, Bool, true, false, cond, ◌&&◌, ◌||◌, List, [], ◌∷◌, ◌++◌, length, map, set, drop, get_or, All, Option, Some, None, refl, sym, ap, subst, ◌∙◌, arith, inl, inr}
 use Rattle.std.specs.Prelude.{nat_eq, nat_le, nat_lt, ◌==◌, position}
 use Rattle.std.specs.List.{position_from}
 use Rattle.std.specs.Map.{lookup}
+use Rattle.std.specs.Option.{option_or}
 use Rattle.std.proofs.Math.Nat.{mul-div_cancel}
 use Rattle.std.proofs.lemmas.Bool.{cases_eq, cases_lt, eqb-true, eq-eqb}
 use Rattle.std.proofs.lemmas.Bool.Decides.{nat_tests}
 use Rattle.std.proofs.lemmas.Iterator.Adapters.{position_from-zero}
 use Rattle.std.proofs.lemmas.List.Elements.{All-head, All-tail}
-use Rattle.std.proofs.lemmas.List.{get_or_default, get_or-set_same, get_or-set_other}
+use Rattle.std.proofs.lemmas.List.{drop_all, get_or_default, get_or-set_same, get_or-set_other}
 use Rattle.std.proofs.lemmas.Nat.{pow_pos}
 use Rattle.nc_types.specs.Cidr.{Cidr, IsCidr, same_prefix}
 use Rattle.nc_types.specs.Masks.{size_of, network_of}
 use Rattle.nc_types.specs.declared.config.ListEntry.{ListEntry}
+use Rattle.nc_types.proofs.Options.{or_none, or_assoc}
 use Rattle.nc_types.proofs.Truth.{same_truth, or_false}
+use Rattle.nc_types.proofs.Walks.{drop_read}
 use Rattle.nc_tables.specs.Base.{covers}
 use Rattle.nc_tables.specs.Policy.{is_of}
-use Rattle.nc_policy.specs.declared.index.Spot.{Spot}
+use Rattle.nc_policy.specs.declared.spot_table.Placed.{Placed}
 use Rattle.nc_policy.specs.Indexes.{is_at, is_shorter, lower_of, HasCidr, HasLength}
-use Rattle.nc_policy.specs.Seen.{same_spot, spot_at, spot_view}
+use Rattle.nc_policy.specs.Placing.{same_spot}
+use Rattle.nc_policy.specs.Seen.{spot_at, spot_in, spot_view}
 
--- ---- an entry put to its prefix and its lengths
+-- ---- an entry added by its prefix and its lengths
+
+-- what is found among items and one more
+pub spot_pushed : (items : List Placed) (x : Placed) (q : Cidr) (n : ℕ) → spot_in (items ++ x ∷ []) q n ≡ option_or (spot_in items q n) (cond (same_spot (spot_at q n) x.spot) (Some x.place) None)
+spot_pushed [] x q n = refl
+spot_pushed (y ∷ ys) x q n = on (same_spot (spot_at q n) y.spot) (spot_pushed ys x q n)
+  where
+    on : (b : Bool) → spot_in (ys ++ x ∷ []) q n ≡ option_or (spot_in ys q n) (cond (same_spot (spot_at q n) x.spot) (Some x.place) None)
+        → cond b (Some y.place) (spot_in (ys ++ x ∷ []) q n) ≡ option_or (cond b (Some y.place) (spot_in ys q n)) (cond (same_spot (spot_at q n) x.spot) (Some x.place) None)
+    on true rest = refl
+    on false rest = rest
 
 -- one length of an entry that is of it
-pub spot_put : (base same : Bool) (low high len n place : ℕ) (old : Option ℕ) → low ≤ len → len ≤ high
-    → cond (base && (same && nat_eq len n)) (Some place) old ≡ cond ((n == len) && ((base && same) && (nat_le low n && nat_le n high))) (Some place) old
-spot_put true true low high len n place old least most = grind (arith, nat_tests)
-spot_put true false low high len n place old least most = grind (arith, nat_tests)
-spot_put false same low high len n place old least most = grind (arith, nat_tests)
+pub spot_put : (base same : Bool) (low high len n place : ℕ) → low ≤ len → len ≤ high
+    → cond (base && (same && nat_eq len n)) (Some place) None ≡ cond ((n == len) && ((base && same) && (nat_le low n && nat_le n high))) (Some place) None
+spot_put true true low high len n place least most = grind (arith, nat_tests)
+spot_put true false low high len n place least most = grind (arith, nat_tests)
+spot_put false same low high len n place least most = grind (arith, nat_tests)
 
--- no length is put yet
-pub no_lengths : (same : Bool) (low high n place : ℕ) (old : Option ℕ) → old ≡ cond (nat_lt n low && (same && (nat_le low n && nat_le n high))) (Some place) old
-no_lengths true low high n place old = grind (arith, nat_tests)
-no_lengths false low high n place old = grind (arith, nat_tests)
+-- no length is added yet
+pub no_lengths : (same : Bool) (low high n place : ℕ) (old : Option ℕ) → old ≡ option_or old (cond (nat_lt n low && (same && (nat_le low n && nat_le n high))) (Some place) None)
+no_lengths same low high n place old = sym (ap (option_or old) (none same) ∙ or_none old)
+  where
+    none : (s : Bool) → cond (nat_lt n low && (s && (nat_le low n && nat_le n high))) (Some place) None ≡ None
+    none true = grind (arith, nat_tests)
+    none false = grind (arith, nat_tests)
 
 -- one length more
 pub more_lengths : (at : Bool) (len n place : ℕ) (old : Option ℕ)
-    → cond ((n == len) && at) (Some place) (cond (nat_lt n len && at) (Some place) old) ≡ cond (nat_lt n (len + 1) && at) (Some place) old
-more_lengths true len n place old = grind (arith, nat_tests)
-more_lengths false len n place old = grind (arith, nat_tests)
-
--- all lengths are put
-pub all_lengths : (same : Bool) (low high len n place : ℕ) (old : Option ℕ) → (n ≤ high → n < len)
-    → cond (nat_lt n len && (same && (nat_le low n && nat_le n high))) (Some place) old ≡ cond (same && (nat_le low n && nat_le n high)) (Some place) old
-all_lengths same low high len n place old within = elim (cases_lt high n) [
-  | inr most ↦ let lt : n < len = within most in let yes : nat_lt n len ≡ true = grind (arith, nat_tests) in ap (λ (b : Bool). cond (b && (same && (nat_le low n && nat_le n high))) (Some place) old) yes
-  | inl over ↦ let no : nat_le n high ≡ false = grind (arith, nat_tests) in on same (nat_lt n len) (nat_le low n) (nat_le n high) no
-]
+    → option_or (option_or old (cond (nat_lt n len && at) (Some place) None)) (cond ((n == len) && at) (Some place) None) ≡ option_or old (cond (nat_lt n (len + 1) && at) (Some place) None)
+more_lengths at len n place old =
+    or_assoc old (cond (nat_lt n len && at) (Some place) None) (cond ((n == len) && at) (Some place) None)
+    ∙ ap (option_or old) (one at)
   where
-    on : (s l w h : Bool) → h ≡ false → cond (l && (s && (w && h))) (Some place) old ≡ cond (s && (w && h)) (Some place) old
+    one : (b : Bool) → option_or (cond (nat_lt n len && b) (Some place) None) (cond ((n == len) && b) (Some place) None) ≡ cond (nat_lt n (len + 1) && b) (Some place) None
+    one true = grind (arith, nat_tests)
+    one false = grind (arith, nat_tests)
+
+-- all lengths are added
+pub all_lengths : (same : Bool) (low high len n place : ℕ) (old : Option ℕ) → (n ≤ high → n < len)
+    → option_or old (cond (nat_lt n len && (same && (nat_le low n && nat_le n high))) (Some place) None) ≡ option_or old (cond (same && (nat_le low n && nat_le n high)) (Some place) None)
+all_lengths same low high len n place old within = ap (option_or old) (elim (cases_lt high n) [
+  | inr most ↦ let lt : n < len = within most in let yes : nat_lt n len ≡ true = grind (arith, nat_tests) in ap (λ (b : Bool). cond (b && (same && (nat_le low n && nat_le n high))) (Some place) None) yes
+  | inl over ↦ let no : nat_le n high ≡ false = grind (arith, nat_tests) in on same (nat_lt n len) (nat_le low n) (nat_le n high) no
+])
+  where
+    on : (s l w h : Bool) → h ≡ false → cond (l && (s && (w && h))) (Some place) None ≡ cond (s && (w && h)) (Some place) None
     on s l w true e = absurd (cc)
     on true true true false e = refl
     on true true false false e = refl
@@ -57,16 +79,36 @@ all_lengths same low high len n place old within = elim (cases_lt high n) [
     on false true w false e = refl
     on false false w false e = refl
 
+-- ---- entries added one after the other
+
+-- the first that is found so far, or else among those that are left
+pub one_entry_more : (q : Cidr) (n : ℕ) (entries : List ListEntry) (place : ℕ) (entry : ListEntry) (found : Option ℕ) → entry ≡ get_or entries place entry → place < length entries
+    → option_or (option_or found (cond (is_at q n entry) (Some place) None)) (position_from (is_at q n) (place + 1) (drop (place + 1) entries))
+    ≡ option_or found (position_from (is_at q n) place (drop place entries))
+one_entry_more q n entries place entry found read inside =
+    let later = position_from (is_at q n) (place + 1) (drop (place + 1) entries) in
+    or_assoc found (cond (is_at q n entry) (Some place) None) later
+    ∙ ap (option_or found) (on (is_at q n entry) later ∙ sym (ap (position_from (is_at q n) place) (drop_read entries place entry read inside)))
+  where
+    on : (b : Bool) (later : Option ℕ) → option_or (cond b (Some place) None) later ≡ cond b (Some place) later
+    on true later = refl
+    on false later = refl
+
+-- none is left
+pub all_entries : (q : Cidr) (n : ℕ) (entries : List ListEntry) (place : ℕ) (found : Option ℕ) → length entries ≤ place
+    → option_or found (position_from (is_at q n) place (drop place entries)) ≡ found
+all_entries q n entries place found most = ap (λ (es : List ListEntry). option_or found (position_from (is_at q n) place es)) (drop_all place entries most) ∙ or_none found
+
 -- ---- keys
 
--- what is found among the keys that are kept
-pub spot_seen : (es : List (Spot × ℕ)) (q : Cidr) (n : ℕ)
-    → lookup (λ (k : Cidr × ℕ). same_prefix q k.0 && nat_eq n k.1) (map (λ (e : Spot × ℕ). (spot_view e.0, e.1)) es) ≡ lookup (same_spot (spot_at q n)) es
+-- what is found among the items that are kept
+pub spot_seen : (items : List Placed) (q : Cidr) (n : ℕ)
+    → lookup (λ (k : Cidr × ℕ). same_prefix q k.0 && nat_eq n k.1) (map (λ (x : Placed). (spot_view x.spot, x.place)) items) ≡ spot_in items q n
 spot_seen [] q n = refl
-spot_seen (e ∷ es) q n =
-    ap (λ (b : Bool). cond b (Some e.1) (lookup (λ (k : Cidr × ℕ). same_prefix q k.0 && nat_eq n k.1) (map (λ (e : Spot × ℕ). (spot_view e.0, e.1)) es)))
-    (together (nat_eq q.base e.0.addr.0) (nat_eq q.len e.0.prefix_len) (nat_eq n e.0.len))
-    ∙ ap (cond (same_spot (spot_at q n) e.0) (Some e.1)) (spot_seen es q n)
+spot_seen (x ∷ xs) q n =
+    ap (λ (b : Bool). cond b (Some x.place) (lookup (λ (k : Cidr × ℕ). same_prefix q k.0 && nat_eq n k.1) (map (λ (x : Placed). (spot_view x.spot, x.place)) xs)))
+    (together (nat_eq q.base x.spot.addr.0) (nat_eq q.len x.spot.prefix_len) (nat_eq n x.spot.len))
+    ∙ ap (cond (same_spot (spot_at q n) x.spot) (Some x.place)) (spot_seen xs q n)
   where
     together : (a b c : Bool) → ((a && b) && c) ≡ (a && (b && c))
     together true b c = refl

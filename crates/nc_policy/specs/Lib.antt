@@ -3,3 +3,4 @@ pub mod Indexes
 pub mod Seen
 pub mod Passing
 pub mod Statements
+pub mod Placing

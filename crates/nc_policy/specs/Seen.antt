@@ -1,14 +1,16 @@
 -- What the code keeps as tables.
-use Rattle.std.specs.Prelude.{ℕ, Bool, ◌&&◌, nat_eq, List, map, Option}
+use Rattle.std.specs.Prelude.{ℕ, List, map, Option}
 use Rattle.std.specs.Global.{Vec}
-use Rattle.std.specs.HashMap.{HashMap, get, get_by}
+use Rattle.std.specs.HashMap.{HashMap, get_by}
 use Rattle.std.specs.Str.{bytes_eq}
 use Rattle.nc_types.specs.Cidr.{Cidr}
 use Rattle.nc_types.specs.Config.{ConfigView}
 use Rattle.nc_types.specs.declared.config.ListEntry.{ListEntry}
 use Rattle.nc_policy.specs.Indexes.{EntryTable, NameTable, RouterTables, IsEntryTable, IsNameTable, IsPrefixTable, AreTablesOf}
 use Rattle.nc_policy.specs.declared.statements.PrefixIndex.{PrefixIndex}
-use Rattle.nc_policy.specs.declared.index.Spot.{Spot}
+use Rattle.nc_policy.specs.Placing.{place_at}
+use Rattle.nc_policy.specs.declared.spot_table.Spot.{Spot}
+use Rattle.nc_policy.specs.declared.spot_table.Placed.{Placed}
 use Rattle.nc_policy.specs.declared.index.ListIndex.{ListIndex}
 use Rattle.nc_policy.specs.declared.names.NameIndex.{NameIndex}
 use Rattle.nc_policy.specs.declared.router_index.RouterIndex.{RouterIndex}
@@ -22,16 +24,12 @@ spot_at q n = record { addr = record { 0 = q.base }; prefix_len = q.len; len = n
 abbrev pub spot_view : Spot → Cidr × ℕ
 spot_view s = (record { base = s.addr.0; len = s.prefix_len }, s.len)
 
--- two keys are the same
-abbrev pub same_spot : Spot → Spot → Bool
-same_spot s t = nat_eq s.addr.0 t.addr.0 && (nat_eq s.prefix_len t.prefix_len && nat_eq s.len t.len)
-
--- what is kept for a prefix of entries and a length
-abbrev pub spot_in : {S : Type 0} → HashMap Spot ℕ S → Cidr → ℕ → Option ℕ
-spot_in first q n = get same_spot first (spot_at q n)
+-- the place that items have first for a prefix of entries and a length
+abbrev pub spot_in : List Placed → Cidr → ℕ → Option ℕ
+spot_in items q n = place_at (spot_at q n) items
 
 abbrev pub entry_table : ListIndex → EntryTable
-entry_table x = record { places = map (λ e. (spot_view e.0, e.1)) x.first.entries; lengths = x.lengths }
+entry_table x = record { places = map (λ e. (spot_view e.spot, e.place)) x.first; lengths = x.lengths }
 
 abbrev pub IsIndexOf : List ListEntry → ListIndex → Type 0
 IsIndexOf entries index = IsEntryTable entries (entry_table index)

@@ -3,7 +3,8 @@
 //! an entry that it has there is that of the entry which decides.
 
 ghost use Rattle.std.specs.Prelude.{◌≡◌, ◌<◌, ◌≤◌, ◌==◌, ◌&&◌, ℕ, All, List, Some};
-ghost use Rattle.std.specs.Prelude.{if◌then◌else◌, position, IfOk, OnOk};
+ghost use Rattle.std.specs.Prelude.{if◌then◌else◌, position, IfOk, None, OnOk};
+ghost use Rattle.std.specs.Option.{option_or};
 ghost use Rattle.nc_types.specs.Cidr.{Cidr, IsCidr};
 ghost use Rattle.nc_types.specs.Masks.{network_of};
 ghost use Rattle.nc_types.specs.declared.config.ListEntry.{ListEntry};
@@ -11,23 +12,15 @@ ghost use Rattle.nc_tables.specs.Policy.{deciding_entry, is_of};
 ghost use Rattle.nc_policy.specs.Indexes.{is_at, lower_of, HasCidr, HasLength};
 ghost use Rattle.nc_policy.specs.Seen.{spot_at, spot_in, IsIndexOf};
 
-use nc_types::{Addr, ListEntry, Prefix};
+use crate::spot_table::{Placed, Spot, SpotTable};
+use nc_types::{ListEntry, Prefix};
 use std::alloc::{AllocError, Global};
-use std::collections::HashMap;
-
-/// The prefix of entries, and the length of a route's prefix.
-#[derive(Clone, Copy, Debug, PartialEq, Eq, Hash)]
-pub(crate) struct Spot {
-    pub(crate) addr: Addr,
-    pub(crate) prefix_len: u8,
-    pub(crate) len: u8,
-}
 
 /// A table of the entries of a prefix list.
 #[derive(Drop)]
 pub(crate) struct ListIndex {
     /// The place of the first entry that has a prefix and is of a length.
-    pub(crate) first: HashMap<Spot, usize>,
+    pub(crate) first: SpotTable,
     /// Whether a prefix of an entry has a length, 0 to 32.
     pub(crate) lengths: [bool; 33],
 }
@@ -55,18 +48,15 @@ fn spot_of(prefix: Prefix, len: u8) -> Spot
     }
 }
 
-// Puts the place of an entry to its prefix and a length, if the entry is of that length.
-fn put_at(
-    first: &mut HashMap<Spot, usize>,
-    entry: &ListEntry,
-    place: usize,
-    len: u8,
-) -> Result<(), AllocError>
-    ensures { OnOk result ((q : Cidr) (n : ℕ) → spot_in first.new q n
-        ≡ (if (n == len) && is_at q n entry.now then Some place else spot_in first.old q n)) }
+// Adds the place of an entry by its prefix and a length, if the entry is of that length.
+fn put_at(items: &mut Vec<Placed>, entry: &ListEntry, place: u32, len: u8) -> Result<(), AllocError>
+    ensures { OnOk result ((q : Cidr) (n : ℕ) → spot_in items.new.items q n
+        ≡ option_or (spot_in items.old.items q n)
+        (if (n == len) && is_at q n entry.now then Some place else None)) }
 {
     if entry.low <= len && len <= entry.high {
-        first.insert(spot_of(entry.prefix, len), place)?;
+        let spot = spot_of(entry.prefix, len);
+        items.push(Placed { spot, place })?;
     }
     Ok(())
 }
@@ -78,15 +68,39 @@ fn length_behind(entry: &ListEntry) -> u8
     if entry.high < 32 { entry.high + 1 } else { 33 }
 }
 
-// Puts the place of an entry to its prefix and each of its lengths.
-fn put(first: &mut HashMap<Spot, usize>, entry: &ListEntry, place: usize) -> Result<(), AllocError>
-    ensures { OnOk result ((q : Cidr) (n : ℕ) → n < 33 → spot_in first.new q n
-        ≡ (if is_at q n entry.now then Some place else spot_in first.old q n)) }
+// Adds the place of an entry by its prefix and each of its lengths.
+fn put(items: &mut Vec<Placed>, entry: &ListEntry, place: u32) -> Result<(), AllocError>
+    ensures { OnOk result ((q : Cidr) (n : ℕ) → n < 33 → spot_in items.new.items q n
+        ≡ option_or (spot_in items.old.items q n)
+        (if is_at q n entry.now then Some place else None)) }
 {
     'lengths: for len in entry.low..length_behind(entry) {
-        put_at(first, entry, place, len)?;
+        put_at(items, entry, place, len)?;
     }
     Ok(())
+}
+
+// The number of a place. Where it is none of 32 bits, it is refused as memory is.
+fn number(place: usize) -> Result<u32, AllocError>
+    ensures { IfOk result (λ number. number ≡ place) }
+{
+    match u32::try_from(place) {
+        Ok(number) => Ok(number),
+        Err(_) => Err(AllocError),
+    }
+}
+
+// The places of entries by their prefix and each of their lengths, from the first entry on.
+fn places_of(alloc: Global, entries: &[ListEntry]) -> Result<Vec<Placed>, AllocError>
+    ensures { IfOk result (λ items. (q : Cidr) (n : ℕ) → n < 33
+        → spot_in items.items q n ≡ position (is_at q n) entries.now) }
+{
+    let mut items = Vec::with_capacity(alloc, entries.len())?;
+    'entries: for (place, entry) in entries.iter().enumerate() {
+        let number = number(place)?;
+        put(&mut items, entry, number)?;
+    }
+    Ok(items)
 }
 
 // Which lengths the prefixes of entries have.
@@ -101,27 +115,14 @@ fn lengths_of(entries: &[ListEntry]) -> [bool; 33]
     lengths
 }
 
-// What is kept for a prefix of entries and a length.
-fn kept_at(first: &HashMap<Spot, usize>, prefix: Prefix, len: u8) -> Option<usize>
-    ensures { result ≡ spot_in first.now prefix len }
-{
-    first.get(&spot_of(prefix, len)).copied()
-}
-
 impl ListIndex {
-    /// The table of these entries, made from the last to the first, so that the first stays. It
-    /// takes no more memory than it needs.
+    /// The table of these entries. It takes no more memory than it needs.
     pub(crate) fn new(alloc: Global, entries: &[ListEntry]) -> Result<ListIndex, AllocError>
         ensures { IfOk result (IsIndexOf entries.now) }
     {
         let lengths = lengths_of(entries);
-        let mut first = HashMap::with_capacity(alloc, entries.len())?;
-        let mut place = entries.len();
-        'entries: while place > 0 {
-            place -= 1;
-            put(&mut first, &entries[place], place)?;
-        }
-        first.shrink_to_fit();
+        let items = places_of(alloc, entries)?;
+        let first = SpotTable::of(items)?;
         Ok(ListIndex { first, lengths })
     }
 
@@ -137,7 +138,7 @@ impl ListIndex {
             return None;
         }
         let around = Prefix::around(prefix.addr(), len);
-        kept_at(&self.first, around, prefix.len())
+        self.first.get(spot_of(around, prefix.len()))
     }
 
     /// The place of the entry that decides on a prefix. Takes no memory.

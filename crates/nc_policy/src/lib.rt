@@ -4,10 +4,10 @@
 //! asked, and a match carries the entries by which it came, so that no list is asked again.
 //! [`apply`] scans clauses and lists. [`Policies`] has tables of them, made once for a network: the
 //! clauses of a map are found one behind the other, a list by its name at one look-up, and the
-//! entry of a prefix list that decides at one for each length of its entries' prefixes, at most 33,
-//! however long the list is. [`pass`] tells the same
-//! without making the route, without a set of communities and without memory: which clause let it
-//! pass, and by which entries. The tables find the network and the aggregate of a prefix too.
+//! entry of a prefix list that decides at one binary search for each length of its entries'
+//! prefixes, at most 33. [`pass`] tells the same without making the route, without a set of
+//! communities and without memory: which clause let it pass, and by which entries. The tables find
+//! the network and the aggregate of a prefix too.
 //!
 //! The crate stands on `nc_types` for the configuration of a router, on `nc_tables` for routes and
 //! for the definition of what a map makes of one, and on `nc_community` for sets of communities.
@@ -23,6 +23,7 @@ mod policies;
 mod route_map;
 mod router_index;
 mod setting;
+mod spot_table;
 mod statements;
 
 pub use nc_tables::Place;

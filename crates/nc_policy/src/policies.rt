@@ -27,7 +27,7 @@ use std::marker::Model;
 /// The tables of the maps and lists of a network's routers, and of their networks and aggregates.
 /// They are made once, and by them the clauses of a map are found one behind the other, a list by
 /// its name and a network or an aggregate by its prefix at one look-up, and what a prefix list says
-/// of a prefix at one for each length that prefixes of its entries have.
+/// of a prefix at one binary search for each length that prefixes of its entries have.
 #[derive(Drop)]
 pub struct Policies {
     routers: Vec<RouterIndex>,
