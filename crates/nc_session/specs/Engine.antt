@@ -1,5 +1,5 @@
 -- What an engine has, how it answers a line, and how many facts it infers for it.
-use Rattle.std.specs.Prelude.{◌≡◌, ℕ, ◌-◌, nat_lt, List, [], ◌∷◌, ◌++◌, length, Option, Some, if◌then◌else◌}
+use Rattle.std.specs.Prelude.{◌≡◌, ℕ, ◌-◌, nat_lt, List, [], ◌∷◌, ◌++◌, length, All, Contains, Option, Some, if◌then◌else◌}
 use Rattle.nc_graph.specs.Flow.{raised}
 use Rattle.nc_graph.specs.Closure.{IsClosure, ReachesMoreThan}
 use Rattle.nc_tables.specs.State.{StateView}
@@ -12,17 +12,27 @@ use Rattle.nc_session.specs.declared.TheConstants.{TEST_LIMIT, FACT_LIMIT}
 use Rattle.nc_session.specs.declared.engine.Flow.{Flow}
 use Rattle.nc_session.specs.declared.engine.Flow.TheVariants.{Go, Stop}
 use Rattle.nc_session.specs.File.{LoadedView}
-use Rattle.nc_session.specs.Session.{KeptTest, State, no_tests, Step, asked_in, ends}
+use Rattle.nc_session.specs.Session.{KeptTest, State, no_tests, test_in, Step, asked_in, ends}
 
--- an engine that isn't spent: its network, what is kept of the session, and how many facts were inferred
+-- an engine that isn't spent: its network, what is kept of the session, how many facts were inferred, and of which of them it has
+-- diagrams
 pub record Progress : Type 0 where
   pub loaded : LoadedView
   pub session : State
   pub asked : ℕ
+  pub drawn : List Fact
 
--- an engine that begins: no test was accepted, and no fact was inferred
+-- an engine that begins: no test was accepted, no fact was inferred, and there is no diagram
 abbrev pub begin_at : LoadedView → Progress
-begin_at n = record { loaded = n; session = no_tests; asked = 0 }
+begin_at n = record { loaded = n; session = no_tests; asked = 0; drawn = [] }
+
+-- it has the diagrams of all facts of the test at a place
+abbrev pub IsDrawn : Progress → ℕ → Type 0
+IsDrawn p place = All (Contains p.drawn) (test_in p.session.tests place).facts
+
+-- it has those of both tests of each question that was answered
+abbrev pub HasDrawn : Progress → Type 0
+HasDrawn p = All (λ q. IsDrawn p q.0 × IsDrawn p q.1) p.session.pairs
 
 -- whether the session goes on behind a line
 abbrev pub flow_behind : Line → Flow

@@ -1,5 +1,5 @@
 -- What an engine works with, and what of a session it keeps.
-use Rattle.std.specs.Prelude.{◌≡◌, ℕ, ◌-◌, ◌≤◌, Bool, true, false, nat_lt, List, [], ◌++◌, length, map, All, if◌then◌else◌}
+use Rattle.std.specs.Prelude.{◌≡◌, ℕ, ◌-◌, ◌≤◌, Bool, true, false, nat_lt, List, [], ◌∷◌, ◌++◌, length, map, All, Option, Some, None, slice_get, if◌then◌else◌}
 use Rattle.std.specs.List.{flat_map}
 use Rattle.nc_types.specs.Network.{element_count, router_named}
 use Rattle.nc_types.specs.declared.command.TestCommand.{TestCommand}
@@ -8,6 +8,7 @@ use Rattle.nc_graph.specs.Flow.{raised}
 use Rattle.nc_graph.specs.Closure.{IsClosure, ReachesMoreThan}
 use Rattle.nc_graph.specs.Nodes.{Nodes, Mirrors, AreNodesOf, node_flow}
 use Rattle.nc_marks.specs.Kept.{Kept, AreKept}
+use Rattle.nc_formula.specs.Formulas.{IsKnown}
 use Rattle.nc_formula.specs.Session.{AreDrawn}
 use Rattle.nc_tables.specs.State.{StateView, IsState}
 use Rattle.nc_fact.specs.declared.fact.Fact.{Fact}
@@ -44,9 +45,17 @@ nodes_in tests = flat_map (λ t. if t.live then t.nodes.items else []) tests
 abbrev pub loaded_of : List FileView → Work → LoadedView
 loaded_of files w = record { state = state_of w.rules; files = files; listed = w.listed }
 
+-- the facts of which a formula is known, by their nodes
+unfoldable pub drawn_in : List Fact → List (Option ℕ) → List Fact
+drawn_in [] formulas = []
+drawn_in (f ∷ facts) [] = []
+drawn_in (f ∷ facts) (None ∷ formulas) = drawn_in facts formulas
+drawn_in (f ∷ facts) (Some r ∷ formulas) = f ∷ drawn_in facts formulas
+
 -- what an engine of these files has with it
 abbrev pub progress_of : List FileView → Work → Progress
-progress_of files w = record { loaded = loaded_of files w; session = kept_of w; asked = asked_of w.rules }
+progress_of files w =
+    record { loaded = loaded_of files w; session = kept_of w; asked = asked_of w.rules; drawn = drawn_in w.graph.facts w.formulas }
 
 -- the graph is the closure of the facts of all tests, as the rules have them, and the marks are those of the live ones' nodes
 pub record IsMarked (s : StateView) (tests : List KeptTest) (graph : Nodes Fact) (marks : Kept) : Type 0 where
@@ -61,11 +70,22 @@ pub record IsMarked (s : StateView) (tests : List KeptTest) (graph : Nodes Fact)
 abbrev pub HaveNodes : Nodes Fact → List Made → Type 0
 HaveNodes graph tests = All (λ t. AreNodesOf graph t.nodes.items t.facts.items) tests
 
+-- there is a test at the place, and the formulas of all its nodes are known
+pub record IsDrawnAt (formulas : List (Option ℕ)) (tests : List Made) (place : ℕ) : Type 0 where
+  pub test : Made
+  pub at : slice_get tests place ≡ Some test
+  pub known : All (λ p. IsKnown formulas p.0) test.nodes.items
+
+-- those of both tests of a question are
+abbrev pub IsDrawnFor : List (Option ℕ) → List Made → ℕ × ℕ → Type 0
+IsDrawnFor formulas tests q = IsDrawnAt formulas tests q.0 × IsDrawnAt formulas tests q.1
+
 pub record IsWork (w : Work) : Type 0 where
   pub state : IsState (state_of w.rules)
   pub marked : IsMarked (state_of w.rules) (tests_of w) w.graph w.marks
   pub nodes : HaveNodes w.graph w.tests.items
   pub drawn : AreDrawn (flow_of (state_of w.rules)) (posed_in (kept_of w)) w.graph w.store w.formulas
+  pub answered : All (IsDrawnFor w.formulas w.tests.items) w.pairs.items
   pub room : w.store.limit ≡ DIAGRAM_LIMIT
   pub shown : w.shown ≡ sheets_from (state_of w.rules).routers w.marks.marks 0 (state_of w.rules).routers
   pub few : length w.tests.items ≤ TEST_LIMIT

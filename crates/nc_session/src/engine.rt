@@ -1,10 +1,11 @@
 //! The engine: the state of a network, and the answers to the lines of a session.
 
 ghost use Rattle.std.specs.Prelude.{◌≡◌, ◌++◌, None, Some, map, IfOk, OnOk, OnErr};
+ghost use Rattle.std.specs.Option.{ForSome};
 ghost use Rattle.nc_command.specs.Command.{command_of};
 ghost use Rattle.nc_report.specs.Views.{file_view};
 ghost use Rattle.nc_session.specs.File.{AreFilesOf};
-ghost use Rattle.nc_session.specs.Engine.{Turns, begin_at, flow_behind};
+ghost use Rattle.nc_session.specs.Engine.{HasDrawn, Turns, begin_at, flow_behind};
 
 use crate::work::Work;
 use nc_report::LoadedFile;
@@ -105,6 +106,9 @@ impl Engine {
     ) -> Result<Flow, AllocError>
         ensures turns { OnOk result (Turns self.old self.new line.now out.old.items out.new.items) }
         ensures flow { IfOk result (λ flow. flow ≡ flow_behind (command_of line.now)) }
+
+        // It has the diagrams of both tests of each question that was answered.
+        ensures drawn { OnOk result (ForSome self.new HasDrawn) }
         ensures spent { OnErr result ((self.new ≡ None) × (out.new.items ≡ out.old.items)) }
     {
         let Some(mut work) = self.work.take() else {

@@ -9,7 +9,7 @@ ghost use Rattle.nc_rules.specs.Rules.{flow_of};
 ghost use Rattle.nc_rules.specs.Seen.{state_of, asked_of};
 ghost use Rattle.nc_session.specs.Questions.{IsImplied, IsGreatestApart, element_text, question_of, yes_of, no_of};
 ghost use Rattle.nc_session.specs.Session.{IsCrowded, test_in, with_pair};
-ghost use Rattle.nc_session.specs.Work.{IsWork, SameNetwork, Compared, Questioned, kept_of, tests_of};
+ghost use Rattle.nc_session.specs.Work.{IsWork, IsDrawnFor, SameNetwork, Compared, Questioned, kept_of, tests_of};
 
 use crate::forgetting::push_untested;
 use crate::work::Work;
@@ -142,6 +142,8 @@ impl Work {
             (all_but missing.items))) }
         ensures full { IsErrOf result StoreFault.Full
             → IsCrowded (state_of self.old.rules) (with_pair (kept_of self.old) first second) }
+        ensures drawn { OnOk result
+            (IsDrawnFor self.new.formulas self.new.tests.items (first, second)) }
     {
         rules_make_a_flow();
         carrying_is_evaluation::<Fact>();
@@ -157,9 +159,10 @@ impl Work {
         )
     }
 
-    // Notes that a question about the tests at two places was answered.
+    // Notes that a question about the tests at two places was answered, by their diagrams.
     fn note(&mut self, first: usize, second: usize) -> Result<(), AllocError>
-        requires { IsWork self.old }
+        requires work { IsWork self.old }
+        requires drawn { IsDrawnFor self.old.formulas self.old.tests.items (first, second) }
         ensures work { OnOk result (IsWork self.new) }
         ensures network { SameNetwork self.old self.new }
         ensures asked { asked_of self.new.rules ≡ asked_of self.old.rules }

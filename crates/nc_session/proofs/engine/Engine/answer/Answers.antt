@@ -8,7 +8,8 @@ use Rattle.nc_session.specs.declared.work.Work.{Work}
 use Rattle.nc_report.specs.Views.{FileView, file_view}
 use Rattle.nc_session.specs.File.{AreFilesOf, LoadedView}
 use Rattle.nc_session.specs.Work.{IsWork, progress_of}
-use Rattle.nc_session.specs.Engine.{Answered}
+use Rattle.nc_session.specs.Engine.{Answered, HasDrawn}
+use Rattle.nc_session.proofs.Drawing.{has-drawn}
 use Rattle.nc_session.proofs.engine.Engine.answer.Goals as goal
 use Rattle.nc_session.proofs.engine.Engine.answer.Goals.{Joined-self}
 
@@ -46,6 +47,12 @@ returns-clause-turns c =
         infers = a.infers;
       };
     }
+
+-- the tests of answered questions are drawn
+pub returns-clause-drawn : goal.returns-clause-drawn
+returns-clause-drawn c = λ x is.
+    let files = map file_view c.self.inside.files.items in
+    subst HasDrawn (same_Some (progress_of files c.answer.new.self) x is) (has-drawn files c.answer.new.self c.in-Ok.ensures.work)
 
 pub answer-requires-clause-work : goal.answer-requires-clause-work
 answer-requires-clause-work c =

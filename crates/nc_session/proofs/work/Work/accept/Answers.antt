@@ -1,4 +1,4 @@
-use Rattle.std.proofs.Common.{rules, arith, ℕ, ◌≡◌, ◌-◌, List, [], ◌∷◌, ◌++◌, length, map, true, refl, sym, ap, ◌∙◌, subst}
+use Rattle.std.proofs.Common.{rules, arith, ℕ, ◌≡◌, ◌-◌, List, [], ◌∷◌, ◌++◌, length, map, All, true, refl, sym, ap, ◌∙◌, subst}
 use Rattle.std.proofs.lemmas.List.{length_push}
 use Rattle.nc_types.specs.Network.{element_count}
 use Rattle.nc_graph.specs.Closure.{ReachesMoreThan}
@@ -18,9 +18,10 @@ use Rattle.std.proofs.lemmas.List.Elements.{All-nil, All-cons, All-append, All-w
 use Rattle.nc_formula.specs.Session.{AreDrawn}
 use Rattle.nc_session.specs.Session.{KeptTest, live_test, posed_in, asked_in}
 use Rattle.nc_report.specs.Sheets.{sheets_from}
-use Rattle.nc_session.specs.Work.{IsMarked, HaveNodes, test_view, tests_of, kept_of}
+use Rattle.nc_session.specs.Work.{IsMarked, IsDrawnFor, HaveNodes, test_view, tests_of, kept_of}
 use Rattle.nc_session.proofs.Closing.{many-from, many-to, nodes-extended}
 use Rattle.nc_session.proofs.Working.{tests-more, marked-more, shown-more}
+use Rattle.nc_session.proofs.Drawing.{answered-longer}
 use Rattle.nc_session.proofs.work.Work.accept.Goals as goal
 
 pub returns-in-Err-Full-clause-taken : goal.returns-in-Err-Full-clause-taken
@@ -73,6 +74,8 @@ returns-clause-work c =
       drawn = subst (λ (s : StateView). AreDrawn (flow_of s) (posed_in (record { tests = map test_view c.push.new.self.items; pairs = old.pairs.items })) graph old.store old.formulas) (sym done.state)
           (subst (λ (ts : List KeptTest). AreDrawn (flow_of s) (posed_in (record { tests = ts; pairs = old.pairs.items })) graph old.store old.formulas) (sym seen)
           (subst (λ (fs : List (List Fact)). AreDrawn (flow_of s) (record { tests = fs; pairs = old.pairs.items }) graph old.store old.formulas) (sym (map_push (λ (t : KeptTest). t.facts) (tests_of old) (live_test facts))) drawn));
+      answered = subst (λ (ts : List Made). All (IsDrawnFor old.formulas ts) old.pairs.items) (sym c.in_ok-push.ensures.items)
+          (answered-longer old.formulas old.tests.items (test ∷ []) old.pairs.items c.requires.work.answered);
       room = c.requires.work.room;
       shown = subst (λ (s : StateView). c.refresh.new.self ≡ sheets_from s.routers c.add.new.self.marks 0 s.routers) (sym done.state)
           (shown-more s.routers c.network-network.result.now old.marks.marks c.add.new.self.marks c.marks.result.now c.in_ok-touched.touched.items c.deref-3.result.now old.shown c.refresh.new.self

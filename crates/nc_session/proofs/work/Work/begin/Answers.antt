@@ -1,4 +1,4 @@
-use Rattle.std.proofs.Common.{◌≡◌, arith, sym, ap, ◌∙◌, subst, length}
+use Rattle.std.proofs.Common.{◌≡◌, arith, sym, ap, ◌∙◌, subst, length, map}
 use Rattle.nc_types.specs.Network.{element_count}
 use Rattle.nc_tables.specs.State.{StateView, IsState}
 use Rattle.std.proofs.lemmas.List.Elements.{All-nil}
@@ -6,7 +6,7 @@ use Rattle.nc_graph.specs.Nodes.{AreNodesOf}
 use Rattle.nc_formula.specs.Session.{AreDrawn}
 use Rattle.nc_rules.specs.Rules.{flow_of}
 use Rattle.nc_rules.specs.Seen.{state_of}
-use Rattle.nc_session.specs.Work.{HaveNodes}
+use Rattle.nc_session.specs.Work.{HaveNodes, IsDrawnFor, drawn_in, test_view}
 use Rattle.nc_session.proofs.Working.{marked-none, shown-first}
 use Rattle.nc_session.proofs.work.Work.begin.Goals as goal
 
@@ -22,6 +22,16 @@ returns-clause-work c =
       shown = shown-first s.routers c.network-network.result.now c.in_ok-kept.kept.marks c.marks.result.now c.in_ok-shown.shown network c.marks.ensures c.in_ok-shown.ensures;
       nodes = subst (HaveNodes c.new-3.result) (sym c.new-4.ensures.items) (All-nil (λ t. AreNodesOf c.new-3.result t.nodes.items t.facts.items));
       drawn = subst (AreDrawn (flow_of s) _ c.new-3.result c.new-6.result) (sym c.new-7.ensures) (c.nothing_is_drawn.ensures (flow_of s) _ c.new-3.result c.new-6.result c.new-6.ensures.constants_alone);
+      answered = rw c.new-5.ensures.items (All-nil (IsDrawnFor c.new-7.result c.new-4.result.items));
       room = c.new-6.ensures.limit;
       few = omega (arith, ap length c.new-4.ensures.items);
     }
+
+pub returns-clause-progress : goal.returns-clause-progress
+unfolding drawn_in
+returns-clause-progress c = λ files i. record {
+  loaded = record { state = c.new-rules.ensures.state i; files = files; listed = c.args.listed };
+  session = record { tests = map test_view (c.new-4.ensures.items i); pairs = c.new-5.ensures.items i };
+  asked = c.new-rules.ensures.asked i;
+  drawn = drawn_in (c.new-3.ensures.empty i).facts c.new-7.result;
+}

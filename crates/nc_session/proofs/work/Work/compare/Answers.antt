@@ -15,6 +15,7 @@ use Rattle.nc_session.specs.Session.{test_in, posed_in, with_pair}
 use Rattle.nc_session.specs.Work.{kept_of, test_view, tests_of}
 use Rattle.nc_session.proofs.Carrying.{implied, greatest}
 use Rattle.nc_session.proofs.Comparing.{posed-at, ids-at, nodes-hold, option-weaker}
+use Rattle.nc_session.proofs.Drawing.{answered-still, drawn-at}
 use Rattle.nc_session.proofs.work.Work.compare.Goals as goal
 
 pub compare-requires-clause-first : goal.compare-requires-clause-first
@@ -49,6 +50,7 @@ returns-clause-work c =
       nodes = was.nodes;
       drawn = c.drawn_by_a_comparison.ensures g flow w.graph c.len-facts.ensures.graph mirrors (posed_in (kept_of w)) c.args.first c.args.second left right here there
           c.deref.result.now c.deref-2.result.now first second w.store c.compare.new.store w.formulas c.compare.new.self was.drawn c.compare.ensures.gains c.compare.ensures.formulas;
+      answered = answered-still w.formulas c.compare.new.self c.compare.ensures.still w.tests.items w.pairs.items was.answered;
       room = c.compare.ensures.gains.same_limit ∙ was.room;
       shown = was.shown;
       few = was.few;
@@ -94,3 +96,9 @@ returns-clause-full c = λ full.
     subst (HasMoreParts g (posed_in (with_pair (kept_of w) c.args.first c.args.second))) c.requires.work.room
     (c.refused_for_its_parts.ensures g flow w.graph c.len-facts.ensures.graph mirrors (posed_in (kept_of w)) c.args.first c.args.second left right here there
     c.deref.result.now c.deref-2.result.now first second w.store w.formulas c.requires.work.drawn (c.compare.ensures.full full))
+
+pub returns-clause-drawn : goal.returns-clause-drawn
+returns-clause-drawn c =
+    let w = c.args.self.now in
+    drawn-at c.compare.result c.compare.new.self w.tests.items c.args.first c.args.second c.index.result.now c.index-2.result.now c.requires.first c.requires.second c.index.ensures c.index-2.ensures
+    c.deref.result.now c.deref-2.result.now c.deref.ensures.value c.deref-2.ensures.value c.compare.ensures.first c.compare.ensures.second

@@ -15,6 +15,7 @@ use Rattle.nc_session.specs.Session.{KeptTest, State, without_test, posed_in, as
 use Rattle.nc_session.specs.Work.{HaveNodes, nodes_in, test_view, tests_of, kept_of}
 use Rattle.nc_session.proofs.Working.{numbers, shown-more}
 use Rattle.nc_session.proofs.Fewer.{asked-fewer, posed-fewer, after, after-view, after-nodes, after-live, marked-fewer}
+use Rattle.nc_session.proofs.Drawing.{answered-fewer}
 use Rattle.nc_session.proofs.work.Work.forget_at.Goals as goal
 
 pub forget-requires-clause-valid : goal.forget-requires-clause-valid
@@ -40,6 +41,7 @@ returns-clause-work c =
           (c.in_ok-touched.ensures.kept (numbers marked.nodes) (element_count s.routers) marked.kept));
       nodes = after-nodes w c.args.place t c.requires.place c.index_mut.ensures.value c.requires.work.nodes;
       drawn = subst (λ (a : Asked Fact). AreDrawn (flow_of s) a w.graph w.store w.formulas) (sym (ap posed_in view ∙ posed-fewer (kept_of w) c.args.place)) c.requires.work.drawn;
+      answered = answered-fewer w.formulas w.tests.items c.args.place t c.requires.place c.index_mut.ensures.value w.pairs.items c.requires.work.answered;
       room = c.requires.work.room;
       shown = shown-more s.routers c.network-network.result.now w.marks.marks c.forget.new.self.marks c.marks.result.now c.in_ok-touched.touched.items c.deref-3.result.now w.shown c.refresh.new.self
           net c.marks.ensures c.deref-3.ensures.value marked.kept.marks.count c.in_ok-touched.ensures.touched c.requires.work.shown c.refresh.ensures;
