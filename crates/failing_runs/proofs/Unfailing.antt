@@ -11,10 +11,7 @@ use Rattle.nc_words.specs.Words.{InputView, Files, Generated, RequestView, reque
 use Rattle.nc_session.specs.Load.{Refusal, files_in, lists_in, load, load_asked, load_over, names_in}
 use Rattle.nc_session.specs.Output.{is_within, needed, needed_asked, needed_in, session_asked, session_in, session_of}
 use Rattle.nc_session.specs.Causes.{status_of}
-
--- the count of a steady object never rises
-steady_never : (before now : Faults) → before.is_steady ≡ true → Rose before now → ⊥
-steady_never before now steady rose = let may = rose.may in absurd cc
+use Rattle.nc_session.proofs.Steady.{steady_never}
 
 -- what holds of the load and the session that a run is over, at files and a session that are told
 of_needed : (asked : Option RequestView) (fs : List Named) (session : List ℕ) (P : Result LoadedView Refusal → List ℕ → Type 0)

@@ -1,2 +1,3 @@
+pub mod Sizes
 pub mod TextLemmas
 pub mod ShapeLemmas

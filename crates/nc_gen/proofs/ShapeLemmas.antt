@@ -5,24 +5,8 @@ use Rattle.std.proofs.lemmas.Nat.{div-add-mod'}
 use Rattle.nc_gen.specs.declared.tree.Tree.{Tree}
 use Rattle.nc_gen.specs.declared.tree.Router.TheVariants.{Core, Aggregation, Edge}
 use Rattle.nc_gen.specs.Tree.{is_size, tree_of, below, routers, links}
+use Rattle.nc_gen.proofs.Sizes.{sizes}
 use Rattle.nc_gen.specs.Shape.{IsTree, IsNumbered, router_count, link_count, router_at, pod_router_at, link_at}
-
--- what holds of the four sizes holds of every one
-sizes : (P : ℕ → Type 0) (k : ℕ) → is_size k ≡ true → P 2 → P 4 → P 6 → P 8 → P k
-sizes P k is two four six eight =
-    elim (eqb_tells k 2) [
-      | inl p ↦ subst P (sym p.1) two
-      | inr p ↦ elim (eqb_tells k 4) [
-        | inl q ↦ subst P (sym q.1) four
-        | inr q ↦ elim (eqb_tells k 6) [
-          | inl r ↦ subst P (sym r.1) six
-          | inr r ↦ elim (eqb_tells k 8) [
-            | inl s ↦ subst P (sym s.1) eight
-            | inr s ↦ absurd (let none : false ≡ true = rw (p.0, q.0, r.0, s.0) at is in cc)
-          ]
-        ]
-      ]
-    ]
 
 of_sizes : (P : Tree → Type 0) (t : Tree) → IsTree t → P (tree_of 2) → P (tree_of 4) → P (tree_of 6) → P (tree_of 8) → P t
 of_sizes P t is two four six eight = subst P (sym is.tree) (sizes (λ k. P (tree_of k)) is.size is.is two four six eight)

@@ -12,8 +12,6 @@
 mod config;
 mod generated;
 mod ports;
-#[cfg(test)]
-mod tests;
 mod text;
 mod tree;
 

@@ -25,12 +25,9 @@ use Rattle.nc_session.specs.Ending.{SinkSeen, Silent, EndsRefused, Seen, EndsAs,
 use Rattle.nc_session.proofs.Ends.{memory_ends, refused_ends, headed_ends, served_ends, refused_early, refused_outside}
 use Rattle.nc_session.proofs.GeneratedFiles.{tree_there}
 use Rattle.nc_session.proofs.Options.{keeps_same}
+use Rattle.nc_session.proofs.Steady.{steady_never}
 use Rattle.nc_session.proofs.TakenPieces.{nothing_begun}
 use Rattle.nc_session.proofs.WithFiles.{loaded_with, fault_with}
-
--- a steady object never fails
-pub steady_never : (before now : Faults) → before.is_steady ≡ true → Rose before now → ⊥
-steady_never before now steady rose = let both : true ≡ false = sym steady ∙ rose.may in absurd cc
 
 -- which sessions of a generated network end as no fault of the files or of the source
 calm_by : (n : LoadedView) (before now : Told) (source sink sink_now : Faults) (status : Status) → source.is_steady ≡ true → Leaves n before now status

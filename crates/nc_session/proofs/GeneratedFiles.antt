@@ -24,27 +24,11 @@ use Rattle.nc_session.specs.declared.refusal.Quantity.TheVariants.{Routers, Byte
 use Rattle.nc_gen.specs.declared.generated.GenFile.{GenFile}
 use Rattle.nc_gen.specs.Tree.{below, is_size, routers}
 use Rattle.nc_gen.specs.Files.{FileView, fat_tree, file_name, file_of, file_view, name_of}
+use Rattle.nc_gen.proofs.Sizes.{sizes}
 use Rattle.nc_session.specs.Generated.{name_of_file, named_file, tree_files, tree_names}
 use Rattle.nc_session.specs.Load.{Refusal, Missing, TooMany, Unsettled, and_then, load_content, load_each, load_joined, load_judged, load_lines, load_names, load_result, load_settled}
 
 -- ---- names are texts
-
--- what holds of the four sizes holds of every one
-sizes : (P : ℕ → Type 0) (k : ℕ) → is_size k ≡ true → P 2 → P 4 → P 6 → P 8 → P k
-sizes P k is two four six eight =
-    elim (eqb_tells k 2) [
-      | inl p ↦ subst P (sym p.1) two
-      | inr p ↦ elim (eqb_tells k 4) [
-        | inl q ↦ subst P (sym q.1) four
-        | inr q ↦ elim (eqb_tells k 6) [
-          | inl r ↦ subst P (sym r.1) six
-          | inr r ↦ elim (eqb_tells k 8) [
-            | inl s ↦ subst P (sym s.1) eight
-            | inr s ↦ absurd (let none : false ≡ true = rw (p.0, q.0, r.0, s.0) at is in cc)
-          ]
-        ]
-      ]
-    ]
 
 -- a router by the numbers in its name: a core, or one of a pod, which has a letter
 data Numbered : Type 0 where

@@ -1,3 +1,4 @@
+pub mod Steady
 mod Options
 mod EachFile
 mod OneFile
@@ -19,6 +20,7 @@ mod Deciding
 mod Bounded
 mod Fewer
 mod Comparing
+mod Drawing
 mod Answering
 mod ServedLines
 mod SessionLeft
