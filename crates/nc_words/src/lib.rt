@@ -10,8 +10,6 @@
 mod command;
 mod read;
 mod request;
-#[cfg(test)]
-mod tests;
 
 pub use read::read_words;
 pub use request::{Input, Request, WordsFault};
