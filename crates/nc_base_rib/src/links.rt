@@ -9,7 +9,7 @@ use nc_types::{Addr, IfaceAddr, Interface};
 use std::alloc::{AllocError, Global};
 
 /// An interface that is up.
-#[derive(Clone, Copy, Debug)]
+#[derive(Clone, Copy)]
 pub(crate) struct Link {
     /// The network address of its prefix.
     pub(crate) network: Addr,

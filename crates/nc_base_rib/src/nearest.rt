@@ -14,7 +14,7 @@ use nc_types::Addr;
 use std::alloc::{AllocError, Global};
 
 // What rows are sorted by.
-#[derive(Clone, Copy, Debug, PartialEq, Eq, PartialOrd, Ord)]
+#[derive(Clone, Copy, PartialEq, Eq, PartialOrd, Ord)]
 struct Key {
     addr: Addr,
     len: u8,

@@ -1,7 +1,7 @@
 use nc_types::{TestCommand, Text};
 
 /// What a line of a session asks.
-#[derive(Debug, Drop)]
+#[derive(Drop)]
 pub enum Command {
     /// A test, for facts of the network.
     Test(TestCommand),

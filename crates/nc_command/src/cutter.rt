@@ -13,7 +13,7 @@ use std::marker::Model;
 use std::mem;
 
 /// A line of a session, without its line feed and the one carriage return before it; seen as its bytes.
-#[derive(Debug, Drop)]
+#[derive(Drop)]
 pub struct CutLine {
     bytes: Vec<u8>,
 }
@@ -36,7 +36,7 @@ impl CutLine {
 }
 
 /// What is cut off a session.
-#[derive(Debug, Drop)]
+#[derive(Drop)]
 pub enum Cut {
     /// A line of at most [`LINE_LIMIT`] bytes.
     Line(CutLine),
@@ -46,7 +46,7 @@ pub enum Cut {
 
 /// The line of a session that no line feed has ended so far, as far as it is held; seen as the bytes that are
 /// held, [`HELD_LIMIT`] at most. A cutter that no byte was pushed into holds none.
-#[derive(Debug, Drop)]
+#[derive(Drop)]
 pub struct Cutter {
     alloc: Global,
     held: Vec<u8>,

@@ -2,7 +2,7 @@ use nc_types::{Addr, ElementId, IfaceId, Prefix, RouterId};
 
 /// Something that may be so in a network, and on which a test or another fact may rest. A place is
 /// counted from 0, in the table or the list of the router that is named first.
-#[derive(Clone, Copy, Debug, PartialEq, Eq, Hash)]
+#[derive(Clone, Copy, PartialEq, Eq, Hash)]
 pub enum Fact {
     /// An element of a configuration.
     Element(ElementId),

@@ -15,7 +15,7 @@ const LINK_START: u32 = 0x0a80_0000;
 const FIRST_SYSTEM: u32 = 64_512;
 
 /// An end of a link at a router: its address, and the address and the system of the other end.
-#[derive(Clone, Copy, Debug)]
+#[derive(Clone, Copy)]
 pub(crate) struct Port {
     pub(crate) own: Addr,
     pub(crate) peer: Addr,

@@ -7,7 +7,7 @@ ghost use Rattle.nc_gen.specs.Shape.{IsNumbered, IsSmall, IsTree, link_at, link_
 use std::alloc::{AllocError, Global};
 
 /// A fat tree by how many pods it has, how many routers a layer of a pod, and how many cores.
-#[derive(Clone, Copy, Debug)]
+#[derive(Clone, Copy)]
 pub(crate) struct Tree {
     pub(crate) pods: u32,
     pub(crate) half: u32,
@@ -15,7 +15,7 @@ pub(crate) struct Tree {
 }
 
 /// A router: a core by its number, or another by its pod and its place in its layer there.
-#[derive(Clone, Copy, Debug)]
+#[derive(Clone, Copy)]
 pub(crate) enum Router {
     Core(u32),
     Aggregation(u32, u32),
@@ -23,7 +23,7 @@ pub(crate) enum Router {
 }
 
 /// A link: its number, and the numbers of the routers at its ends.
-#[derive(Clone, Copy, Debug)]
+#[derive(Clone, Copy)]
 pub(crate) struct Link {
     pub(crate) number: u32,
     pub(crate) upper: u32,

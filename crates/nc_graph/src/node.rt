@@ -1,7 +1,7 @@
 //! What a node of a flow graph is, and the number that stands for it.
 
 /// The kind of a fact: how it follows from its parents.
-#[derive(Clone, Copy, Debug, PartialEq, Eq, Hash)]
+#[derive(Clone, Copy, PartialEq, Eq, Hash)]
 pub enum NodeKind {
     /// An element of the configuration, by its number. It has no parents.
     Leaf(u32),
@@ -12,5 +12,5 @@ pub enum NodeKind {
 }
 
 /// The number of a node in its graph: nodes are numbered from 0 in the order in which they came.
-#[derive(Clone, Copy, Debug, PartialEq, Eq, PartialOrd, Ord, Hash)]
+#[derive(Clone, Copy, PartialEq, Eq, PartialOrd, Ord, Hash)]
 pub struct NodeId(pub u32);

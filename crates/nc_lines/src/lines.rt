@@ -6,14 +6,14 @@ ghost use Rattle.nc_lines.specs.Lines.{line_at};
 use std::marker::Model;
 
 /// Where a line stands among the bytes of its file.
-#[derive(Clone, Copy, Debug)]
+#[derive(Clone, Copy)]
 pub(crate) struct Span {
     pub(crate) from: u32,
     pub(crate) to: u32,
 }
 
 /// The lines of a file, each without its line feed and the one carriage return before it.
-#[derive(Debug, Drop)]
+#[derive(Drop)]
 pub struct Lines {
     bytes: Vec<u8>,
     spans: Vec<Span>,

@@ -10,7 +10,7 @@ use crate::cut::cut_word;
 use nc_types::Cause;
 
 /// What a statement says.
-#[derive(Clone, Copy, Debug, PartialEq, Eq)]
+#[derive(Clone, Copy, PartialEq, Eq)]
 pub enum Reading<S> {
     /// Nothing that is read.
     Outside,

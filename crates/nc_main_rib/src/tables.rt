@@ -31,7 +31,7 @@ fn aggregates_of(network: &Network, router: RouterId) -> &[AggregateStatement]
 }
 
 // How many rows of a router's tables stand before those of the next prefix, or are among them.
-#[derive(Clone, Copy, Debug)]
+#[derive(Clone, Copy)]
 struct Passed {
     base: usize,
     bgp: usize,

@@ -7,7 +7,7 @@ ghost use Rattle.nc_network.specs.Steps.{merge};
 use std::marker::Model;
 
 /// Two lines that don't go together, each with the number of its router, from 0.
-#[derive(Clone, Copy, Debug)]
+#[derive(Clone, Copy)]
 pub(crate) struct LinePair {
     pub(crate) first: u32,
     pub(crate) first_line: u32,
@@ -16,7 +16,7 @@ pub(crate) struct LinePair {
 }
 
 /// A line of a router.
-#[derive(Clone, Copy, Debug)]
+#[derive(Clone, Copy)]
 pub(crate) struct Place {
     pub(crate) router: u32,
     pub(crate) line: u32,

@@ -11,7 +11,7 @@ use nc_types::{Clause, CommunityList, Interface, PrefixList, RouterConfig, Text}
 use std::alloc::{AllocError, Global};
 
 /// A kind of lists: each kind has names of its own.
-#[derive(Clone, Copy, Debug)]
+#[derive(Clone, Copy)]
 pub(crate) enum ListKind {
     OfPrefixes,
     OfCommunities,

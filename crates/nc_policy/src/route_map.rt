@@ -17,7 +17,7 @@ use nc_types::RouterConfig;
 use std::alloc::{AllocError, Global};
 
 /// What a route map makes of a route.
-#[derive(Debug, Drop)]
+#[derive(Drop)]
 pub enum Verdict {
     /// The route is dropped.
     Deny,

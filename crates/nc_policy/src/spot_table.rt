@@ -12,7 +12,7 @@ use std::alloc::AllocError;
 use std::marker::Model;
 
 /// The prefix of entries, and the length of a route's prefix.
-#[derive(Clone, Copy, Debug, PartialEq, Eq, PartialOrd, Ord, Hash)]
+#[derive(Clone, Copy, PartialEq, Eq, PartialOrd, Ord, Hash)]
 pub(crate) struct Spot {
     pub(crate) addr: Addr,
     pub(crate) prefix_len: u8,
@@ -20,14 +20,14 @@ pub(crate) struct Spot {
 }
 
 /// The place of an entry that has a prefix and is of a length.
-#[derive(Clone, Copy, Debug, PartialEq, Eq, PartialOrd, Ord, Hash)]
+#[derive(Clone, Copy, PartialEq, Eq, PartialOrd, Ord, Hash)]
 pub(crate) struct Placed {
     pub(crate) spot: Spot,
     pub(crate) place: u32,
 }
 
 /// The first place of each spot, in order of the spots.
-#[derive(Debug, Drop)]
+#[derive(Drop)]
 pub(crate) struct SpotTable {
     items: Vec<Placed>,
 }

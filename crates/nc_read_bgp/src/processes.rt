@@ -22,7 +22,7 @@ use nc_types::{
 use std::alloc::{AllocError, Global};
 
 /// A process with the lines of its elements.
-#[derive(Debug, Drop)]
+#[derive(Drop)]
 pub struct ProcessPart {
     pub process: Process,
     /// The lines of the process itself, headers among them, ascending, from 1.

@@ -3,7 +3,7 @@
 use nc_types::{Addr, Prefix};
 
 /// What a statement says of a neighbor.
-#[derive(Clone, Copy, Debug, PartialEq, Eq)]
+#[derive(Clone, Copy, PartialEq, Eq)]
 pub enum NeighborStatement<'a> {
     /// `remote-as N`, from 1.
     RemoteAs(u32),
@@ -26,7 +26,7 @@ pub enum NeighborStatement<'a> {
 }
 
 /// What a line of a process says.
-#[derive(Clone, Copy, Debug, PartialEq, Eq)]
+#[derive(Clone, Copy, PartialEq, Eq)]
 pub enum BgpStatement<'a> {
     /// The header, with the number of the autonomous system, from 1.
     Opens(u32),

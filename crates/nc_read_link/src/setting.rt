@@ -13,7 +13,7 @@ use nc_lines::statement::{Reading, after_one, alone, begins_one, is_word};
 use nc_types::{Cause, IfaceAddr};
 
 /// What a statement of an interface's block sets.
-#[derive(Clone, Copy, Debug, PartialEq, Eq)]
+#[derive(Clone, Copy, PartialEq, Eq)]
 pub enum Setting {
     /// `ip address A M`
     Address(IfaceAddr),

@@ -13,7 +13,7 @@ use nc_lines::statement::{Reading, after_one};
 use nc_types::Cause;
 
 /// The header of a clause: `route-map W permit N` or `route-map W deny N`.
-#[derive(Clone, Copy, Debug, PartialEq, Eq)]
+#[derive(Clone, Copy, PartialEq, Eq)]
 pub struct ClauseHeader<'a> {
     /// The name of the map.
     pub map: &'a [u8],

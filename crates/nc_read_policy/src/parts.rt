@@ -12,7 +12,7 @@ use nc_types::ListEntry;
 use std::alloc::{AllocError, Global};
 
 /// An entry of a prefix list with the lines of its statements.
-#[derive(Debug, Drop)]
+#[derive(Drop)]
 pub struct EntryLines {
     pub entry: ListEntry,
     /// The lines, ascending, from 1.

@@ -11,7 +11,7 @@ use crate::report::Sheet;
 use std::alloc::{AllocError, Global};
 
 /// A line that is counted, and how often it was hit.
-#[derive(Clone, Copy, Debug)]
+#[derive(Clone, Copy)]
 pub(crate) struct Hit {
     pub(crate) line: usize,
     pub(crate) count: u32,

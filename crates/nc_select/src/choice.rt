@@ -12,7 +12,7 @@ use nc_types::Addr;
 use std::alloc::{AllocError, Global};
 
 // Who sent a candidate, and the candidate's place.
-#[derive(Clone, Copy, Debug, PartialEq, Eq, PartialOrd, Ord)]
+#[derive(Clone, Copy, PartialEq, Eq, PartialOrd, Ord)]
 struct Sender {
     // The router id of the sender.
     id: Addr,

@@ -22,7 +22,7 @@ pub struct End<'a> {
 }
 
 /// Where a session starts: an interface that is up, and its address.
-#[derive(Clone, Copy, Debug, PartialEq, Eq)]
+#[derive(Clone, Copy, PartialEq, Eq)]
 pub(crate) struct Source {
     pub(crate) iface: IfaceId,
     pub(crate) addr: Addr,

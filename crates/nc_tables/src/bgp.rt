@@ -4,7 +4,7 @@ use crate::path::Path;
 use nc_types::{Addr, Communities, IfaceId, OriginCode, Prefix, RouterId};
 
 /// An established BGP session, as one of its two neighbor statements sees it.
-#[derive(Clone, Copy, Debug, PartialEq, Eq)]
+#[derive(Clone, Copy, PartialEq, Eq)]
 pub struct SessionRow {
     pub router: RouterId,
     /// The place of the neighbor statement in the router's process.
@@ -21,7 +21,7 @@ pub struct SessionRow {
 }
 
 /// A route of a prefix, as BGP carries it.
-#[derive(Debug, Drop)]
+#[derive(Drop)]
 pub struct Route {
     pub prefix: Prefix,
     pub path: Path,
@@ -49,7 +49,7 @@ pub fn same_route(a: &Route, b: &Route) -> bool
 }
 
 /// Where a candidate comes from: the place of its statement in the process.
-#[derive(Clone, Copy, Debug, PartialEq, Eq)]
+#[derive(Clone, Copy, PartialEq, Eq)]
 pub enum BgpFrom {
     /// A network statement.
     Origin(u32),
@@ -60,7 +60,7 @@ pub enum BgpFrom {
 }
 
 /// A candidate for a prefix that was chosen.
-#[derive(Debug, Drop)]
+#[derive(Drop)]
 pub struct Chosen {
     pub route: Route,
     pub from: BgpFrom,
@@ -84,14 +84,14 @@ pub fn same_candidate(a: &Chosen, b: &Chosen) -> bool
 }
 
 /// The candidates of a prefix that were chosen, best first; there is one at least.
-#[derive(Debug, Drop)]
+#[derive(Drop)]
 pub struct BgpRow {
     pub prefix: Prefix,
     pub chosen: Vec<Chosen>,
 }
 
 /// Where a row of a main table comes from.
-#[derive(Clone, Copy, Debug, PartialEq, Eq)]
+#[derive(Clone, Copy, PartialEq, Eq)]
 pub enum MainFrom {
     /// The row at a place of the base table.
     Base(u32),
@@ -102,7 +102,7 @@ pub enum MainFrom {
 }
 
 /// A row of a main table.
-#[derive(Clone, Copy, Debug, PartialEq, Eq)]
+#[derive(Clone, Copy, PartialEq, Eq)]
 pub struct MainRow {
     pub prefix: Prefix,
     /// The administrative distance.

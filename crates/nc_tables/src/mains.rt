@@ -20,7 +20,7 @@ impl HasPrefix for MainRow {
 /// The main tables of the routers of a network: the rows of each router, in order of prefix (address, then
 /// length), so that those of one prefix stand side by side. A router has fewer than 2^32 rows, so that a place
 /// is a `u32`.
-#[derive(Debug, Drop)]
+#[derive(Drop)]
 pub struct MainTables {
     rows: Vec<Vec<MainRow>>,
 }

@@ -16,7 +16,7 @@ const PIECE_LEN: usize = 5;
 
 // Numbers in the middle of a path or at its end, and those behind them, which other paths may have
 // too.
-#[derive(Debug, Drop)]
+#[derive(Drop)]
 struct Piece {
     numbers: [u32; PIECE_LEN],
     rest: Option<Rc<Piece>>,
@@ -34,7 +34,7 @@ impl Piece {
 /// The autonomous systems through which a route came, the nearest first; at most
 /// [`nc_types::PATH_LIMIT`] numbers. The nearest ones are its own, and it shares the others with
 /// the paths that it was made of.
-#[derive(Debug, Drop)]
+#[derive(Drop)]
 pub struct Path {
     // The nearest numbers. They stand at the end; what stands before `start` says nothing.
     numbers: [u32; PIECE_LEN],

@@ -84,7 +84,7 @@ fn put_row(rows: &mut Vec<BgpRow>, prefix: Prefix, chosen: Vec<Chosen>) -> Resul
 
 /// The BGP tables of the routers of a network: the rows of each router, one for each prefix that it has a
 /// candidate for, in order of prefix (address, then length).
-#[derive(Debug, Drop)]
+#[derive(Drop)]
 pub struct BgpTable {
     rows: Vec<Vec<BgpRow>>,
 }

@@ -9,7 +9,7 @@ use std::marker::Model;
 
 /// The established BGP sessions of the routers of a network: of each router one for each of its neighbor
 /// statements that has a session, in order of the statements.
-#[derive(Debug, Drop)]
+#[derive(Drop)]
 pub struct Sessions {
     rows: Vec<Vec<SessionRow>>,
 }

@@ -1,7 +1,7 @@
 use nc_types::{IfaceId, RouterId};
 
 /// What comes of a packet by one way out of a router.
-#[derive(Clone, Copy, Debug, PartialEq, Eq)]
+#[derive(Clone, Copy, PartialEq, Eq)]
 pub enum Outcome {
     /// It is delivered on a network of the router.
     Deliver,
@@ -12,7 +12,7 @@ pub enum Outcome {
 }
 
 /// One way out of a router for an address.
-#[derive(Clone, Copy, Debug, PartialEq, Eq)]
+#[derive(Clone, Copy, PartialEq, Eq)]
 pub struct Alternative {
     /// The place of the main row.
     pub main: u32,

@@ -17,7 +17,7 @@ use nc_types::{Addr, Prefix, RouterId};
 use nc_underlay::is_hit;
 
 /// What is left of the ways out of a router: first those of one BGP row, then those of the main rows behind it.
-#[derive(Clone, Copy, Debug)]
+#[derive(Clone, Copy)]
 pub(crate) struct Left {
     /// The BGP row, its next hop, and the base rows toward that which are left.
     main: u32,

@@ -5,7 +5,7 @@ ghost use Rattle.nc_types.specs.Masks.{mask_of, mask_len_of};
 use std::alloc::{AllocError, Global};
 
 /// An IPv4 address as one number: 10.0.0.1 is `0x0a00_0001`.
-#[derive(Clone, Copy, Debug, PartialEq, Eq, PartialOrd, Ord, Hash)]
+#[derive(Clone, Copy, PartialEq, Eq, PartialOrd, Ord, Hash)]
 pub struct Addr(pub u32);
 
 impl Addr {

@@ -3,7 +3,7 @@ use crate::prefix::Prefix;
 use crate::text::Text;
 
 /// A test: what a line of a session asks of the router that it names first.
-#[derive(Debug, Drop)]
+#[derive(Drop)]
 pub enum TestCommand {
     /// That its main table has rows of a prefix; where an address is given, rows with that next hop.
     Rib(Text, Prefix, Option<Addr>),

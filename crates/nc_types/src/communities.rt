@@ -7,7 +7,7 @@ use std::marker::Model;
 
 /// A set of communities, each a number of 32 bits, whose upper half is written before a colon and whose lower
 /// half behind it (RFC 1997): ascending, and at most [`crate::COMMUNITY_LIMIT`].
-#[derive(Debug, Drop)]
+#[derive(Drop)]
 pub struct Communities {
     // None where there are none, as on most routes, which are so much smaller.
     numbers: Option<Box<Vec<u32>>>,
@@ -64,7 +64,7 @@ impl Communities {
 }
 
 /// An entry of a community list.
-#[derive(Debug, Drop)]
+#[derive(Drop)]
 pub struct CommunityEntry {
     pub permit: bool,
     /// The communities that a route has to have, all of them, for the entry to decide on it.
@@ -74,7 +74,7 @@ pub struct CommunityEntry {
 }
 
 /// A community list.
-#[derive(Debug, Drop)]
+#[derive(Drop)]
 pub struct CommunityList {
     pub name: Text,
     /// The entries, in order of their lines.
@@ -82,7 +82,7 @@ pub struct CommunityList {
 }
 
 /// What `set community` makes of the communities of a route.
-#[derive(Debug, Drop)]
+#[derive(Drop)]
 pub struct SetCommunity {
     pub values: Communities,
     /// Whether the values join those that the route has, or stand in their place.

@@ -14,16 +14,16 @@ use crate::text::Text;
 pub struct RouterId(pub u32);
 
 /// An interface: its place in its router's configuration, by first mention, from 0.
-#[derive(Clone, Copy, Debug, PartialEq, Eq, PartialOrd, Ord, Hash)]
+#[derive(Clone, Copy, PartialEq, Eq, PartialOrd, Ord, Hash)]
 pub struct IfaceId(pub u32);
 
 /// An element of the network: its place among the elements of its router, plus the number of elements
 /// of all earlier routers.
-#[derive(Clone, Copy, Debug, PartialEq, Eq, PartialOrd, Ord, Hash)]
+#[derive(Clone, Copy, PartialEq, Eq, PartialOrd, Ord, Hash)]
 pub struct ElementId(pub u32);
 
 /// What an element configures.
-#[derive(Clone, Copy, Debug, PartialEq, Eq, Hash)]
+#[derive(Clone, Copy, PartialEq, Eq, Hash)]
 pub enum Kind {
     /// An interface, by its name.
     Interface,
@@ -54,7 +54,7 @@ pub struct Element {
 }
 
 /// A name that a statement refers to, and the line of the statement.
-#[derive(Debug, Drop)]
+#[derive(Drop)]
 pub struct Reference {
     pub name: Text,
     /// The line, from 1.
@@ -62,14 +62,14 @@ pub struct Reference {
 }
 
 /// The address of an interface, and the prefix that its mask makes of it.
-#[derive(Clone, Copy, Debug, PartialEq, Eq, Hash)]
+#[derive(Clone, Copy, PartialEq, Eq, Hash)]
 pub struct IfaceAddr {
     pub addr: Addr,
     pub prefix: Prefix,
 }
 
 /// An interface as its statements leave it: of each field the last statement decides.
-#[derive(Debug, Drop)]
+#[derive(Drop)]
 pub struct Interface {
     pub name: Text,
     pub address: Option<IfaceAddr>,
@@ -90,7 +90,7 @@ impl Interface {
 }
 
 /// Where a static route leads.
-#[derive(Debug, Drop)]
+#[derive(Drop)]
 pub enum Via {
     /// Nowhere: what it covers is discarded.
     Null,
@@ -125,7 +125,7 @@ impl Via {
 
 /// A static route as its statements leave it: the last one decides its distance and the line of its
 /// reference.
-#[derive(Debug, Drop)]
+#[derive(Drop)]
 pub struct StaticRoute {
     pub prefix: Prefix,
     pub via: Via,
@@ -136,7 +136,7 @@ pub struct StaticRoute {
 }
 
 /// A neighbor of a BGP process as its statements leave it.
-#[derive(Debug, Drop)]
+#[derive(Drop)]
 pub struct Neighbor {
     pub addr: Addr,
     /// The number of its autonomous system, from 1.
@@ -159,7 +159,7 @@ pub struct Neighbor {
 }
 
 /// A network that a BGP process originates.
-#[derive(Clone, Copy, Debug, PartialEq, Eq)]
+#[derive(Clone, Copy, PartialEq, Eq)]
 pub struct NetworkStatement {
     pub prefix: Prefix,
     /// The place of its element in the router's elements.
@@ -167,7 +167,7 @@ pub struct NetworkStatement {
 }
 
 /// An aggregate of a BGP process.
-#[derive(Clone, Copy, Debug, PartialEq, Eq)]
+#[derive(Clone, Copy, PartialEq, Eq)]
 pub struct AggregateStatement {
     pub prefix: Prefix,
     /// Whether the longer prefixes inside it are held back.
@@ -177,7 +177,7 @@ pub struct AggregateStatement {
 }
 
 /// The BGP process of a router.
-#[derive(Debug, Drop)]
+#[derive(Drop)]
 pub struct Process {
     /// The number of its autonomous system, from 1.
     pub asn: u32,
@@ -198,14 +198,14 @@ pub struct Process {
 }
 
 /// Where a route came from, as BGP tells it.
-#[derive(Clone, Copy, Debug, PartialEq, Eq, PartialOrd, Ord, Hash)]
+#[derive(Clone, Copy, PartialEq, Eq, PartialOrd, Ord, Hash)]
 pub enum OriginCode {
     Igp,
     Incomplete,
 }
 
 /// A clause of a route map.
-#[derive(Debug, Drop)]
+#[derive(Drop)]
 pub struct Clause {
     /// The name of its map.
     pub map: Text,
@@ -231,7 +231,7 @@ pub struct Clause {
 }
 
 /// An entry of a prefix list.
-#[derive(Clone, Copy, Debug, PartialEq, Eq)]
+#[derive(Clone, Copy, PartialEq, Eq)]
 pub struct ListEntry {
     /// The entries of a list are looked at in order of this number.
     pub seq: u32,
@@ -248,7 +248,7 @@ pub struct ListEntry {
 }
 
 /// A prefix list.
-#[derive(Debug, Drop)]
+#[derive(Drop)]
 pub struct PrefixList {
     pub name: Text,
     /// The entries, in order of their numbers.

@@ -18,7 +18,7 @@ pub enum Cause {
 }
 
 /// What is wrong with a file.
-#[derive(Clone, Copy, Debug, PartialEq, Eq)]
+#[derive(Clone, Copy, PartialEq, Eq)]
 pub struct Fault {
     /// The line, from 1, or 0 where the fault is of the whole file.
     pub line: u32,

@@ -6,7 +6,7 @@ use crate::addr::Addr;
 use std::marker::Model;
 
 /// A classless prefix: a network address whose host bits are zero, and a length of at most 32 bits.
-#[derive(Clone, Copy, Debug, PartialEq, Eq, PartialOrd, Ord, Hash)]
+#[derive(Clone, Copy, PartialEq, Eq, PartialOrd, Ord, Hash)]
 pub struct Prefix {
     addr: Addr,
     len: u8,

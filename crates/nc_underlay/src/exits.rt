@@ -8,7 +8,7 @@ use nc_tables::{BaseFrom, BaseRow, BaseTables};
 use nc_types::{Addr, IfaceId, Network, RouterId};
 
 /// A way out of a router.
-#[derive(Clone, Copy, Debug, PartialEq, Eq)]
+#[derive(Clone, Copy, PartialEq, Eq)]
 struct Exit {
     /// The interface.
     iface: IfaceId,

@@ -7,7 +7,7 @@ use std::alloc::{AllocError, AllocFailed};
 use thiserror::Error;
 
 /// The network that is looked at.
-#[derive(Debug, Drop)]
+#[derive(Drop)]
 pub enum Input {
     /// That of the files of these names, at least one, in order.
     Files(Vec<String>),
@@ -16,7 +16,7 @@ pub enum Input {
 }
 
 /// What words ask for.
-#[derive(Debug, Drop)]
+#[derive(Drop)]
 pub struct Request {
     /// How many rounds of the routing are made at most, 1 to 10,000.
     pub rounds: u32,

@@ -12,7 +12,7 @@ use std::alloc::{AllocError, Global};
 use std::collections::BTreeMap;
 
 /// An interface of the network: its router, and the interface there.
-#[derive(Clone, Copy, Debug, PartialEq, Eq)]
+#[derive(Clone, Copy, PartialEq, Eq)]
 pub(crate) struct IfacePlace {
     pub(crate) router: RouterId,
     pub(crate) iface: IfaceId,

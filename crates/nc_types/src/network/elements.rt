@@ -10,7 +10,7 @@ use crate::config::{Element, RouterConfig, RouterId};
 use std::alloc::{AllocError, Global};
 
 /// The place of an element: its router, and where it stands among the elements of that router.
-#[derive(Clone, Copy, Debug, PartialEq, Eq)]
+#[derive(Clone, Copy, PartialEq, Eq)]
 pub(crate) struct ElementPlace {
     pub(crate) router: RouterId,
     pub(crate) place: u32,
