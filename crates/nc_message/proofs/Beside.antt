@@ -97,16 +97,24 @@ module _ (routers : List ConfigView) (tables : List (List BaseRow)) (sessions : 
   idle_of p place e idle =
       sym (ap (λ (o : Option ProcessView). option_map_or (λ (q : ProcessView). is_idle_beside q place (entry_at routers tables sessions new router place prefix) (chosen_at new router prefix)) o false) e) ∙ idle
 
+  -- where the router's process chooses the same, the same is chosen anew
+  pub chosen_by_process : ((p : ProcessView) → process_of routers router ≡ Some p → chosen_by p (candidates_at routers tables sessions old router p prefix) ≡ chosen_by p (candidates_at routers tables sessions new router p prefix))
+      → chosen_anew routers tables sessions old router prefix ≡ chosen_anew routers tables sessions new router prefix
+  chosen_by_process same = on (process_of routers router) refl
+    where
+      on : (o : Option ProcessView) → process_of routers router ≡ o → option_map_or (λ p. chosen_by p (candidates_at routers tables sessions old router p prefix)) o [] ≡ option_map_or (λ p. chosen_by p (candidates_at routers tables sessions new router p prefix)) o []
+      on None e = refl
+      on (Some p) e = same p e
+
   -- where a table has what comes from an earlier one, and each neighbor says the same as then, or what leaves that as it stands
   pub same_beside : ((p : ProcessView) → process_of routers router ≡ Some p → 0 < p.max_paths) → chosen_at new router prefix ≡ chosen_anew routers tables sessions old router prefix
       → ((p : ProcessView) → process_of routers router ≡ Some p → made_from (λ place a. aggregate_at routers tables sessions old router place a prefix) 0 p.aggregates ≡ made_from (λ place a. aggregate_at routers tables sessions new router place a prefix) 0 p.aggregates)
       → ((place : ℕ) → (entry_at routers tables sessions old router place prefix ≡ entry_at routers tables sessions new router place prefix) ⊎ (is_idle routers tables sessions new router place prefix ≡ true))
       → chosen_anew routers tables sessions old router prefix ≡ chosen_anew routers tables sessions new router prefix
-  same_beside some stands aggregates each = by_process (process_of routers router) refl
+  same_beside some stands aggregates each = chosen_by_process chosen
     where
-      by_process : (o : Option ProcessView) → process_of routers router ≡ o → option_map_or (λ p. chosen_by p (candidates_at routers tables sessions old router p prefix)) o [] ≡ option_map_or (λ p. chosen_by p (candidates_at routers tables sessions new router p prefix)) o []
-      by_process None e = refl
-      by_process (Some p) e =
+      chosen : (p : ProcessView) → process_of routers router ≡ Some p → chosen_by p (candidates_at routers tables sessions old router p prefix) ≡ chosen_by p (candidates_at routers tables sessions new router p prefix)
+      chosen p e =
           let networks : List Chosen = made_from (λ place n. origin_at routers tables sessions new router place n prefix) 0 p.networks in
           let before : List Chosen = made_from (λ place a. aggregate_at routers tables sessions old router place a prefix) 0 p.aggregates in
           let now : List Chosen = made_from (λ place a. aggregate_at routers tables sessions new router place a prefix) 0 p.aggregates in

@@ -18,6 +18,7 @@ use Rattle.nc_tables.specs.Sessions.{first_of, process_of}
 use Rattle.nc_tables.specs.Rounds.{BgpRowView, Link, Message, made_from, chosen_in, chosen_at, is_active, is_longer_in, session_by, link_at, message_of, message_at, accepted_of, accepted_at, learnt_from, entry_at, begun, origin_at, aggregate_at, candidates_at, chosen_by, chosen_anew, row_of, row_at}
 use Rattle.nc_tables.proofs.ByPrefix.{same_itself}
 use Rattle.nc_tables.proofs.InOrder.{HaveSome, at_head, past_head}
+use Rattle.nc_message.proofs.Beside.{chosen_by_process}
 use Rattle.nc_message.proofs.PeerFirst.{link_session}
 use Rattle.nc_round.specs.Waking.{aggregates_of}
 use Rattle.nc_round.specs.Changes.{HaveCandidates, ReadAlike}
@@ -125,12 +126,7 @@ module _ (routers : List ConfigView) (tables : List (List BaseRow)) (sessions : 
           (made_alike (λ place n. entry_at routers tables sessions old router place prefix) (λ place n. entry_at routers tables sessions new router place prefix) 0 p.neighbors (λ k n i. entry_alike k (alike.heard k)))
 
       chosen_alike : chosen_anew routers tables sessions old router prefix ≡ chosen_anew routers tables sessions new router prefix
-      chosen_alike = on (process_of routers router) refl
-        where
-          on : (o : Option ProcessView) → process_of routers router ≡ o
-              → option_map_or (λ p. chosen_by p (candidates_at routers tables sessions old router p prefix)) o [] ≡ option_map_or (λ p. chosen_by p (candidates_at routers tables sessions new router p prefix)) o []
-          on None e = refl
-          on (Some p) e = ap (chosen_by p) (candidates_alike p e)
+      chosen_alike = chosen_by_process routers tables sessions old new router prefix (λ p e. ap (chosen_by p) (candidates_alike p e))
 
       pub row_alike : row_at routers tables sessions old router prefix ≡ row_at routers tables sessions new router prefix
       row_alike = ap (row_of prefix) chosen_alike

@@ -2,7 +2,7 @@ use nc_tables::Chosen;
 use nc_types::{Prefix, RouterId};
 
 /// What is chosen anew of a prefix at a router, where it differs.
-#[derive(Debug, Drop)]
+#[derive(Drop)]
 pub(crate) struct NewRow {
     pub(crate) router: RouterId,
     pub(crate) prefix: Prefix,

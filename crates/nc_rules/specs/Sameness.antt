@@ -1,6 +1,6 @@
 -- Facts are told apart by their kinds and their numbers.
 use Rattle.std.proofs.Common.{◌≡◌, ◌↔◌, ℕ, Bool, true, false, ◌&&◌, nat_eq, refl, ap, subst, ◌∙◌}
-use Rattle.std.proofs.lemmas.Bool.{eqb-true, eq-eqb}
+use Rattle.std.proofs.lemmas.Bool.{and_parts, eqb-true, eq-eqb}
 use Rattle.nc_types.specs.declared.addr.Addr.{Addr}
 use Rattle.nc_types.specs.declared.config.RouterId.{RouterId}
 use Rattle.nc_types.specs.declared.config.IfaceId.{IfaceId}
@@ -13,10 +13,6 @@ use Rattle.nc_fact.specs.declared.fact.Fact.{Fact}
 use Rattle.nc_fact.specs.declared.fact.Fact.TheVariants.{Element, Connected, Static, Base, Resolve, NetSource, Reach, Hop, Session, Origin, Contrib, Aggregate, Message, Entry, Chosen, Main, Step, Trace, AllStep, AllTrace}
 use Rattle.nc_rules.specs.Rules.{same_fact}
 
-both : (a b : Bool) → (a && b) ≡ true → (a ≡ true) × (b ≡ true)
-both true b e = (refl, e)
-both false b e = absurd cc
-
 same_router : (r s : RouterId) → nat_eq r.0 s.0 ≡ true → r ≡ s
 same_router r s e = ap (λ (n : ℕ). let id : RouterId = record { 0 = n } in id) (eqb-true r.0 s.0 e)
 
@@ -25,28 +21,28 @@ same_address a b e = ap (λ (n : ℕ). let addr : Addr = record { 0 = n } in add
 
 -- two facts of a router and a further number
 same_two : (make : RouterId → ℕ → Fact) (r s : RouterId) (k l : ℕ) → (nat_eq r.0 s.0 && nat_eq k l) ≡ true → make r k ≡ make s l
-same_two make r s k l e = let parts = both (nat_eq r.0 s.0) (nat_eq k l) e in ap (λ (id : RouterId). make id k) (same_router r s parts.0) ∙ ap (make s) (eqb-true k l parts.1)
+same_two make r s k l e = let parts = and_parts (nat_eq r.0 s.0) (nat_eq k l) e in ap (λ (id : RouterId). make id k) (same_router r s parts.0) ∙ ap (make s) (eqb-true k l parts.1)
 
 -- two facts of a router, a further number and a prefix
 same_three : (make : RouterId → ℕ → Cidr → Fact) (r s : RouterId) (k l : ℕ) (p q : Cidr) → (nat_eq r.0 s.0 && (nat_eq k l && same_prefix p q)) ≡ true → make r k p ≡ make s l q
 same_three make r s k l p q e =
-    let parts = both (nat_eq r.0 s.0) (nat_eq k l && same_prefix p q) e in
-    let more = both (nat_eq k l) (same_prefix p q) parts.1 in
+    let parts = and_parts (nat_eq r.0 s.0) (nat_eq k l && same_prefix p q) e in
+    let more = and_parts (nat_eq k l) (same_prefix p q) parts.1 in
     ap (λ (id : RouterId). make id k p) (same_router r s parts.0) ∙ ap (λ (n : ℕ). make s n p) (eqb-true k l more.0) ∙ ap (make s l) (same_prefix_is p q more.1)
 
 -- two facts of a router, an address and so many hops
 same_way : (make : RouterId → Addr → ℕ → Fact) (r s : RouterId) (a b : Addr) (m n : ℕ) → (nat_eq r.0 s.0 && (nat_eq a.0 b.0 && nat_eq m n)) ≡ true → make r a m ≡ make s b n
 same_way make r s a b m n e =
-    let parts = both (nat_eq r.0 s.0) (nat_eq a.0 b.0 && nat_eq m n) e in
-    let more = both (nat_eq a.0 b.0) (nat_eq m n) parts.1 in
+    let parts = and_parts (nat_eq r.0 s.0) (nat_eq a.0 b.0 && nat_eq m n) e in
+    let more = and_parts (nat_eq a.0 b.0) (nat_eq m n) parts.1 in
     ap (λ (id : RouterId). make id a m) (same_router r s parts.0) ∙ ap (λ (addr : Addr). make s addr m) (same_address a b more.0) ∙ ap (make s b) (eqb-true m n more.1)
 
 -- two facts of a router, an address, a place and so many hops
 same_hop : (make : RouterId → Addr → ℕ → ℕ → Fact) (r s : RouterId) (a b : Addr) (k l m n : ℕ) → (nat_eq r.0 s.0 && (nat_eq a.0 b.0 && (nat_eq k l && nat_eq m n))) ≡ true → make r a k m ≡ make s b l n
 same_hop make r s a b k l m n e =
-    let parts = both (nat_eq r.0 s.0) (nat_eq a.0 b.0 && (nat_eq k l && nat_eq m n)) e in
-    let more = both (nat_eq a.0 b.0) (nat_eq k l && nat_eq m n) parts.1 in
-    let last = both (nat_eq k l) (nat_eq m n) more.1 in
+    let parts = and_parts (nat_eq r.0 s.0) (nat_eq a.0 b.0 && (nat_eq k l && nat_eq m n)) e in
+    let more = and_parts (nat_eq a.0 b.0) (nat_eq k l && nat_eq m n) parts.1 in
+    let last = and_parts (nat_eq k l) (nat_eq m n) more.1 in
     ap (λ (id : RouterId). make id a k m) (same_router r s parts.0) ∙ ap (λ (addr : Addr). make s addr k m) (same_address a b more.0) ∙ ap (λ (row : ℕ). make s b row m) (eqb-true k l last.0) ∙ ap (make s b l) (eqb-true m n last.1)
 
 pub same_is : (x y : Fact) → same_fact x y ≡ true → x ≡ y
@@ -55,7 +51,7 @@ same_is (Connected r i) (Connected s j) h = same_two (λ (id : RouterId) (n : �
 same_is (Static r k) (Static s l) h = same_two Static r s k l h
 same_is (Base r k) (Base s l) h = same_two Base r s k l h
 same_is (Resolve r a) (Resolve s b) h = same_two (λ (id : RouterId) (n : ℕ). Resolve id (record { 0 = n })) r s a.0 b.0 h
-same_is (NetSource r p) (NetSource s q) h = let parts = both (nat_eq r.0 s.0) (same_prefix p q) h in ap (λ (id : RouterId). NetSource id p) (same_router r s parts.0) ∙ ap (NetSource s) (same_prefix_is p q parts.1)
+same_is (NetSource r p) (NetSource s q) h = let parts = and_parts (nat_eq r.0 s.0) (same_prefix p q) h in ap (λ (id : RouterId). NetSource id p) (same_router r s parts.0) ∙ ap (NetSource s) (same_prefix_is p q parts.1)
 same_is (Reach r a m) (Reach s b n) h = same_way Reach r s a b m n h
 same_is (Hop r a k m) (Hop s b l n) h = same_hop Hop r s a b k l m n h
 same_is (Session r k) (Session s l) h = same_two Session r s k l h
@@ -65,8 +61,8 @@ same_is (Aggregate r k) (Aggregate s l) h = same_two Aggregate r s k l h
 same_is (Message r k p) (Message s l q) h = same_three Message r s k l p q h
 same_is (Entry r k p) (Entry s l q) h = same_three Entry r s k l p q h
 same_is (Chosen r p k) (Chosen s q l) h =
-    let parts = both (nat_eq r.0 s.0) (same_prefix p q && nat_eq k l) h in
-    let more = both (same_prefix p q) (nat_eq k l) parts.1 in
+    let parts = and_parts (nat_eq r.0 s.0) (same_prefix p q && nat_eq k l) h in
+    let more = and_parts (same_prefix p q) (nat_eq k l) parts.1 in
     ap (λ (id : RouterId). Chosen id p k) (same_router r s parts.0) ∙ ap (λ (c : Cidr). Chosen s c k) (same_prefix_is p q more.0) ∙ ap (Chosen s q) (eqb-true k l more.1)
 same_is (Main r k) (Main s l) h = same_two Main r s k l h
 same_is (Step r a k m) (Step s b l n) h = same_hop Step r s a b k l m n h

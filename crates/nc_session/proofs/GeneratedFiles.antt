@@ -5,6 +5,7 @@ use Rattle.std.specs.Fmt.{decimal}
 use Rattle.std.proofs.lemmas.Fmt.{IsAscii-decimal}
 use Rattle.std.specs.Str.{IsUtf8, IsAscii, bytes_eq}
 use Rattle.std.specs.Option.{option_map_or}
+use Rattle.std.proofs.lemmas.Bool.{and_parts}
 use Rattle.std.proofs.lemmas.Bool.Decides.{eqb_tells, nat_tests}
 use Rattle.std.proofs.lemmas.List.Elements.{All-nil, All-cons}
 use Rattle.std.proofs.lemmas.Slice.Eq.{bytes_eq-Decides}
@@ -55,10 +56,6 @@ names_are : (k : ℕ) → is_size k ≡ true → map name_of_file (fat_tree k).f
 unfolding fat_tree file_of file_name name_of routers numbered name_by
 names_are k is = sizes (λ k. map name_of_file (fat_tree k).files ≡ map name_by (numbered k)) k is refl refl refl refl
 
-both : (x y : Bool) → (x && y) ≡ true → (x ≡ true) × (y ≡ true)
-both true y holds = (refl, holds)
-both false y holds = absurd cc
-
 number_text : (n : ℕ) → nat_lt n 256 ≡ true → IsUtf8 (decimal n)
 number_text n small =
     let few : n < 256 = grind (arith, nat_tests, small) in
@@ -83,8 +80,8 @@ unfolding are_small name_by
 name_text (Core n) small =
     IsUtf8-append (codes "c" ++ decimal n) (codes ".cfg") (IsUtf8-append (codes "c") (decimal n) (letter_text 99 refl) (number_text n small)) suffix_text
 name_text (InPod letter pod place) small =
-    let first = both (nat_lt letter 128) (nat_lt pod 256 && nat_lt place 256) small in
-    let others = both (nat_lt pod 256) (nat_lt place 256) first.1 in
+    let first = and_parts (nat_lt letter 128) (nat_lt pod 256 && nat_lt place 256) small in
+    let others = and_parts (nat_lt pod 256) (nat_lt place 256) first.1 in
     let numbers = IsUtf8-append (decimal pod) (codes "_" ++ decimal place) (number_text pod others.0)
     (IsUtf8-append (codes "_") (decimal place) (letter_text 95 refl) (number_text place others.1)) in
     IsUtf8-append ((letter ∷ []) ++ (decimal pod ++ (codes "_" ++ decimal place))) (codes ".cfg")
@@ -93,7 +90,7 @@ name_text (InPod letter pod place) small =
 each_text : (rs : List Numbered) → list_all are_small rs ≡ true → All IsUtf8 (map name_by rs)
 each_text [] small = All-nil IsUtf8
 each_text (r ∷ rs) small =
-    let parts = both (are_small r) (list_all are_small rs) small in
+    let parts = and_parts (are_small r) (list_all are_small rs) small in
     All-cons IsUtf8 (name_by r) (map name_by rs) (name_text r parts.0) (each_text rs parts.1)
 
 -- the names of files that were made
