@@ -15,7 +15,7 @@ use std::marker::Model;
 use std::mem;
 
 /// Whether the session goes on behind a line.
-#[derive(Clone, Copy, Debug, PartialEq, Eq)]
+#[derive(Clone, Copy, PartialEq, Eq)]
 pub enum Flow {
     Go,
     /// The line ends the session.
@@ -59,6 +59,13 @@ fn hand_on(reply: &mut Vec<u8>, out: &mut Vec<u8>) -> Result<(), AllocError>
         return Ok(());
     }
     out.extend_from_slice(reply)
+}
+
+// Lets go of what an engine keeps of its session.
+fn spend(work: &mut Option<Work>)
+    ensures { work.new ≡ None }
+{
+    *work = None;
 }
 
 impl Engine {
@@ -111,17 +118,18 @@ impl Engine {
         ensures drawn { OnOk result (ForSome self.new HasDrawn) }
         ensures spent { OnErr result ((self.new ≡ None) × (out.new.items ≡ out.old.items)) }
     {
-        let Some(mut work) = self.work.take() else {
+        let Some(work) = &mut self.work else {
             return Err(AllocError);
         };
         self.reply.clear();
         let Ok(flow) = work.answer(alloc, line, &self.files, &mut self.reply) else {
+            spend(&mut self.work);
             return Err(AllocError);
         };
         let Ok(()) = hand_on(&mut self.reply, out) else {
+            spend(&mut self.work);
             return Err(AllocError);
         };
-        self.work = Some(work);
         Ok(flow)
     }
 }

@@ -12,7 +12,7 @@ use std::alloc::{AllocError, AllocFailed, Global};
 const PIECE: usize = 8192;
 
 /// Why work stopped before its end.
-#[derive(Clone, Copy, Debug, PartialEq, Eq)]
+#[derive(Clone, Copy, PartialEq, Eq)]
 pub(crate) enum Stop {
     /// The outside failed.
     Outside,

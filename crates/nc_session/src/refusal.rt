@@ -12,7 +12,7 @@ use nc_types::Cause;
 use std::alloc::{AllocError, AllocFailed};
 
 /// What is counted before the session, and may be too many.
-#[derive(Clone, Copy, Debug, PartialEq, Eq)]
+#[derive(Clone, Copy, PartialEq, Eq)]
 pub enum Quantity {
     /// The files that the words name.
     Routers,
@@ -53,7 +53,7 @@ impl From<LimitWord> for Quantity {
 }
 
 /// Why a line of a file is refused.
-#[derive(Clone, Copy, Debug, PartialEq, Eq)]
+#[derive(Clone, Copy, PartialEq, Eq)]
 pub enum Reason {
     /// A statement that is read, but not in this form.
     Syntax,
@@ -105,7 +105,7 @@ impl From<Cause> for Reason {
 }
 
 /// Why the files give no network.
-#[derive(Clone, Copy, Debug, PartialEq, Eq)]
+#[derive(Clone, Copy, PartialEq, Eq)]
 pub(crate) enum LoadFault {
     /// A file couldn't be entered or read.
     Outside,
