@@ -1,6 +1,7 @@
 //! How long `and` takes on diagrams of many nodes: two chains of variables, and two chains of clauses of two
-//! variables, each over every second variable.
-ghost use Rattle.std.specs.Prelude.{◌<◌, ◌+◌, ◌*◌, ◌^◌, IfOk, OnOk};
+//! variables, each over every second variable; and how long it takes to tell which of the two functions implies
+//! the other. From one diagram to its ends lead more ways than could be gone one by one.
+ghost use Rattle.std.specs.Prelude.{◌≡◌, ◌<◌, ◌+◌, ◌*◌, ◌^◌, IfOk, OnOk};
 ghost use Rattle.nc_diagram.specs.Diagrams.{Belongs};
 ghost use Rattle.bench.specs.Held.{HoldsOn};
 
@@ -42,17 +43,35 @@ fn clauses(store: &mut Store, first: u32, count: u32) -> Result<Ref, StoreFault>
     Ok(all)
 }
 
-// Times the conjunction of two functions of a store.
+// Times how it is told whether one function of a store implies another.
+fn measure_counter(rt: &HostRuntime, name: &str, store: &mut Store, a: Ref, b: Ref) -> Result<()>
+    requires a { Belongs store.old.nodes a }
+    requires b { Belongs store.old.nodes b }
+    ensures unchanged { store.new ≡ store.old }
+{
+    let start = Instant::now(rt)?;
+    let missing = store.counter(a, b)?;
+    let micros = start.elapsed(rt)?.as_micros();
+    match missing {
+        None => println!(rt; "{name}: implied")?,
+        Some(missing) => println!(rt; "{name}: not implied, variables missing: {}", missing.len())?,
+    }
+    tell_time(rt, name, "microseconds", micros)
+}
+
+// Times the conjunction of two functions of a store, and what implies what.
 fn measure_and(rt: &HostRuntime, name: &str, store: &mut Store, a: Ref, b: Ref) -> Result<()>
     requires a { Belongs store.old.nodes a }
     requires b { Belongs store.old.nodes b }
 {
     let before = store.len();
     let start = Instant::now(rt)?;
-    let _both = store.and(a, b)?;
+    let both = store.and(a, b)?;
     let micros = start.elapsed(rt)?.as_micros();
     println!(rt; "{name}: nodes {before} to {}", store.len())?;
-    tell_time(rt, name, "microseconds", micros)
+    tell_time(rt, name, "microseconds", micros)?;
+    measure_counter(rt, "both to one", store, both, a)?;
+    measure_counter(rt, "one to both", store, a, both)
 }
 
 // The conjunction of two chains of variables.

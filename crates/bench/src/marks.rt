@@ -1,5 +1,5 @@
 //! How long the marks take that grow with a graph: of layers of disjunctive facts, of one fact over many
-//! leaves, and of the last of many hops.
+//! leaves, and of the last of many hops; and the marks by diagrams, in a store with room and in one without.
 ghost use Rattle.std.specs.Prelude.{◌≡◌, ◌<◌, true, length, All};
 ghost use Rattle.nc_marks.specs.Marks.{marked_elements};
 ghost use Rattle.bench.specs.Table.{flow_of};
@@ -8,8 +8,11 @@ use crate::shapes::{LAYER_ELEMENTS, Shape};
 use crate::table::{Table, TableRules};
 use crate::telling::tell_time;
 use anyhow::Result;
+use nc_diagram::Store;
+use nc_formula::Formulas;
 use nc_graph::graph::Graph;
 use nc_graph::node::NodeId;
+use nc_marks::by_diagrams::marks_by_diagrams;
 use nc_marks::kept::KeptMarks;
 use nc_marks::mark::{Mark, Marks};
 use nc_types::ElementId;
@@ -20,6 +23,22 @@ const LAYER_FACTS: u32 = 130_000;
 const WIDTH: u32 = 20_000;
 
 const HOPS: u32 = 250;
+
+const FEW_HOPS: u32 = 20;
+
+// The nodes that a store has room for.
+const ROOM: u32 = 1_000_000;
+
+/// By what the marks are found.
+#[derive(Clone, Copy)]
+enum Method {
+    /// By the sets of strong elements, which are kept.
+    Sets,
+    /// By diagrams, in a store with room for them.
+    Diagrams,
+    /// By diagrams, in a store for one node.
+    TooManyDiagrams,
+}
 
 // How many elements have a mark.
 fn count(marks: &Marks, elements: u32, mark: Mark) -> u32
@@ -43,7 +62,7 @@ fn are_nodes(graph: &Graph<u32>, nodes: &[NodeId]) -> bool
 }
 
 // What the marks of tested facts came to, and how long they took.
-#[derive(Clone, Copy, Debug, PartialEq, Eq)]
+#[derive(Clone, Copy)]
 struct Outcome {
     facts: u32,
     strong: u32,
@@ -65,8 +84,20 @@ impl Outcome {
     }
 }
 
-// Times the marks for nodes of a graph, and counts them over so many elements.
-fn time_marks(
+// What the marks over so many elements came to.
+fn counted(facts: u32, marks: &Marks, elements: u32, micros: u128) -> Outcome
+    requires { marked_elements marks.now ≡ elements }
+{
+    Outcome {
+        facts,
+        strong: count(marks, elements, Mark::Strong),
+        weak: count(marks, elements, Mark::Weak),
+        micros,
+    }
+}
+
+// Times the marks for nodes of a graph, by sets, and counts them over so many elements.
+fn time_sets(
     rt: &HostRuntime,
     elements: u32,
     graph: &Graph<u32>,
@@ -78,57 +109,110 @@ fn time_marks(
     let start = Instant::now(rt)?;
     kept.add(graph, nodes)?;
     let micros = start.elapsed(rt)?.as_micros();
-    Ok(Outcome {
-        facts: graph.len(),
-        strong: count(kept.marks(), elements, Mark::Strong),
-        weak: count(kept.marks(), elements, Mark::Weak),
-        micros,
-    })
+    Ok(counted(graph.len(), kept.marks(), elements, micros))
 }
 
-// Measures the marks of tested facts.
-fn measure_facts(
+// The same by diagrams, in a store that has room for them, or room for one node.
+fn time_diagrams(
     rt: &HostRuntime,
-    name: &str,
-    table: &Table,
     elements: u32,
-    facts: &[u32],
-) -> Result<()>
-    requires { All (λ f. (flow_of table.now).holds f ≡ true) facts.now }
+    graph: &Graph<u32>,
+    nodes: &[NodeId],
+    has_room: bool,
+) -> Result<Outcome>
+    requires { All (λ p. p.0 < length graph.now.facts) nodes.now }
 {
-    let mut graph = Graph::new(rt.alloc(), u32::MAX);
-    let nodes = graph.add(&mut TableRules::new(table), facts)?;
-    if !are_nodes(&graph, &nodes) {
-        return Ok(());
-    }
-    let outcome = time_marks(rt, elements, &graph, &nodes)?;
-    outcome.tell(rt, name)
+    let limit = if has_room { ROOM } else { 1 };
+    let mut store = Store::new(rt.alloc(), limit);
+    let mut formulas = Formulas::new(rt.alloc());
+    let start = Instant::now(rt)?;
+    let marks = marks_by_diagrams(
+        rt.alloc(),
+        graph,
+        &mut formulas,
+        &mut store,
+        elements,
+        nodes,
+    )?;
+    let micros = start.elapsed(rt)?.as_micros();
+    Ok(counted(graph.len(), &marks, elements, micros))
 }
 
-// The marks for the last fact of a shape.
-fn measure_last(
-    rt: &HostRuntime,
-    name: &str,
-    shape: Shape,
-    facts: u32,
+// What is measured: under which name, by what, and over how many elements.
+#[derive(Clone, Copy)]
+struct Subject {
+    name: &'static str,
+    method: Method,
     elements: u32,
-) -> Result<()> {
-    let table = shape.table(rt.alloc(), facts)?;
-    let Some(last) = table.last() else {
-        return Ok(());
-    };
-    measure_facts(rt, name, &table, elements, &[last])
+}
+
+impl Subject {
+    // What has this name.
+    fn new(name: &'static str, method: Method, elements: u32) -> Subject {
+        Subject {
+            name,
+            method,
+            elements,
+        }
+    }
+
+    // Measures the marks of tested facts.
+    fn measure_facts(self, rt: &HostRuntime, table: &Table, facts: &[u32]) -> Result<()>
+        requires { All (λ f. (flow_of table.now).holds f ≡ true) facts.now }
+    {
+        let mut graph = Graph::new(rt.alloc(), u32::MAX);
+        let nodes = graph.add(&mut TableRules::new(table), facts)?;
+        if !are_nodes(&graph, &nodes) {
+            return Ok(());
+        }
+        let outcome = match self.method {
+            Method::Sets => time_sets(rt, self.elements, &graph, &nodes)?,
+            Method::Diagrams => time_diagrams(rt, self.elements, &graph, &nodes, true)?,
+            Method::TooManyDiagrams => time_diagrams(rt, self.elements, &graph, &nodes, false)?,
+        };
+        outcome.tell(rt, self.name)
+    }
+
+    // Measures the marks of the last fact of a shape.
+    fn measure_last(self, rt: &HostRuntime, shape: Shape, facts: u32) -> Result<()> {
+        let table = shape.table(rt.alloc(), facts)?;
+        let Some(last) = table.last() else {
+            return Ok(());
+        };
+        self.measure_facts(rt, &table, &[last])
+    }
+}
+
+// By sets: layers, one fact over many leaves, and many hops.
+fn measure_sets(rt: &HostRuntime) -> Result<()> {
+    let layers = Shape::Layers.table(rt.alloc(), LAYER_FACTS)?;
+    let all = layers.facts(rt.alloc())?;
+    let by = Method::Sets;
+    let subject = Subject::new("layers, all tested", by, LAYER_ELEMENTS);
+    subject.measure_facts(rt, &layers, &all)?;
+    let subject = Subject::new("layers, one tested", by, LAYER_ELEMENTS);
+    subject.measure_last(rt, Shape::Layers, LAYER_FACTS)?;
+    let subject = Subject::new("over all leaves", by, WIDTH);
+    subject.measure_last(rt, Shape::Wide(WIDTH), WIDTH + 1)?;
+    let subject = Subject::new("conjunctive hops", by, 4 * HOPS);
+    subject.measure_last(rt, Shape::Hops, 5 * HOPS)?;
+    let subject = Subject::new("hops of two ways", by, 4 * HOPS);
+    subject.measure_last(rt, Shape::Pairs, 7 * HOPS)
+}
+
+// By diagrams: a few hops of two ways.
+fn measure_diagrams(rt: &HostRuntime) -> Result<()> {
+    let elements = 4 * FEW_HOPS;
+    let facts = 7 * FEW_HOPS;
+    let subject = Subject::new("few hops, by diagrams", Method::Diagrams, elements);
+    subject.measure_last(rt, Shape::Pairs, facts)?;
+    let by = Method::TooManyDiagrams;
+    let subject = Subject::new("few hops, by too many diagrams", by, elements);
+    subject.measure_last(rt, Shape::Pairs, facts)
 }
 
 /// Measures all of them.
 pub fn measure(rt: &HostRuntime) -> Result<()> {
-    let layers = Shape::Layers.table(rt.alloc(), LAYER_FACTS)?;
-    let all = layers.facts(rt.alloc())?;
-    measure_facts(rt, "layers, all tested", &layers, LAYER_ELEMENTS, &all)?;
-    let shape = Shape::Layers;
-    measure_last(rt, "layers, one tested", shape, LAYER_FACTS, LAYER_ELEMENTS)?;
-    measure_last(rt, "over all leaves", Shape::Wide(WIDTH), WIDTH + 1, WIDTH)?;
-    measure_last(rt, "conjunctive hops", Shape::Hops, 5 * HOPS, 4 * HOPS)?;
-    measure_last(rt, "hops of two ways", Shape::Pairs, 7 * HOPS, 4 * HOPS)?;
-    Ok(())
+    measure_sets(rt)?;
+    measure_diagrams(rt)
 }

@@ -18,7 +18,7 @@ const BLOCK: u32 = WAYS + 1;
 const LAYER_BLOCKS: u32 = LAYER * BLOCK;
 
 /// A shape: it gives each number its kind and its parents.
-#[derive(Clone, Copy, Debug, PartialEq, Eq)]
+#[derive(Clone, Copy, PartialEq, Eq)]
 pub enum Shape {
     /// Four leaves, and each other number from three lower ones; no derivation is deep.
     Fan,

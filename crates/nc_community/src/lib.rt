@@ -14,8 +14,6 @@ mod joining;
 pub mod laws;
 mod lists;
 mod set;
-#[cfg(test)]
-mod tests;
 mod word;
 
 pub use held::Held;

@@ -13,14 +13,14 @@ use indexmap::IndexMap;
 use std::alloc::{AllocError, Global};
 
 /// What is made of two functions.
-#[derive(Clone, Copy, PartialEq, Eq, Hash, Debug)]
+#[derive(Clone, Copy, PartialEq, Eq, Hash)]
 pub(crate) enum Operator {
     And,
     Or,
 }
 
 /// Two references that an operator combines.
-#[derive(Clone, Copy, PartialEq, Eq, Hash, Debug)]
+#[derive(Clone, Copy, PartialEq, Eq, Hash)]
 pub(crate) struct Pair {
     pub left: u32,
     pub right: u32,

@@ -14,8 +14,6 @@ mod laws;
 mod node;
 mod recent;
 mod store;
-#[cfg(test)]
-mod tests;
 
 pub use fault::StoreFault;
 pub use laws::{law_of_all_but, law_of_fixing};

@@ -16,7 +16,7 @@ pub(crate) const MOST: usize = 65_536;
 pub(crate) const LEAST: usize = 8;
 
 /// An operation on two references.
-#[derive(Clone, Copy, PartialEq, Eq, Hash, Debug)]
+#[derive(Clone, Copy, PartialEq, Eq, Hash)]
 pub(crate) struct Question {
     pub operator: Operator,
     pub pair: Pair,

@@ -1,5 +1,4 @@
 pub mod ChangedLemmas
-pub mod ExampleLaws
 pub mod ForgetLemmas
 pub mod KeptLemmas
 pub mod LawLemmas

@@ -1,4 +1,3 @@
-pub mod Example
 pub mod Kept
 pub mod Marks
 pub mod Needed

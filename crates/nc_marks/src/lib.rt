@@ -27,5 +27,3 @@ pub mod mark;
 mod raise;
 mod reach;
 mod sets;
-#[cfg(test)]
-mod tests;

@@ -18,7 +18,7 @@ use std::hash::Hash;
 use std::marker::Model;
 
 /// How an element or a line is covered by the tests.
-#[derive(Clone, Copy, Debug, PartialEq, Eq, Hash)]
+#[derive(Clone, Copy, PartialEq, Eq, Hash)]
 pub enum Mark {
     /// The element stands in every derivation of some tested fact.
     Strong,

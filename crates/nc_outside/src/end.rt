@@ -4,7 +4,7 @@ ghost use Rattle.nc_outside.specs.Ends.{end_after, end_entered};
 use crate::Failed;
 
 /// What an object keeps of the end of what it gives: whether it told it, and how many reads came behind.
-#[derive(Clone, Copy, Debug, PartialEq, Eq)]
+#[derive(Clone, Copy, PartialEq, Eq)]
 pub struct End {
     /// Whether a read of some room answered 0 since the object was made, or since a file was entered.
     pub is_told: bool,

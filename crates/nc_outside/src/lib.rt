@@ -24,5 +24,5 @@ pub use source::Source;
 pub use system::{FolderFiles, StdinSource, StdoutSink};
 
 /// A call of the outside didn't do what it was asked for.
-#[derive(Clone, Copy, Debug, PartialEq, Eq)]
+#[derive(Clone, Copy, PartialEq, Eq)]
 pub struct Failed;

@@ -240,6 +240,3 @@ impl<W: Write + Drop> Sink for StdoutSink<W> {
         }
     }
 }
-
-#[cfg(test)]
-mod tests;

@@ -1,18 +1,11 @@
-//! Runs over objects in memory that are cut, that fail or that meet a limit.
+//! Runs that are cut, that fail or that meet a limit.
 //!
 //! A session comes in pieces or with carriage returns; each call of the files, of the session's
 //! source and of the sink fails in turn; the sink has little room; a file is cut behind each of its
-//! bytes; words and files are refused; and each limit is met and passed. Each run is compared with
-//! what is expected. The program prints a line for each kind of such runs and, last, how many kinds
-//! passed; it ends with 1 where one failed. What it prints is compared with a stored text, so a
-//! kind is added without a proof.
-//!
-//! One promise is proved besides safety: [`steady::run_in_memory`], over objects of which none can
-//! fail, ends as the words, the files and the session have it, or for want of memory. The crate
-//! stands on `nc_session` for the run, on `nc_outside` for the objects in memory and on `nc_types` for
-//! names.
-#![tactic(auto)]
+//! bytes; words and files are refused; and each limit is met and passed. Beside the runs stands what
+//! no run shows: the adapters over the system where that fails, and sets of communities in memory.
 
+mod adapters;
 mod cutting;
 mod ending;
 mod example;
@@ -23,17 +16,18 @@ mod lines;
 mod network;
 mod refusals;
 mod row;
-mod steady;
+mod sets;
+pub mod steady;
 mod trial;
 
+use crate::tally::Tally;
 use example::{Example, PAIR, ROUTE, SINGLE, WAYS};
 use judging::Verdict;
 use nc_session::Status;
 use network::Network;
 use row::Row;
 use std::alloc::{AllocError, Global};
-use std::io;
-use std::process::ExitCode;
+use std::io::Result as IoResult;
 use steady::run_in_memory;
 
 // The row of a run over objects that can't fail.
@@ -46,7 +40,8 @@ fn steady_row(alloc: Global, example: &Example) -> Result<Row, AllocError> {
 }
 
 // All rows, in order.
-fn all_rows(alloc: Global) -> Result<Vec<Row>, AllocError> {
+fn all_rows(rt: &HostRuntime) -> IoResult<Vec<Row>> {
+    let alloc = rt.alloc();
     let mut rows = Vec::new(alloc);
     rows.push(steady_row(alloc, &PAIR)?)?;
     rows.push(steady_row(alloc, &SINGLE)?)?;
@@ -64,19 +59,22 @@ fn all_rows(alloc: Global) -> Result<Vec<Row>, AllocError> {
     refusals::add_refusals(alloc, &mut rows)?;
     lines::add_long_lines(alloc, &mut rows)?;
     limits::add_limits(alloc, &mut rows)?;
+    adapters::add_adapters(rt, &mut rows)?;
+    rows.push(Row::new("communities", "sets in memory", sets::sets_are_made(alloc)?))?;
     Ok(rows)
 }
 
-fn main(rt: HostRuntime) -> io::Result<ExitCode> {
-    let rows = all_rows(rt.alloc())?;
-    let mut passed = 0usize;
+/// Makes the runs of each kind, and prints a line for it.
+///
+/// # Errors
+///
+/// Memory that runs out, and lines that can't be written.
+pub fn try_rows(rt: &HostRuntime) -> IoResult<Tally> {
+    let rows = all_rows(rt)?;
+    let mut tally = Tally::new();
     for row in &rows {
         println!(rt; "{row}")?;
-        if row.verdict.is_fine() {
-            passed = passed.saturating_add(1);
-        }
+        tally.count(row.verdict.is_fine());
     }
-    let failed = rows.len().saturating_sub(passed);
-    println!(rt; "{passed} passed, {failed} failed")?;
-    Ok(ExitCode::from(u8::from(failed > 0)))
+    Ok(tally)
 }

@@ -1,7 +1,7 @@
 //! One worked case: what a run is given, and what is expected of it.
 
-use crate::check::first_broken;
-use crate::verdict::Verdict;
+use crate::cases::check::first_broken;
+use crate::cases::verdict::Verdict;
 use nc_outside::{MemFile, MemFiles, MemSink, MemSource};
 use nc_session::run;
 use nc_types::Text;

@@ -1,6 +1,6 @@
 //! What a run must come to, and what is said of runs that are judged.
 
-use crate::trial::{Ran, Trial};
+use crate::failing::trial::{Ran, Trial};
 use nc_session::Status;
 use std::alloc::{AllocError, Global};
 use std::fmt::{self, Display, Formatter, Write};
@@ -41,6 +41,8 @@ pub enum Verdict {
     Fine(u64),
     /// The run of this number, from 0, ended with this status, and that or what it wrote is wrong.
     Wrong { run: u64, status: u8 },
+    /// Calls were made beside any run, and each was answered as it must be, or not.
+    Called(bool),
 }
 
 impl Verdict {
@@ -102,16 +104,17 @@ impl Verdict {
         }
     }
 
-    /// Whether all runs came to what they must.
+    /// Whether all runs and calls came to what they must.
     pub fn is_fine(self) -> bool {
-        matches!(self, Verdict::Fine(_))
+        matches!(self, Verdict::Fine(_) | Verdict::Called(true))
     }
 }
 
 impl Display for Verdict {
     fn fmt<W: Write>(&self, f: &mut Formatter<W>) -> fmt::Result {
         match self {
-            Verdict::Fine(1) => write!(f, "ok"),
+            Verdict::Fine(1) | Verdict::Called(true) => write!(f, "ok"),
+            Verdict::Called(false) => write!(f, "FAILED"),
             Verdict::Fine(runs) => write!(f, "ok, {runs} runs"),
             Verdict::Wrong { run, status } => { write!(f, "FAILED, run {run} ended with {status}") }
         }

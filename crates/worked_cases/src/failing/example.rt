@@ -1,6 +1,6 @@
 //! Four small networks with a session and its replies, which were worked out by hand.
 
-use crate::network::{Config, Network};
+use crate::failing::network::{Config, Network};
 use std::alloc::{AllocError, Global};
 
 /// A line of a session, without its end, and its reply.
