@@ -3,8 +3,8 @@
 //!
 //! What is counted goes to the standard output, where the gate compares it; times go to the standard error. The
 //! graphs are tables of any shape, made by plain loops ([`table::Table`]), which an engine's graph reads as it
-//! reads the rules of a network. It stands on `nc_graph`, `nc_marks` and `nc_diagram`, and promises nothing but
-//! that each table is a lawful flow graph.
+//! reads the rules of a network. It stands on `nc_graph`, `nc_marks`, `nc_diagram` and `nc_formula`, and promises
+//! nothing but that each table is a lawful flow graph.
 #![tactic(auto)]
 
 mod diagrams;

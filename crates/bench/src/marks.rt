@@ -200,15 +200,19 @@ fn measure_sets(rt: &HostRuntime) -> Result<()> {
     subject.measure_last(rt, Shape::Pairs, 7 * HOPS)
 }
 
-// By diagrams: a few hops of two ways.
+// By diagrams: a few hops of two ways, of which nothing is strong, and a few conjunctive ones, of which all is.
 fn measure_diagrams(rt: &HostRuntime) -> Result<()> {
     let elements = 4 * FEW_HOPS;
-    let facts = 7 * FEW_HOPS;
-    let subject = Subject::new("few hops, by diagrams", Method::Diagrams, elements);
-    subject.measure_last(rt, Shape::Pairs, facts)?;
+    let by = Method::Diagrams;
+    let subject = Subject::new("few hops, by diagrams", by, elements);
+    subject.measure_last(rt, Shape::Pairs, 7 * FEW_HOPS)?;
+    let subject = Subject::new("few conjunctive hops, by diagrams", by, elements);
+    subject.measure_last(rt, Shape::Hops, 5 * FEW_HOPS)?;
     let by = Method::TooManyDiagrams;
     let subject = Subject::new("few hops, by too many diagrams", by, elements);
-    subject.measure_last(rt, Shape::Pairs, facts)
+    subject.measure_last(rt, Shape::Pairs, 7 * FEW_HOPS)?;
+    let subject = Subject::new("few conjunctive hops, by too many diagrams", by, elements);
+    subject.measure_last(rt, Shape::Hops, 5 * FEW_HOPS)
 }
 
 /// Measures all of them.
