@@ -88,13 +88,22 @@ def beside(net):
     yield from ("show nobody", "show", "lcov r1", "json json")
 
 
-def with_questions(asks):
+def cut_question(net, count):
+    """A question for the least cut of one of so many tests, of all routers or of all but some, often of all but the first and the last."""
+    names = [named(net, r) for r in range(len(net.routers))]
+    kept = R.choice([[], names[:1] + names[-1:], R.choices(names, k=R.choice([1, 1, 2, 3]))]) + ["nobody"] * (R.random() < 0.03)
+    return " ".join([f"cut {R.randint(1, count)}"] + ["keep"] * bool(kept) + kept)
+
+
+def with_questions(net, asks):
     """The lines, with questions about tests between them, and some forgotten."""
     lines = []
     for count, line in enumerate(asks, 1):
         lines.append(line)
         if R.random() < 0.3:
             lines.append(f"implies {R.randint(1, count)} {R.randint(1, count)}")
+        if R.random() < 0.4:
+            lines.append(cut_question(net, count))
         if R.random() < 0.1:
             lines.append(f"forget {R.randint(1, count)}")
     return lines
@@ -104,4 +113,4 @@ def some_there(files, names, count):
     """So many tests of what is there, where the files go together and routing settles soon."""
     net, rounds = joined(files, names)
     present = there(net) if rounds else []
-    return with_questions(R.sample(present, min(len(present), count)))
+    return with_questions(net, R.sample(present, min(len(present), count)))

@@ -1,5 +1,10 @@
 """Which sets of elements carry facts, and the greatest that carries one test and not another, by trying sets."""
-from facts import closure, parents
+from functools import reduce
+from operator import and_, or_
+
+from facts import parents
+
+LEAST, MOST, BOTH = 1, 2, 3
 
 
 def in_order(net, facts):
@@ -19,29 +24,58 @@ def in_order(net, facts):
     return order
 
 
-def carries(order, facts, elements):
-    """Whether a set of elements has all elements of some derivation of each fact."""
+def elements_of(order):
+    """The elements among these facts, ascending."""
+    return sorted({f[1] for f, kind, _ in order if kind == "Leaf"})
+
+
+def carried_each(order, every, having):
+    """For each fact which of several sets have all elements of some derivation of it, a bit for each set: every has the bits of all sets,
+    and having gives those of the sets that have an element."""
     carried = {}
     for f, kind, above in order:
-        values = [carried[p] for p in above]
-        carried[f] = f[1] in elements if kind == "Leaf" else any(values) if kind == "Any" else all(values)
-    return all(carried[f] for f in facts)
+        bits = [carried[p] for p in above]
+        carried[f] = having(f[1]) if kind == "Leaf" else reduce(or_, bits, 0) if kind == "Any" else reduce(and_, bits, every)
+    return carried
+
+
+def carried_all(carried, facts, every):
+    """Which of the sets carry all of these facts."""
+    return reduce(and_, [carried[f] for f in facts], every)
+
+
+def undecided(order, carried, facts):
+    """The facts, from these on, that the greater set carries and the lesser one doesn't. They tell all that the elements between the two
+    decide, where the greater set carries all of these facts: of a conjunction that is among them all other parents are carried by both sets,
+    and of a disjunction by none."""
+    wanted, found = set(facts), set()
+    for f, _, above in reversed(order):
+        if f in wanted and carried[f] == MOST:
+            found.add(f)
+            wanted.update(above)
+    return frozenset(found)
 
 
 def lacking(net, first, second):
     """The elements, in order, that the greatest set lacks which carries the first facts and not the second; None where there is none.
 
     A set with a lower element than another, where they first differ, is the greater one: so each element in turn is tried as a member
-    before it is tried as missing. Elements that no derivation has are members.
+    before it is tried as missing, and where the same was left to decide once before, there was no such set. Elements that no derivation
+    has are members.
     """
     order = in_order(net, list(first) + list(second))
-    relevant = sorted({f[1] for f, kind, _ in order if kind == "Leaf"})
-    todo = [(0, frozenset(relevant))]
+    relevant = elements_of(order)
+    todo, seen = [(0, frozenset(relevant))], set()
     while todo:
         place, most = todo.pop()
-        if not carries(order, first, most) or carries(order, second, most - set(relevant[place:])):
+        least = most.difference(relevant[place:])
+        carried = carried_each(order, BOTH, lambda e: MOST * (e in most) | LEAST * (e in least))
+        if not carried_all(carried, first, BOTH) & MOST or carried_all(carried, second, BOTH) & LEAST:
             continue
-        if not carries(order, second, most):
+        if not carried_all(carried, second, BOTH) & MOST:
             return [e for e in relevant if e not in most]
-        todo += [(place + 1, most - {relevant[place]}), (place + 1, most)]
+        left = place, undecided(order, carried, [*first, *second])
+        if left not in seen:
+            seen.add(left)
+            todo += [(place + 1, most - {relevant[place]}), (place + 1, most)]
     return None

@@ -2,13 +2,14 @@
 """Random and systematic cases for the comparison of NetCov with the oracle: files, words and a session each.
 
 Those of route maps and lists alone stand in policies.py, those of processes and sessions in peers.py, those of routes by
-BGP in exchanges.py.
+BGP in exchanges.py, those of several ways in ways.py.
 """
 import oracle
 from exchanges import kind_routes
 from pieces import MASKS, R, Case, b, dotted, mutate_words, named, network, random_banner, render, session_for
 from peers import kind_peers, kind_sides
 from policies import kind_policy
+from ways import kind_ways
 
 TEMPLATES = """hostname r1
 interface Ethernet0
@@ -482,6 +483,7 @@ RANDOM_KINDS = {
     "peers": kind_peers,
     "sides": kind_sides,
     "routes": kind_routes,
+    "ways": kind_ways,
     "names": kind_names,
     "bytes": kind_bytes,
     "banner": kind_banner,

@@ -1,16 +1,14 @@
 #!/usr/bin/env python3
 """Tries wrong edits of the definitions of the routing state, and tells which worked cases refuse each of them.
 
-    python3 oracle/definition_edits.py [--only WORD] [--first N] [--last N] [--list] [--table FILE] [--batch N]
-
 An edit turns one rule of a definition into a wrong one. Each is tried on a copy of the definitions and of the worked
 cases (the files Case* of nc_tables/specs, and two of other crates), in a temporary folder: nothing in the checkout changes.
 It is refused where a theorem of these cases no longer holds. Where the edited text can't be read, or where it isn't found,
 nothing is shown. The copies stand side by side in one small crate over those that are copied, N at a time, so that one
 check tries N edits: first over the cases of the edit's subject, and what these let through over all cases.
 
-WORD picks the edits whose definition or file has it, --first and --last those of these numbers. FILE gets a table of the definitions, their cases and what these
-refuse. The status is 0 where every edit is refused, and else 1. No gate runs this; it takes some minutes.
+The last line counts the edits that were refused, and the status is 1 where one wasn't. All of them take some minutes.
+With --stands nothing is tried: it counts the edits whose text stands once in its file.
 """
 import argparse
 import os
@@ -29,6 +27,8 @@ COPIED = {
     "nc_network": ("Judged", "CaseLists"),
     "nc_community": ("Words", "CaseWords"),
 }
+# What isn't copied of nc_tables: the pieces of a path name what only that crate can see, and no definition of the state names them.
+LEFT_OUT = ("Lib.antt", "Pieces.antt")
 # The crates that have to be there, each with those below it.
 BELOW = ("nc_types", "nc_lines", "nc_community", "nc_network", "nc_tables")
 # The cases of the subject of each file.
@@ -83,7 +83,7 @@ def is_case(name):
 def files_of(top):
     """The text of each definition and case by its name, those of other crates than nc_tables with that of their crate in front."""
     names = [f"{crate}/{name}" for crate, copied in COPIED.items() for name in copied]
-    names += [name[:-5] for name in sorted(os.listdir(f"{top}/crates/nc_tables/specs")) if name.endswith(".antt") and name != "Lib.antt"]
+    names += [name[:-5] for name in sorted(os.listdir(f"{top}/crates/nc_tables/specs")) if name.endswith(".antt") and name not in LEFT_OUT]
     texts = {}
     for name in names:
         crate = name.partition("/")[0] if "/" in name else "nc_tables"
@@ -205,38 +205,64 @@ def table_of(results):
     return "\n".join(lines) + "\n"
 
 
-def main():
-    words = argparse.ArgumentParser(description=__doc__.split("\n")[0])
-    words.add_argument("--only", default="", help="the edits whose definition or file has this word")
-    words.add_argument("--first", type=int, default=1, help="the number of the first edit, from 1")
-    words.add_argument("--last", type=int, default=len(EDITS), help="the number of the last edit")
-    words.add_argument("--list", action="store_true", help="list the edits and try none")
-    words.add_argument("--table", help="write a table of the definitions to this file")
-    words.add_argument("--batch", type=int, default=12, help="how many edits one check tries")
-    given = words.parse_args()
-    picked = [(n, edit) for n, edit in enumerate(EDITS, 1) if given.first <= n <= given.last and (given.only in edit.definition or given.only in edit.file)]
-    if given.list:
-        print("\n".join(f"{n} {edit.definition} ({edit.file}): {edit.meaning}" for n, edit in picked))
-        return 0
-    texts, results = files_of(TOP), []
+def stand(texts, picked):
+    """Prints each edit that no longer fits the definitions; returns how many do."""
+    lacking = [(number, edit) for number, edit in picked if edited(texts, edit) is None]
+    for number, edit in lacking:
+        print(f"failed {number} {edit.definition} ({edit.file}): its text doesn't stand once in its file")
+    return len(picked) - len(lacking)
+
+
+def try_all(texts, picked, size):
+    """Tries the edits, so many at a time, and tells of each; returns each with the theorems that refuse it and what is wrong with it."""
+    results = []
     with tempfile.TemporaryDirectory(prefix="definition-edits-") as room:
         make_room(room)
         write_copies(room, {"E0": texts})
         said = check(room)
         if not re.search(r"^logic=proved", said, re.M):
             sys.exit(f"without an edit the cases don't hold:\n{said[-3000:]}")
-        for at in range(0, len(picked), given.batch):
-            batch = picked[at:at + given.batch]
+        for at in range(0, len(picked), size):
+            batch = picked[at:at + size]
             tried = list(try_batch(room, texts, batch, nearest=True))
             rest = [numbered for numbered, (edit, broken, why) in zip(batch, tried) if not broken and not why]
             again = {edit: (edit, broken, why) for edit, broken, why in try_batch(room, texts, rest)} if rest else {}
             for result in tried:
                 results.append(again.get(result[0], result))
                 print(told(*results[-1]), flush=True)
+    return results
+
+
+def words_given():
+    """The words of the command line."""
+    words = argparse.ArgumentParser(description=__doc__, formatter_class=argparse.RawDescriptionHelpFormatter)
+    words.add_argument("--only", default="", help="the edits whose definition or file has this word")
+    words.add_argument("--first", type=int, default=1, help="the number of the first edit, from 1")
+    words.add_argument("--last", type=int, default=len(EDITS), help="the number of the last edit")
+    words.add_argument("--list", action="store_true", help="list the edits and try none")
+    words.add_argument("--stands", action="store_true", help="look whether the edits fit the definitions, and try none")
+    words.add_argument("--table", metavar="FILE", help="write a table of the definitions, their cases and what these refuse to this file")
+    words.add_argument("--batch", type=int, default=12, help="how many edits one check tries")
+    return words.parse_args()
+
+
+def main():
+    given = words_given()
+    picked = [(n, edit) for n, edit in enumerate(EDITS, 1) if given.first <= n <= given.last and (given.only in edit.definition or given.only in edit.file)]
+    if given.list:
+        print("\n".join(f"{n} {edit.definition} ({edit.file}): {edit.meaning}" for n, edit in picked))
+        return 0
+    texts = files_of(TOP)
+    if given.stands:
+        fitting = stand(texts, picked)
+        print(f"{fitting} passed, {len(picked) - fitting} failed")
+        return 0 if fitting == len(picked) else 1
+    results = try_all(texts, picked, given.batch)
     if given.table:
         write(os.path.abspath(given.table), table_of(results))
     bad = sum(1 for edit, broken, why in results if why or not broken)
     print(f"{len(results)} edits of {len({edit.definition for edit, b, w in results})} definitions: {len(results) - bad} refused, {bad} not")
+    print(f"{len(results) - bad} passed, {bad} failed")
     return 1 if bad else 0
 
 

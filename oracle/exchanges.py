@@ -21,7 +21,7 @@ def with_session(case, many=False):
     else:
         asks = R.sample(present, min(len(present), R.choice([3, 8, 20]))) + R.sample(absent, min(len(absent), R.choice([2, 5, 10])))
         R.shuffle(asks)
-        asks = with_questions(asks)
+        asks = with_questions(net, asks)
     words = list(case.words)
     if not many and R.random() < 0.3:
         n = max(1, (rounds or R.choice([2, 10])) + R.choice([-1, 0, 0, 1]))

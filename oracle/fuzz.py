@@ -1,17 +1,15 @@
 #!/usr/bin/env python3
 """Compares the built program with the oracle over many cases, and shrinks each difference.
 
-    python3 oracle/fuzz.py KIND [COUNT] [SEED]
-
-KIND is one of net, odd, join, static, policy, peers, sides, routes, names, bytes, banner, session, words, which are random and
-take COUNT cases each, or table, grid, policies, processes, exchanges, limits, facts, which are systematic (table takes COUNT
-random changes besides); all is all but facts.
-The program is crates/netcov/out/netcov, or what the variable NETCOV names. A difference goes to a folder of its own,
-which is printed. The status is 1 where there was one. At the end stands what was reached.
+A kind of cases is random, of which COUNT cases are made, or systematic (table makes COUNT random changes besides). The
+kind random is all random ones, and all is all but facts. A difference goes to a folder of its own, which is printed.
+At the end stands what was reached, and last how many cases passed. The status is 1 where a case differs.
 """
+import argparse
 import collections
 import os
 import random
+import shlex
 import shutil
 import subprocess
 import sys
@@ -25,15 +23,17 @@ from peers import peer_cases
 from policies import policy_cases
 
 HERE = os.path.dirname(os.path.abspath(__file__))
-PROGRAM = os.environ.get("NETCOV", os.path.join(HERE, "..", "crates", "netcov", "out", "netcov"))
-PROGRAM = os.path.abspath(PROGRAM)
+BUILT = os.path.join(os.path.dirname(HERE), "crates", "netcov", "out", "netcov")
+SYSTEMATIC = {"table": table_cases, "grid": grid_cases, "policies": policy_cases, "processes": peer_cases,
+              "exchanges": exchange_cases, "limits": limit_cases, "facts": facts_cases}
+compared = []
 reached = collections.Counter()
 total = collections.Counter()
 differences = []
 
 
 def program(words, session):
-    child = subprocess.run([PROGRAM.encode()] + list(words), input=session, stdout=subprocess.PIPE, stderr=subprocess.PIPE, timeout=300)
+    child = subprocess.run(compared + list(words), input=session, stdout=subprocess.PIPE, stderr=subprocess.PIPE, timeout=300)
     return child.returncode, child.stdout
 
 
@@ -111,20 +111,17 @@ def shrink(case, top):
     return case
 
 
-def command_of(line):
-    """The command of a line that is answered, with the word behind its prefix."""
-    w = oracle.words(line)
-    return b" ".join(w[:1] + w[3:4]).decode(errors="replace")
-
-
 def note_tests(session, replies):
-    """Which commands are accepted, and which are absent."""
-    lines = iter(x for x in oracle.served(session)[0] if len(x) > oracle.LIMIT_LINE or oracle.words(x) and oracle.words(x)[0][:1] != b"#")
-    for reply in replies:
-        if reply.startswith((b"test ", b"refused ")) and reply != b"refused limit session":
-            command = command_of(next(lines, b""))
-            if not reply.startswith(b"refused ") or reply.startswith(b"refused absent "):
-                reached[f"{'absent' if reply[:1] == b'r' else 'accepted'} {command}"] += 1
+    """Which tests are accepted, and which are absent."""
+    replies = iter(replies)
+    for w in [oracle.words(line) for line in oracle.served(session)[0] if len(line) <= oracle.LIMIT_LINE]:
+        if not w or oracle.asked_for(w) is None:
+            continue
+        absent = b"refused absent " + b" ".join(w)
+        refused = [absent, b"refused router " + w[1], b"refused line", b"refused limit tests", b"refused limit facts"]
+        reply = next((x for x in replies if x in refused or x.startswith(b"test ")), None)
+        if reply not in refused[1:] + [None]:
+            reached[f"{'absent' if reply == absent else 'accepted'} {b' '.join(w[:1] + w[3:4]).decode()}"] += 1
 
 
 def note(status, out, kind, session):
@@ -138,6 +135,8 @@ def note(status, out, kind, session):
                 reached["reply test"] += 1
             elif w[0] == b"strong" and w[3] != b"0":
                 reached["report with weak lines"] += 1
+            elif w[0] == b"cut":
+                reached["reply cut of " + w[2].decode()] += 1
             elif w[0] == b"refused":
                 reached["reply " + (b" ".join(w[:3]) if w[1] == b"limit" else b" ".join(w[:2])).decode()] += 1
     else:
@@ -167,31 +166,43 @@ def check(case, kind, top):
     return False
 
 
-def systematic(kind, count):
-    """The systematic cases of a kind."""
-    if kind == "table":
-        return table_cases(count)
-    return {"grid": grid_cases, "policies": policy_cases, "processes": peer_cases, "exchanges": exchange_cases, "limits": limit_cases, "facts": facts_cases}[kind]()
-
-
 def cases_of(kind, count):
+    """The cases of a kind."""
     if kind in RANDOM_KINDS:
         return (RANDOM_KINDS[kind]() for _ in range(count))
-    return systematic(kind, count)
+    return SYSTEMATIC[kind](count) if kind == "table" else SYSTEMATIC[kind]()
+
+
+def kinds_of(kind):
+    """The kinds that a word means."""
+    several = {"all": [it for it in SYSTEMATIC if it != "facts"] + list(RANDOM_KINDS), "random": list(RANDOM_KINDS)}
+    return several.get(kind, [kind])
+
+
+def words_given():
+    """The words of the command line."""
+    words = argparse.ArgumentParser(description=__doc__, formatter_class=argparse.RawDescriptionHelpFormatter)
+    kinds = ["all", "random", *RANDOM_KINDS, *SYSTEMATIC]
+    words.add_argument("kind", metavar="KIND", choices=kinds, help="one of " + ", ".join(kinds))
+    words.add_argument("count", metavar="COUNT", nargs="?", type=int, default=1000, help="how many random cases of a kind (1000)")
+    words.add_argument("seed", metavar="SEED", nargs="?", type=int, default=random.SystemRandom().randrange(10**9), help="a number from which the cases follow")
+    words.add_argument("--program", default=os.environ.get("NETCOV", BUILT), help="the command that is compared (what the variable NETCOV names, or the built program)")
+    given = words.parse_args()
+    compared[:] = [os.path.abspath(it).encode() if os.path.exists(it) else it.encode() for it in shlex.split(given.program)]
+    if not compared or shutil.which(compared[0]) is None:
+        words.error(f"there is no program {given.program}")
+    return given
 
 
 def main():
-    kind = sys.argv[1]
-    count = int(sys.argv[2]) if len(sys.argv) > 2 else 1000
-    seed = int(sys.argv[3]) if len(sys.argv) > 3 else random.SystemRandom().randrange(10**9)
-    R.seed(seed)
-    print(f"{kind} {count} seed {seed}", flush=True)
-    kinds = ["table", "grid", "policies", "processes", "exchanges", "limits"] + list(RANDOM_KINDS) if kind == "all" else [kind]
+    given = words_given()
+    R.seed(given.seed)
+    print(f"{given.kind} {given.count} seed {given.seed}", flush=True)
     bad = collections.Counter()
     top = tempfile.mkdtemp(prefix="netcov-cases-")
     try:
-        for k in kinds:
-            for case in cases_of(k, count):
+        for k in kinds_of(given.kind):
+            for case in cases_of(k, given.count):
                 bad[k] += not check(case, k, top)
     finally:
         os.chdir(HERE)
@@ -200,8 +211,9 @@ def main():
         print(f"{k}: {total[k]} cases, {bad[k]} differ")
     for k in sorted(reached):
         print(f"    {reached[k]:8} {k}")
-    sys.exit(1 if sum(bad.values()) else 0)
+    print(f"{sum(total.values()) - sum(bad.values())} passed, {sum(bad.values())} failed")
+    return 1 if sum(bad.values()) else 0
 
 
 if __name__ == "__main__":
-    main()
+    sys.exit(main())

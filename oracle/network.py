@@ -86,6 +86,9 @@ class Net:
     def element(self, r, thing):
         return ("Element", self.before[r] + thing["element"])
 
+    def router_of(self, e):
+        return max(r for r, before in enumerate(self.before) if before <= e and self.routers[r]["elements"])
+
     def longest(self, r, a):
         """The places of the base rows of the longest prefix that covers a."""
         fits = [k for k, row in enumerate(self.tables[r]) if covers(row[0], a)]

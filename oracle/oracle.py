@@ -10,6 +10,7 @@ import os
 import sys
 
 from carriers import lacking
+from cuts import least_cut
 from facts import closure, marks_of
 from network import HOPS, Net, base_table, join
 from paths import arrives
@@ -83,9 +84,16 @@ def numbers_of(w, command, count):
     return found if w[:1] == [command] and len(found) == count and None not in found else None
 
 
+def cut_of(w):
+    """(test's number, names of the routers that are kept) behind `cut`, or None where it isn't that command."""
+    found = numbers_of(w[:2], b"cut", 1)
+    kept = w[3:] if w[2:3] == [b"keep"] else []
+    return None if found is None or len(w) != 2 and not kept else (found[0], kept)
+
+
 def place_of(net, e):
     """The router and the first line of an element, as they are written."""
-    r = max(r for r, before in enumerate(net.before) if before <= e and net.routers[r]["elements"])
+    r = net.router_of(e)
     return net.routers[r]["name"] + b":%d" % min(net.routers[r]["elements"][e - net.before[r]][1])
 
 
@@ -129,11 +137,23 @@ class Conversation:
         head = b"implies %d %d " % (m, n)
         return head + (b"yes\n" if missing is None else b" ".join([b"no without"] + [place_of(self.net, e) for e in missing]) + b"\n")
 
+    def cut(self, n, kept):
+        for name in kept:
+            if name not in self.names:
+                return b"refused router " + name + b"\n"
+        if not self.is_live(n):
+            return b"refused test %d\n" % n
+        cut = least_cut(self.net, self.tests[n - 1], {self.names.index(name) for name in kept})
+        told = [b"none"] if cut is None else [b"%d" % len(cut)] + [place_of(self.net, e) for e in cut]
+        return b" ".join([b"cut %d" % n] + told) + b"\n"
+
     def asked_of_tests(self, w):
         """The reply to a line about tests that were accepted, or None where it isn't one."""
-        forgotten, pair = numbers_of(w, b"forget", 1), numbers_of(w, b"implies", 2)
+        forgotten, pair, cut = numbers_of(w, b"forget", 1), numbers_of(w, b"implies", 2), cut_of(w)
         if forgotten is not None:
             return self.forget(*forgotten)
+        if cut is not None:
+            return self.cut(*cut)
         return None if pair is None else self.implies(*pair)
 
     def told(self, w):

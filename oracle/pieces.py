@@ -367,7 +367,7 @@ def odd_session_line(line):
                          b"bgp r1 10.0.0.0/8", b"bgp r1 10.0.0.0/8 from 10.0.0.2", b"bgp", b"bgp r1", b"bgp r1 10.0.0.1/8", b"bgp r1 10.0.0.0/8 from", b"bgp r1 10.0.0.0/8 from x",
                          b"bgp r1 10.0.0.0/8 via 10.0.0.2", b"bgp r9 10.0.0.0/8", b"bgp r9 10.0.0.0/33", b"bgp r1 10.0.0.0/8 from 10.0.0.2 x", b"BGP r1 10.0.0.0/8", b"session r1 10.0.0.2", b"session", b"session r1", b"session r1 10.0.0.256", b"session r1 10.0.0.2 x", b"session r9 10.0.0.2", b"Session r1 10.0.0.2",
                          b"session r1 10.0.0.0/24", b"session 10.0.0.2", b"session r9 x", b"reach r1 10.0.0.2", b"every r1 10.0.0.2", b"element r1 2", b"element r1 0", b"forget 1",
-                         b"forget 0", b"forget 01", b"forget", b"forget 1 2", b"forget 4294967296", b"implies 1 1", b"implies 1", b"implies 0 1", b"implies 1 1 1", b"implies 1 x", b"show r1", b"lcov", b"json", b"cut 1", b"suite", b"dead", b"flow r1 1.1.1.1 2.2.2.2", b"frob", b"via",
+                         b"forget 0", b"forget 01", b"forget", b"forget 1 2", b"forget 4294967296", b"implies 1 1", b"implies 1", b"implies 0 1", b"implies 1 1 1", b"implies 1 x", b"show r1", b"lcov", b"json", b"cut 1", b"cut", b"cut x", b"cut 0", b"cut 01", b"cut 4294967296", b"cut 1 1", b"cut 1 r1", b"cut 1 keep", b"cut 1 keep r1", b"cut 9 keep r1 r1", b"cut 9 keep r9", b"cut 1 keep keep", b"cut 1 Keep r1", b"cut keep r1", b"suite", b"dead", b"flow r1 1.1.1.1 2.2.2.2", b"frob", b"via",
                          b"rib via 10.0.0.0/8", b"rib r1 10.0.0.0/8 VIA 10.0.0.1", b"rib r1 10.0.0.0 /8", b"rib r1 10.0.0.0/4294967304", b"rib r1 10.0.0.0/8x"])
     if p < 0.9:
         n = R.choice([4095, 4096, 4097, 4098, 5000])

@@ -110,16 +110,17 @@ class Browser:
 
     def press(self, key, shift=False):
         """Presses a key and lets it go."""
-        named = {"Enter": 13, "Escape": 27}
+        named = {"Enter": 13, "Escape": 27, "Tab": 9, "ArrowUp": 38, "ArrowDown": 40}
         common = {"key": key, "modifiers": 8 if shift else 0, "windowsVirtualKeyCode": named.get(key, ord(key[0].upper()))}
         text = "\r" if key == "Enter" else key if len(key) == 1 else ""
         self.call("Input.dispatchKeyEvent", type="keyDown" if text else "rawKeyDown", text=text, **common)
         self.call("Input.dispatchKeyEvent", type="keyUp", **common)
 
     def click(self, selector):
-        """Clicks with the mouse in the middle of an element."""
+        """Clicks with the mouse in the middle of an element, the first that is seen."""
         box = self.run(
-            f"(() => {{ const e = document.querySelector({json.dumps(selector)}); e.scrollIntoView({{block: 'nearest'}});"
+            f"(() => {{ const e = [...document.querySelectorAll({json.dumps(selector)})].find(one => one.getClientRects().length > 0);"
+            " e.scrollIntoView({block: 'nearest'});"
             " const b = e.getBoundingClientRect(); return [b.x + b.width / 2, b.y + b.height / 2] })()"
         )
         for kind in ("mousePressed", "mouseReleased"):
@@ -131,9 +132,15 @@ class Browser:
     def size(self, width, height):
         self.call("Emulation.setDeviceMetricsOverride", width=width, height=height, deviceScaleFactor=1, mobile=False)
 
-    def scheme(self, word):
-        """Says that the user likes a light or a dark page."""
-        self.call("Emulation.setEmulatedMedia", features=[{"name": "prefers-color-scheme", "value": word}])
+    def scheme(self, word, forced="none"):
+        """Says that the user likes a light or a dark page, or that the system forces its own colours on pages."""
+        features = {"prefers-color-scheme": word, "forced-colors": forced}
+        self.call("Emulation.setEmulatedMedia", features=[{"name": name, "value": value} for name, value in features.items()])
+
+    def tree(self):
+        """What readers of screens are told: the role and the name of each thing in the page."""
+        nodes = [node for node in self.call("Accessibility.getFullAXTree")["nodes"] if not node["ignored"]]
+        return [(node["role"]["value"], node.get("name", {}).get("value", "")) for node in nodes]
 
     def picture(self, path):
         data = base64.b64decode(self.call("Page.captureScreenshot", format="png")["data"])

@@ -20,9 +20,10 @@ def check_same_files(page):
     page.read(("before", old.write(FIRST + SHOWS)), side="before", drop=True)
     assert page.messages() == [], page.messages()
     pairs = list(zip(old.routers(), now.routers()))
-    for row, ((_, was), (_, marks)) in zip(page.table(), pairs):
-        changes = [change(chr(a), chr(b)) for a, b in zip(was, marks)]
-        assert row[7:] == [str(changes.count(sign)) for sign in "+−~"] + ["0", "0"], (row, changes)
+    table = {row[0]: row for row in page.table()}
+    for (name, was), (_, marks) in pairs:
+        row, changes = table[name.decode()], [change(chr(a), chr(b)) for a, b in zip(was, marks)]
+        assert row[8:] == [str(changes.count(sign)) for sign in "+−~"] + ["0", "0"], (row, changes)
     assert "Since the earlier session 3 lines became covered, and 0 no longer." in page.run("part('totals').textContent")
     page.go("#r3")
     expected = [[chr(b), str(k + 1), line.decode(), change(chr(a), chr(b)), chr(a)]
@@ -55,7 +56,7 @@ def check_changed_files(page):
     page.go("#r1:8")
     assert page.target() == "8"
     page.go("")
-    assert page.table()[0][7:] == ["1", "1", "0", "3", "2"], page.table()
+    assert page.table()[0][8:] == ["1", "1", "0", "3", "2"], page.table()
 
 
 def check_other_routers(page):
@@ -65,8 +66,8 @@ def check_other_routers(page):
     page.fresh()
     page.read(("old", old), ("now", now))
     table = {row[0]: row[1:] for row in page.table()}
-    assert table["gone only in the earlier session"][6:] == ["0", "0", "0", "0", "2"], table
-    assert table["fresh new"][6:] == ["0", "0", "0", "2", "0"] and table["r1 no text"][6:] == ["0", "0", "0", "4", "3"], table
+    assert table["gone only in the earlier session"][7:] == ["0", "0", "0", "0", "2"], table
+    assert table["fresh new"][7:] == ["0", "0", "0", "2", "0"] and table["r1 no text"][7:] == ["0", "0", "0", "4", "3"], table
     assert any("r1" in text and "can't be put side by side" in text for text in page.messages()), page.messages()
     page.go("#gone")
     assert [[row[3], row[4], row[1]] for row in page.rows()] == [["gone", ".", "1"], ["gone", "S", "2"]], page.rows()

@@ -11,11 +11,13 @@ def check_many(page):
     page.fresh(height=800)
     page.read(("replies", replies_of(routers)))
     table = page.table()
-    assert len(table) == 257 and [row[0] for row in table[:256]] == [name.decode() for name, _, _ in routers]
-    assert [row[3] for row in table[:256]] == [str(marks.count(b"U")) for _, marks, _ in routers]
-    page.click("#routers [data-sort=U]")
-    uncovered = [int(row[3]) for row in page.table()[:256]]
+    told = {row[0]: row[3] for row in table}
+    assert len(table) == 257 and all(told[name.decode()] == str(marks.count(b"U")) for name, marks, _ in routers)
+    uncovered = [int(row[3]) for row in table[:256]]
     assert uncovered == sorted(uncovered, reverse=True)
+    page.click("#routers [data-sort=U]")
+    assert [int(row[3]) for row in page.table()[:256]] == uncovered[::-1]
+    page.click("#routers [data-sort=U]")
     first = page.table()[0][0]
     name, marks, lines = next(router for router in routers if router[0].decode() == first)
     page.press_all("n")
@@ -64,7 +66,7 @@ def check_compared(page):
     begun = time.monotonic()
     page.read(("was", replies_of([(name, marks, lines)])), ("now", replies_of([(name, b"." + b"S" * (len(changed) - 1), changed)])))
     assert time.monotonic() - begun < 2 * STILL, time.monotonic() - begun
-    gone, new = (int(page.table()[0][k]) for k in (11, 10))
+    gone, new = (int(page.table()[0][k]) for k in (12, 11))
     assert gone - new == len(lines) - len(changed) and gone < 2 * (len(lines) - len(changed)), (gone, new)
 
 

@@ -78,7 +78,7 @@ def check_like_replies(page):
     page.fresh()
     page.read(("replies", replies))
     assert page.messages() == [], page.messages()
-    assert [row[:4] for row in page.table()[:3]] == [["strong", "2", "1", "1"], ["test", "2", "0", "0"], ["S", "0", "1", "1"]], page.table()
+    assert [row[:4] for row in page.table()[:3]] == [["strong", "2", "1", "1"], ["S", "0", "1", "1"], ["test", "2", "0", "0"]], page.table()
     page.go("#strong")
     assert [row[2] for row in page.rows()] == [line.decode() for line in lines]
 
@@ -145,9 +145,9 @@ def check_nameless(page):
     page.go("#r1")
     assert [row[2] for row in page.rows()] == ["!", "x", ""], page.rows()
     message(page, "r", report + b". 1 !\nU 2 x\n", "It can't be told whose it is: it is called “file 1”")
-    assert [row[0] for row in page.table()][3] == "file 1"
+    assert "file 1" in [row[0] for row in page.table()]
     page.read(("session", b"# notes\nrib r1 10.0.0.0/8\n\nshow r3\nquit\nshow r2\n"))
-    assert [row[0] for row in page.table()] == ["r1 no text", "r2 no text", "r3", "all 3"], page.table()
+    assert [row[0] for row in page.table()] == ["r2 no text", "r3", "r1 no text", "all 3"], page.table()
 
 
 def check_wrong(page):

@@ -1,4 +1,5 @@
 """The page as its tests use it: files go in, and what stands in it comes out."""
+import functools
 import json
 import os
 import tempfile
@@ -93,7 +94,23 @@ class Page:
         return self.run("document.querySelector('#lines .row.target .n')?.textContent ?? null")
 
     def faults(self):
-        """Errors of the page, and what it asked for beside itself."""
+        """Errors of the page, what the browser warns of, and what was asked for beside the page; what it logs as information is none."""
         events = self.browser.said("Runtime.exceptionThrown", "Log.entryAdded", "Network.requestWillBeSent")
-        asked = [event["params"].get("request", {}).get("url") for event in events]
-        return [event["params"] for event, url in zip(events, asked) if url is None or not url.startswith((PAGE, "about:"))]
+        return [event["params"] for event in events if not is_harmless(event["params"])]
+
+    def keeps_quiet(self, check):
+        """The same check, which fails too where the page had a fault meanwhile."""
+        @functools.wraps(check)
+        def checked(page):
+            self.browser.events.clear()
+            check(page)
+            faults = self.faults()
+            assert not faults, faults
+        return checked
+
+
+def is_harmless(event):
+    """Whether an event is the page's own coming, or one that the browser logs as information."""
+    if "entry" in event:
+        return event["entry"]["level"] in ("info", "verbose")
+    return event.get("request", {}).get("url", "").startswith((PAGE, "about:"))

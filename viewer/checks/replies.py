@@ -1,71 +1,79 @@
 """What sessions write: of the examples by the oracle, and of networks made up here, as large as they may be."""
+import functools
+import json
 import os
 import random
+import shlex
+import subprocess
 import sys
 
 HERE = os.path.dirname(os.path.abspath(__file__))
 TOP = os.path.dirname(os.path.dirname(HERE))
-sys.path.insert(0, os.path.join(TOP, "oracle"))
+ORACLE = os.path.join(TOP, "oracle", "oracle.py")
+LETTERS = b"SWU."
 
-import oracle  # noqa: E402
-import reports  # noqa: E402
-from texts import lines_of, words  # noqa: E402
+
+PROGRAM = shlex.split(os.environ.get("NETCOV", "")) or [sys.executable, "-B", ORACLE]
+
+
+@functools.lru_cache(maxsize=None)
+def answered(files, session):
+    """What NetCov writes: the oracle, or the program that NETCOV names. It is run as anybody runs it; nothing here leans on its inside."""
+    run = subprocess.run([*PROGRAM, "--", *files], input=session, capture_output=True, check=False)
+    assert run.returncode == 0, f"{PROGRAM[-1]} ended with status {run.returncode}: {(run.stdout + run.stderr).decode()[-2000:]}"
+    return run.stdout
 
 
 def shown(lines, marks):
     """The text of `show`."""
-    return reports.show(marks, lines)
-
-
-def names_of(routers):
-    return [name for name, _ in routers]
-
-
-def sheets_of(routers):
-    return [marks for _, marks in routers]
+    return b"".join(b"%c %d " % (mark, k + 1) + line + b"\n" for k, (mark, line) in enumerate(zip(marks, lines)))
 
 
 def counted(routers):
     """How many lines of all routers are strong, weak, uncovered, outside."""
-    return reports.counts(sheets_of(routers))
+    return [sum(marks.count(letter) for _, marks in routers) for letter in LETTERS]
 
 
 def report_of(routers):
     """A report on routers, each a name and marks."""
-    return reports.report(names_of(routers), sheets_of(routers))
+    return b"strong %d weak %d uncovered %d outside %d\n" % tuple(counted(routers)) + b"".join(name + b" " + marks + b"\n" for name, marks in routers)
 
 
 def json_of(routers):
     """The text of `json`."""
-    return reports.as_json(names_of(routers), sheets_of(routers))
+    counts = dict(zip(("strong", "weak", "uncovered", "outside"), counted(routers)))
+    listed = [{"marks": marks.decode(), "name": name.decode("latin-1")} for name, marks in routers]
+    return json.dumps({**counts, "routers": listed}, separators=(",", ":"), sort_keys=True).encode() + b"\n"
 
 
 def lcov_of(files, routers):
     """The text of `lcov`."""
-    return reports.lcov(sheets_of(routers), files)
+    out = b""
+    for file, (_, marks) in zip(files, routers):
+        lines = [b"DA:%d,%d\n" % (k + 1, mark in b"SW") for k, mark in enumerate(marks) if mark not in b"."]
+        covered = sum(mark in b"SW" for mark in marks)
+        out += b"TN:\nSF:%s\n" % file + b"".join(lines) + b"LF:%d\nLH:%d\nend_of_record\n" % (len(lines), covered)
+    return out
 
 
 class Session:
-    """A session over files, as the oracle answers it."""
+    """A session over files."""
 
     def __init__(self, files):
-        self.files = [os.fsencode(file) for file in files]
-        read = [oracle.read_one(file) for file in self.files]
-        self.lines = [lines for _, lines in read]
-        net = oracle.Net([config for config, _ in read])
-        assert oracle.settle(net, 256)
-        self.talk = oracle.Conversation(net, self.files, self.lines)
+        self.files, self.text = tuple(files), b""
+        self.lines = [open(file, "rb").read().decode("latin-1").splitlines() for file in files]
+        self.lines = [[line.encode("latin-1") for line in lines] for lines in self.lines]
+
+    def write(self, text):
+        """What this session writes for these further lines."""
+        before = len(answered(self.files, self.text))
+        self.text += text.encode() + b"\n"
+        return answered(self.files, self.text)[before:]
 
     def routers(self):
         """Each router's name and marks."""
-        return list(zip(self.talk.names, self.talk.sheets))
-
-    def answer(self, line):
-        return self.talk.answer(line)
-
-    def write(self, text):
-        """What this session writes."""
-        return b"".join(self.answer(line) for line in lines_of(text.encode()) if words(line) != [b"quit"])
+        told = json.loads(answered(self.files, self.text + b"json\n").splitlines()[-1])
+        return [(router["name"].encode("latin-1"), router["marks"].encode()) for router in told["routers"]]
 
 
 def made_up(count, length, seed):

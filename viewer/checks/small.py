@@ -21,17 +21,20 @@ def check_table(page):
     page.read(("replies", session.write(TESTS + SHOWS + "show r9\njson\n")))
     assert page.messages() == [], page.messages()
     table = page.table()
-    for row, (name, marks) in zip(table, session.routers()):
-        assert row[:5] == [name.decode()] + [str(n) for n in counted([(name, marks)])], row
-    assert [row[5] for row in table] == ["100 %", "85 %", "100 %", "92.1 %"], table
+    assert [row[0] for row in table[:3]] == ["r2", "r1", "r3"], "what is uncovered stands first"
+    for name, marks in session.routers():
+        row = next(row for row in table if row[0] == name.decode())
+        assert row[1:5] == [str(n) for n in counted([(name, marks)])], row
+    assert [row[5] for row in table] == ["85 %", "100 %", "100 %", "92.1 %"], table
     assert table[3][:5] == ["all 3"] + [str(n) for n in counted(session.routers())], table
-    widths = page.run("[...document.querySelectorAll('#routers tbody tr:nth-child(2) .bar i')].map(i => i.style.width)")
+    widths = page.run("[...document.querySelectorAll('#routers tbody tr:nth-child(1) .bar i')].map(i => i.style.width)")
     assert [round(float(width[:-1]) * 31 / 100) for width in widths] == [17, 0, 3, 11], widths
     assert "5 tests accepted, 3 lines refused" in page.run("part('answers').textContent")
 
 
 def check_sorting(page):
-    for key, order in (("U", ["r2", "r1", "r3"]), ("U", ["r1", "r3", "r2"]), ("name", ["r1", "r2", "r3"]), ("name", ["r3", "r2", "r1"]),
+    assert [row[0] for row in page.table()][:3] == ["r2", "r1", "r3"], "uncovered first"
+    for key, order in (("U", ["r1", "r3", "r2"]), ("U", ["r2", "r1", "r3"]), ("name", ["r1", "r2", "r3"]), ("name", ["r3", "r2", "r1"]),
                        ("part", ["r1", "r3", "r2"]), ("place", ["r1", "r2", "r3"])):
         page.click(f"#routers [data-sort='{key}']")
         assert [row[0] for row in page.table()][:3] == order, (key, page.table())
@@ -65,11 +68,11 @@ def check_keys(page):
     assert page.target() == "19" and page.said() == "There is no uncovered block before this one."
     page.press_all("3")
     assert [row[1] for row in page.rows()] == ["19", "22", "28"]
-    page.press_all("[2")
+    page.press_all("]2")
     assert [row[:2] for row in page.rows()] == [["W", "17"]], page.rows()
     page.press_all("3")
     assert page.rows() == [] and page.said() == "No line of r1 is uncovered."
-    page.press_all("1]t")
+    page.press_all("1[t")
     assert page.run("part('router').hidden") and not page.run("part('overview').hidden")
     page.press("?")
     assert page.run("part('help').open")
@@ -92,7 +95,7 @@ def check_blocks(page):
 def check_buttons(page):
     page.fresh()
     page.read(("replies", Session(FILES).write(TESTS + SHOWS)))
-    page.click("#routers tbody tr:nth-child(2) a")
+    page.click("#routers tbody tr:nth-child(1) th a")
     page.wait("!part('router').hidden")
     page.click("[data-do=next]")
     page.click("[data-do=next]")
@@ -178,7 +181,7 @@ def check_beside(page):
     page.settle()
     answers = page.run("[...document.querySelectorAll('#answer-rows .row')].map(row => row.textContent)")
     assert answers[1] == "2rib r3 10.1.0.0/24   →   refused absent rib r3 10.1.0.0/24", answers
-    assert answers[0] == "1rib r3 10.1.0.0/16   →   test 1 facts 64" and len(answers) == 7, answers
+    assert answers[0] == "1rib r3 10.1.0.0/16   →   test 1 facts 64   32 lines covered first" and len(answers) == 7, answers
 
 
 def check_json(page):
@@ -190,7 +193,7 @@ def check_json(page):
     laid_out = json_of(session.routers()).decode().replace(",", ",\n  ")
     page.fresh()
     page.read(("kept.json", laid_out.encode()))
-    assert page.table()[1][:5] == ["r2 no text", "17", "0", "3", "11"], page.table()
+    assert page.table()[0][:5] == ["r2 no text", "17", "0", "3", "11"], page.table()
 
 
 def check_newer(page):

@@ -10,10 +10,10 @@ use Rattle.std.proofs.lemmas.List.Quantifiers.{position-Some}
 use Rattle.nc_lines.specs.Lines.{is_empty, is_feed, without_return}
 use Rattle.nc_lines.specs.WholeLines.{whole_lines_of, open_of, last_line}
 use Rattle.nc_lines.proofs.WholeLines.{whole_held, open_held, whole_fed, open_fed, lines_end, whole_of_open, open_of_open}
-use Rattle.nc_command.specs.declared.TheConstants.{LINE_LIMIT, HELD_LIMIT}
+use Rattle.nc_command.specs.Command.{most_line_bytes}
 use Rattle.nc_command.specs.declared.cutter.Cut.{Cut}
 use Rattle.nc_command.specs.declared.cutter.Cut.TheVariants.{Line, Long}
-use Rattle.nc_command.specs.Cutting.{line_cut, cut_of, front_of, held_of, IsAtFeed, held_after, cuts_after, last_cut, CutsLines}
+use Rattle.nc_command.specs.Cutting.{most_held_bytes, line_cut, cut_of, front_of, held_of, IsAtFeed, held_after, cuts_after, last_cut, CutsLines}
 
 -- ---- what is held of a line tells how it is cut
 
@@ -27,23 +27,23 @@ return_len (b ∷ []) =
     ]
 return_len (b ∷ next ∷ bs) = let more = return_len (next ∷ bs) in (omega arith, omega arith)
 
-pub cut_long : (xs : List ℕ) → LINE_LIMIT < length (without_return xs) → cut_of xs ≡ Long
+pub cut_long : (xs : List ℕ) → most_line_bytes < length (without_return xs) → cut_of xs ≡ Long
 unfolding cut_of
-cut_long xs long = ap (λ (t : Bool). cond t Long (Line (without_return xs))) (lt-ltb LINE_LIMIT (length (without_return xs)) long)
+cut_long xs long = ap (λ (t : Bool). cond t Long (Line (without_return xs))) (lt-ltb most_line_bytes (length (without_return xs)) long)
 
-pub cut_short : (xs : List ℕ) → length (without_return xs) ≤ LINE_LIMIT → cut_of xs ≡ Line (without_return xs)
+pub cut_short : (xs : List ℕ) → length (without_return xs) ≤ most_line_bytes → cut_of xs ≡ Line (without_return xs)
 unfolding cut_of
-cut_short xs short = ap (λ (t : Bool). cond t Long (Line (without_return xs))) (le-ltb LINE_LIMIT (length (without_return xs)) short)
+cut_short xs short = ap (λ (t : Bool). cond t Long (Line (without_return xs))) (le-ltb most_line_bytes (length (without_return xs)) short)
 
-pub front_all : (xs : List ℕ) → length xs ≤ HELD_LIMIT → front_of xs ≡ xs
-front_all xs short = take_all HELD_LIMIT xs short
+pub front_all : (xs : List ℕ) → length xs ≤ most_held_bytes → front_of xs ≡ xs
+front_all xs short = take_all most_held_bytes xs short
 
 -- the front of a line that is held suffices
 pub cut_front : (xs : List ℕ) → cut_of (front_of xs) ≡ cut_of xs
 cut_front xs =
-    elim (cases_lt HELD_LIMIT (length xs)) [
+    elim (cases_lt most_held_bytes (length xs)) [
       | inl long ↦
-          let held : length (front_of xs) ≡ HELD_LIMIT = length-take-le HELD_LIMIT xs (omega arith) in
+          let held : length (front_of xs) ≡ most_held_bytes = length-take-le most_held_bytes xs (omega arith) in
           cut_long (front_of xs) (omega (arith, return_len (front_of xs))) ∙ sym (cut_long xs (omega (arith, return_len xs)))
       | inr short ↦ ap cut_of (front_all xs short)
     ]
@@ -51,11 +51,11 @@ cut_front xs =
 -- bytes go to the end of what is held
 pub front_more : (xs ys : List ℕ) → front_of (front_of xs ++ ys) ≡ front_of (xs ++ ys)
 front_more xs ys =
-    elim (cases_lt HELD_LIMIT (length xs)) [
+    elim (cases_lt most_held_bytes (length xs)) [
       | inl long ↦
-          let held : length (front_of xs) ≡ HELD_LIMIT = length-take-le HELD_LIMIT xs (omega arith) in
-          take-append-le HELD_LIMIT (front_of xs) ys (omega arith) ∙ take_all HELD_LIMIT (front_of xs) (omega arith)
-          ∙ sym (take-append-le HELD_LIMIT xs ys (omega arith))
+          let held : length (front_of xs) ≡ most_held_bytes = length-take-le most_held_bytes xs (omega arith) in
+          take-append-le most_held_bytes (front_of xs) ys (omega arith) ∙ take_all most_held_bytes (front_of xs) (omega arith)
+          ∙ sym (take-append-le most_held_bytes xs ys (omega arith))
       | inr short ↦ ap (λ (bs : List ℕ). front_of (bs ++ ys)) (front_all xs short)
     ]
 
@@ -66,11 +66,11 @@ taken_min n bytes =
       | inr many ↦ ap (λ (k : ℕ). take k bytes) (omega arith)
     ]
 
-pub front_taken : (old bytes : List ℕ) (count : ℕ) → length old ≤ HELD_LIMIT → count ≡ min (length bytes) (HELD_LIMIT - length old) → old ++ take count bytes ≡ front_of (old ++ bytes)
+pub front_taken : (old bytes : List ℕ) (count : ℕ) → length old ≤ most_held_bytes → count ≡ min (length bytes) (most_held_bytes - length old) → old ++ take count bytes ≡ front_of (old ++ bytes)
 front_taken old bytes count within is =
-    let room : length old + (HELD_LIMIT - length old) ≡ HELD_LIMIT = omega arith in
-    ap (λ (k : ℕ). old ++ take k bytes) is ∙ ap (λ (bs : List ℕ). old ++ bs) (taken_min (HELD_LIMIT - length old) bytes)
-    ∙ sym (take-append-add old bytes (HELD_LIMIT - length old)) ∙ ap (λ (k : ℕ). take k (old ++ bytes)) room
+    let room : length old + (most_held_bytes - length old) ≡ most_held_bytes = omega arith in
+    ap (λ (k : ℕ). old ++ take k bytes) is ∙ ap (λ (bs : List ℕ). old ++ bs) (taken_min (most_held_bytes - length old) bytes)
+    ∙ sym (take-append-add old bytes (most_held_bytes - length old)) ∙ ap (λ (k : ℕ). take k (old ++ bytes)) room
 
 -- ---- the first line feed of a piece
 

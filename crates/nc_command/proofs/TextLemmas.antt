@@ -21,10 +21,9 @@ use Rattle.nc_lines.specs.Lines.{words_of}
 use Rattle.nc_lines.specs.Numbers.{is_digit, value_after, is_plain, number_of, address_of, address_of_parts, prefix_of, prefix_of_parts}
 use Rattle.nc_lines.proofs.NumberLemmas.{value_after-ge}
 use Rattle.nc_command.specs.declared.command.Command.{Command}
-use Rattle.nc_command.specs.declared.command.Command.TheVariants.{Test, Forget, Implies, Lcov, Json, Quit}
-use Rattle.nc_command.specs.declared.TheConstants.{MOST_NUMBER}
+use Rattle.nc_command.specs.declared.command.Command.TheVariants.{Test, Forget, Implies, Cut, Lcov, Json, Quit}
 use Rattle.nc_types.specs.Dotted.{dotted}
-use Rattle.nc_command.specs.Command.{Passed, TooLong, Unread, Asks, begins_note, addr_of, address_behind, prefix_test_of, address_test_of, line_test_of, test_of, alone, show_by, forget_by, implies_by, command_by, asked_by, command_of, cidr_text, spaced, prefix_text, address_text, line_text, text_of}
+use Rattle.nc_command.specs.Command.{most_number, Passed, TooLong, Unread, Asks, begins_note, addr_of, address_behind, prefix_test_of, address_test_of, line_test_of, test_of, alone, show_by, forget_by, implies_by, kept_by, cut_by, command_by, asked_by, command_of, cidr_text, spaced, prefix_text, address_text, line_text, text_of}
 
 -- ---- numbers
 
@@ -206,9 +205,9 @@ line-test-text command make texts [] test at = absurd (cc)
 line-test-text command make texts (name ∷ []) test at = absurd (cc)
 line-test-text command make texts (name ∷ word ∷ more ∷ words) test at = absurd (cc)
 line-test-text command make texts (name ∷ word ∷ []) test at =
-    let made = map_some (make name) (number_of MOST_NUMBER word) test at in
+    let made = map_some (make name) (number_of most_number word) test at in
     ap text_of (sym made.2) ∙ texts name made.0
-    ∙ ap (λ w. spaced (command ∷ name ∷ w ∷ [])) (number-text MOST_NUMBER made.0 word (omega arith) made.1).0
+    ∙ ap (λ w. spaced (command ∷ name ∷ w ∷ [])) (number-text most_number made.0 word (omega arith) made.1).0
 
 -- the words of a command, when its first is known
 first-word : (word command : List ℕ) (words : List (List ℕ)) → bytes_eq word command ≡ true → spaced (command ∷ words) ≡ spaced (word ∷ words)
@@ -231,8 +230,11 @@ module _ (word : List ℕ) (words : List (List ℕ)) where
   abbrev bgp_test : Option TestCommand
   bgp_test = cond (bytes_eq word (codes "bgp")) (prefix_test_of Bgp (codes "from") words) session_test
 
+  abbrev cut_command : Option Command
+  cut_command = cond (bytes_eq word (codes "cut")) (cut_by words) (option_map Test (test_of word words))
+
   abbrev implies_command : Option Command
-  implies_command = cond (bytes_eq word (codes "implies")) (implies_by words) (option_map Test (test_of word words))
+  implies_command = cond (bytes_eq word (codes "implies")) (implies_by words) cut_command
 
   abbrev forget_command : Option Command
   forget_command = cond (bytes_eq word (codes "forget")) (forget_by words) implies_command
@@ -298,7 +300,7 @@ asked-text (word ∷ words) test at = by_note (begins_note word) at
 
     not-forgot : (ws : List (List ℕ)) → forget_by ws ≡ Some (Test test) → text_of test ≡ spaced (word ∷ words)
     not-forgot [] is = absurd (cc)
-    not-forgot (number ∷ []) is = not-forgetting (number_of MOST_NUMBER number) is
+    not-forgot (number ∷ []) is = not-forgetting (number_of most_number number) is
     not-forgot (number ∷ w ∷ ws) is = absurd (cc)
 
     not-implying : (m n : Option ℕ) → option_and_then (λ k. option_map (Implies k) n) m ≡ Some (Test test) → text_of test ≡ spaced (word ∷ words)
@@ -309,12 +311,25 @@ asked-text (word ∷ words) test at = by_note (begins_note word) at
     not-implied : (ws : List (List ℕ)) → implies_by ws ≡ Some (Test test) → text_of test ≡ spaced (word ∷ words)
     not-implied [] is = absurd (cc)
     not-implied (first ∷ []) is = absurd (cc)
-    not-implied (first ∷ second ∷ []) is = not-implying (number_of MOST_NUMBER first) (number_of MOST_NUMBER second) is
+    not-implied (first ∷ second ∷ []) is = not-implying (number_of most_number first) (number_of most_number second) is
     not-implied (first ∷ second ∷ w ∷ ws) is = absurd (cc)
 
-    by_implies : (b : Bool) → cond b (implies_by words) (option_map Test (test_of word words)) ≡ Some (Test test) → text_of test ≡ spaced (word ∷ words)
+    not-cutting : (n : Option ℕ) (names : Option (List (List ℕ))) → option_and_then (λ k. option_map (Cut k) names) n ≡ Some (Test test) → text_of test ≡ spaced (word ∷ words)
+    not-cutting None names is = absurd (cc)
+    not-cutting (Some n) None is = absurd (cc)
+    not-cutting (Some n) (Some names) is = absurd (cc)
+
+    not-cut : (ws : List (List ℕ)) → cut_by ws ≡ Some (Test test) → text_of test ≡ spaced (word ∷ words)
+    not-cut [] is = absurd (cc)
+    not-cut (number ∷ ws) is = not-cutting (number_of most_number number) (kept_by ws) is
+
+    by_cut : (b : Bool) → cond b (cut_by words) (option_map Test (test_of word words)) ≡ Some (Test test) → text_of test ≡ spaced (word ∷ words)
+    by_cut true is = not-cut words is
+    by_cut false is = by_test (test_of word words) refl is
+
+    by_implies : (b : Bool) → cond b (implies_by words) (cut_command word words) ≡ Some (Test test) → text_of test ≡ spaced (word ∷ words)
     by_implies true is = not-implied words is
-    by_implies false is = by_test (test_of word words) refl is
+    by_implies false is = by_cut (bytes_eq word (codes "cut")) is
 
     by_forget : (b : Bool) → cond b (forget_by words) (implies_command word words) ≡ Some (Test test) → text_of test ≡ spaced (word ∷ words)
     by_forget true is = not-forgot words is

@@ -11,13 +11,20 @@ use Rattle.nc_types.specs.declared.command.TestCommand.{TestCommand}
 use Rattle.nc_types.specs.declared.command.TestCommand.TheVariants.{Rib, Bgp, Session, Reach, Every, Element}
 use Rattle.nc_lines.specs.Lines.{words_of}
 use Rattle.nc_lines.specs.Numbers.{number_of, address_of, prefix_of}
-use Rattle.nc_command.specs.declared.TheConstants.{LINE_LIMIT, MOST_NUMBER}
 use Rattle.nc_command.specs.declared.command.Command.{Command}
-use Rattle.nc_command.specs.declared.command.Command.TheVariants.{Test, Forget, Implies, Show, Lcov, Json, Quit}
+use Rattle.nc_command.specs.declared.command.Command.TheVariants.{Test, Forget, Implies, Cut, Show, Lcov, Json, Quit}
 use Rattle.nc_command.specs.declared.fault.CommandFault.{CommandFault}
 use Rattle.nc_command.specs.declared.fault.CommandFault.TheVariants.{Long, Syntax, Memory}
 
 -- ---- what a line asks
+
+-- how many bytes a line has at most, without its line end
+abbrev pub most_line_bytes : ℕ
+most_line_bytes = 4096
+
+-- the greatest number that stands in a command
+abbrev pub most_number : ℕ
+most_number = 4294967295
 
 -- what a line of a session is
 pub data Line : Type 0 where
@@ -56,7 +63,7 @@ address_test_of make words = None
 
 -- the test that the words behind a command for a line make: a name, the line's number, and nothing more
 abbrev pub line_test_of : (List ℕ → ℕ → TestCommand) → List (List ℕ) → Option TestCommand
-line_test_of make (name ∷ line ∷ []) = option_map (make name) (number_of MOST_NUMBER line)
+line_test_of make (name ∷ line ∷ []) = option_map (make name) (number_of most_number line)
 line_test_of make words = None
 
 -- the test that a command's first word and the words behind it make, if they make one
@@ -82,13 +89,24 @@ show_by words = None
 
 -- the number of a test behind `forget`, and nothing more
 abbrev pub forget_by : List (List ℕ) → Option Command
-forget_by (number ∷ []) = option_map Forget (number_of MOST_NUMBER number)
+forget_by (number ∷ []) = option_map Forget (number_of most_number number)
 forget_by words = None
 
 -- the numbers of two tests behind `implies`, and nothing more
 abbrev pub implies_by : List (List ℕ) → Option Command
-implies_by (first ∷ second ∷ []) = option_and_then (λ m. option_map (Implies m) (number_of MOST_NUMBER second)) (number_of MOST_NUMBER first)
+implies_by (first ∷ second ∷ []) = option_and_then (λ m. option_map (Implies m) (number_of most_number second)) (number_of most_number first)
 implies_by words = None
+
+-- the names of the routers to keep that stand behind the number of a test: none, or some behind a key word
+abbrev pub kept_by : List (List ℕ) → Option (List (List ℕ))
+kept_by [] = Some []
+kept_by (word ∷ []) = None
+kept_by (word ∷ name ∷ names) = if bytes_eq word (codes "keep") then Some (name ∷ names) else None
+
+-- the number of a test behind `cut`, and the routers to keep
+abbrev pub cut_by : List (List ℕ) → Option Command
+cut_by [] = None
+cut_by (number ∷ words) = option_and_then (λ n. option_map (Cut n) (kept_by words)) (number_of most_number number)
 
 -- the command that a first word and the words behind it make, if they make one
 abbrev pub command_by : List ℕ → List (List ℕ) → Option Command
@@ -99,7 +117,8 @@ command_by word words =
     else (if bytes_eq word (codes "json") then alone Json words
     else (if bytes_eq word (codes "forget") then forget_by words
     else (if bytes_eq word (codes "implies") then implies_by words
-    else option_map Test (test_of word words))))))
+    else (if bytes_eq word (codes "cut") then cut_by words
+    else option_map Test (test_of word words)))))))
 
 -- what the words of a line ask
 abbrev pub asked_by : List (List ℕ) → Line
@@ -108,7 +127,7 @@ asked_by (word ∷ words) = if begins_note word then Passed else option_map_or A
 
 -- what a line of a session is, by its bytes
 unfoldable pub command_of : List ℕ → Line
-command_of line = if nat_lt LINE_LIMIT (length line) then TooLong else asked_by (words_of line)
+command_of line = if nat_lt most_line_bytes (length line) then TooLong else asked_by (words_of line)
 
 -- the answer of a reader tells what the line is; where memory is refused it tells nothing
 abbrev pub IsRead : Line → Result (Option Command) CommandFault → Type 0

@@ -3,21 +3,25 @@ use Rattle.std.specs.Prelude.{◌≡◌, ◌≢◌, ℕ, true, false, nat_lt, Li
 use Rattle.std.specs.List.{list_any}
 use Rattle.nc_lines.specs.Lines.{is_empty, is_feed, without_return, lines_of}
 use Rattle.nc_lines.specs.WholeLines.{open_of, whole_lines_of}
-use Rattle.nc_command.specs.declared.TheConstants.{LINE_LIMIT, HELD_LIMIT}
+use Rattle.nc_command.specs.Command.{most_line_bytes}
 use Rattle.nc_command.specs.declared.cutter.Cut.{Cut}
 use Rattle.nc_command.specs.declared.cutter.Cut.TheVariants.{Line, Long}
 
 -- what a line is cut as, given without its line end: it is too long, or its bytes are told
 abbrev pub line_cut : List ℕ → Cut
-line_cut line = if nat_lt LINE_LIMIT (length line) then Long else Line line
+line_cut line = if nat_lt most_line_bytes (length line) then Long else Line line
 
 -- what is cut of the bytes before a line feed, of which the last may be a carriage return
 unfoldable pub cut_of : List ℕ → Cut
 cut_of bytes = line_cut (without_return bytes)
 
+-- how many bytes of an open line are held: those that a line may have, a carriage return, and one by which a longer line is known
+abbrev pub most_held_bytes : ℕ
+most_held_bytes = 4098
+
 -- what is held of an open line
 abbrev pub front_of : List ℕ → List ℕ
-front_of bytes = take HELD_LIMIT bytes
+front_of bytes = take most_held_bytes bytes
 
 -- what is held behind these bytes of a session
 abbrev pub held_of : List ℕ → List ℕ

@@ -1,3 +1,4 @@
+use crate::names::Names;
 use nc_types::{TestCommand, Text};
 
 /// What a line of a session asks.
@@ -9,6 +10,9 @@ pub enum Command {
     Forget(u32),
     /// Whether the test of the first number implies that of the second.
     Implies(u32, u32),
+    /// A least set of elements without which the test of this number isn't carried, none of them of the
+    /// routers of these names.
+    Cut(u32, Names),
     /// A listing of the file of the router of this name, with the mark of each line.
     Show(Text),
     /// An LCOV tracefile of all files.

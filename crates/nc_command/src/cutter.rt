@@ -3,8 +3,7 @@
 ghost use Rattle.std.specs.Prelude.{◌≡◌, ◌≤◌, ◌++◌, false, [], length, position, IfOk, OnOk, OnErr, MatchOption};
 ghost use Rattle.std.specs.List.{list_any};
 ghost use Rattle.nc_lines.specs.Lines.{is_feed};
-ghost use Rattle.nc_command.specs.declared.TheConstants.{HELD_LIMIT};
-ghost use Rattle.nc_command.specs.Cutting.{cut_of, front_of, IsAtFeed, Pushes, CutsFirst, HoldsAll, Ends};
+ghost use Rattle.nc_command.specs.Cutting.{most_held_bytes, cut_of, front_of, IsAtFeed, Pushes, CutsFirst, HoldsAll, Ends};
 
 use crate::{HELD_LIMIT, LINE_LIMIT};
 use nc_lines::line_end::line_len;
@@ -54,13 +53,13 @@ pub struct Cutter {
 
 impl Model for Cutter {
     ghost use Rattle.std.specs.Prelude.{List, ℕ, ◌≤◌, length};
-    ghost use Rattle.nc_command.specs.declared.TheConstants.{HELD_LIMIT};
+    ghost use Rattle.nc_command.specs.Cutting.{most_held_bytes};
 
     ghost Value = { List ℕ };
 
     ghost view = { λ c. c.held.items };
 
-    ghost invariant = { λ c. length c.held.items ≤ HELD_LIMIT };
+    ghost invariant = { λ c. length c.held.items ≤ most_held_bytes };
 }
 
 // Where the first line feed of a piece is.
@@ -95,7 +94,7 @@ impl Cutter {
     /// How many bytes are held, at most [`HELD_LIMIT`].
     pub fn kept(&self) -> usize
         ensures count { result ≡ length self.now }
-        ensures within { result ≤ HELD_LIMIT }
+        ensures within { result ≤ most_held_bytes }
     {
         self.held.len()
     }

@@ -13,12 +13,14 @@ mod command;
 mod cutter;
 mod fault;
 pub mod laws;
+mod names;
 mod reading;
 mod text;
 
 pub use command::Command;
 pub use cutter::{Cut, CutLine, Cutter, cut_at_feed};
 pub use fault::CommandFault;
+pub use names::Names;
 pub use reading::read_command;
 pub use text::test_text;
 

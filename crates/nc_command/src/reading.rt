@@ -1,10 +1,10 @@
 //! What a line of a session asks, read word by word.
 
-ghost use Rattle.std.specs.Prelude.{◌≡◌, ℕ, List, Option, IfOk, codes};
+ghost use Rattle.std.specs.Prelude.{◌≡◌, ℕ, ◌∷◌, List, Option, Some, IfOk, codes};
 ghost use Rattle.std.specs.Option.{option_map};
 ghost use Rattle.nc_lines.specs.Lines.{words_of};
 ghost use Rattle.nc_command.specs.Command.{address_behind, prefix_test_of, address_test_of};
-ghost use Rattle.nc_command.specs.Command.{line_test_of, test_of, alone, show_by, forget_by, implies_by, command_by, command_of, IsRead};
+ghost use Rattle.nc_command.specs.Command.{line_test_of, test_of, alone, show_by, forget_by, implies_by, kept_by, cut_by, command_by, command_of, IsRead};
 ghost use Rattle.nc_types.specs.Cidr.{Cidr};
 ghost use Rattle.nc_types.specs.declared.addr.Addr.{Addr};
 ghost use Rattle.nc_types.specs.declared.command.TestCommand.{TestCommand};
@@ -12,6 +12,7 @@ ghost use Rattle.nc_types.specs.declared.command.TestCommand.TheVariants as comm
 
 use crate::command::Command;
 use crate::fault::CommandFault;
+use crate::names::Names;
 use crate::{LINE_LIMIT, MOST_NUMBER};
 use nc_lines::cut::cut_word;
 use nc_lines::numbers::{read_address, read_number, read_prefix};
@@ -221,6 +222,53 @@ fn read_implies(rest: &[u8]) -> Option<Command>
     Some(Command::Implies(first, second))
 }
 
+// The names that stand on the rest of a line, behind a first one.
+fn read_names(alloc: Global, first: &[u8], rest: &[u8]) -> Result<Names, AllocError>
+    ensures { IfOk result (λ names. names ≡ first.now ∷ words_of rest.now) }
+{
+    let mut names = Vec::new(alloc);
+    names.push(Text::new(alloc, first)?)?;
+    let mut left = rest;
+    'names: while let Some((name, behind)) = cut_word(left) {
+        names.push(Text::new(alloc, name)?)?;
+        left = behind;
+    }
+    Ok(Names { names })
+}
+
+// The routers to keep that the words behind the number of a test name, if they do.
+fn read_kept(alloc: Global, rest: &[u8]) -> Result<Option<Names>, AllocError>
+    ensures { IfOk result (λ names. names ≡ kept_by (words_of rest.now)) }
+{
+    let Some((word, rest)) = cut_word(rest) else {
+        return Ok(Some(Names::none(alloc)));
+    };
+    let Some((first, behind)) = cut_word(rest) else {
+        return Ok(None);
+    };
+    if word != b"keep".as_slice() {
+        return Ok(None);
+    }
+    let names = read_names(alloc, first, behind)?;
+    Ok(Some(names))
+}
+
+// The command that the words behind `cut` make, if they make one.
+fn read_cut(alloc: Global, rest: &[u8]) -> Result<Option<Command>, AllocError>
+    ensures { IfOk result (λ command. command ≡ cut_by (words_of rest.now)) }
+{
+    let Some((word, behind)) = cut_word(rest) else {
+        return Ok(None);
+    };
+    let Some(number) = read_number(word, MOST_NUMBER) else {
+        return Ok(None);
+    };
+    let Some(names) = read_kept(alloc, behind)? else {
+        return Ok(None);
+    };
+    Ok(Some(Command::Cut(number, names)))
+}
+
 // The command that a first word and the words behind it make, if they make one.
 fn read_words(alloc: Global, word: &[u8], rest: &[u8]) -> Result<Option<Command>, AllocError>
     ensures { IfOk result (λ command. command ≡ command_by word.now (words_of rest.now)) }
@@ -242,6 +290,9 @@ fn read_words(alloc: Global, word: &[u8], rest: &[u8]) -> Result<Option<Command>
     }
     if word == b"implies".as_slice() {
         return Ok(read_implies(rest));
+    }
+    if word == b"cut".as_slice() {
+        return read_cut(alloc, rest);
     }
     let Some(test) = read_test(alloc, word, rest)? else {
         return Ok(None);

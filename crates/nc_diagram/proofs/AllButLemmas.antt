@@ -7,7 +7,7 @@ use Rattle.nc_diagram.specs.Sets.{has, all_but, places_but}
 use Rattle.nc_diagram.proofs.CounterLemmas.{Ascends}
 
 -- strictly increasing numbers ascend from a number that is not above the first
-Ascends-increasing : (from : ℕ) (vs : List ℕ) → (0 < length vs → from ≤ slice_index vs 0) → IsStrictlyIncreasing vs → Ascends from vs
+pub Ascends-increasing : (from : ℕ) (vs : List ℕ) → (0 < length vs → from ≤ slice_index vs 0) → IsStrictlyIncreasing vs → Ascends from vs
 unfolding Ascends
 Ascends-increasing from [] head up = tt
 Ascends-increasing from (v ∷ vs) head up = (
@@ -19,7 +19,7 @@ Ascends-increasing from (v ∷ vs) head up = (
 )
 
 -- the listed variables are not below the first one
-Ascends-bound : (from : ℕ) (vs : List ℕ) (w k : ℕ) → Ascends from vs → k < length vs → get_or vs k w ≡ w → from ≤ w
+pub Ascends-bound : (from : ℕ) (vs : List ℕ) (w k : ℕ) → Ascends from vs → k < length vs → get_or vs k w ≡ w → from ≤ w
 unfolding Ascends
 Ascends-bound from [] w k a l e = absurd (omega arith)
 Ascends-bound from (v ∷ vs) w zero a l e = omega (arith, a.0)

@@ -8,3 +8,4 @@ pub mod ApplyLemmas
 pub mod CounterLemmas
 pub mod AllButLemmas
 pub mod RecentLemmas
+pub mod PartLemmas

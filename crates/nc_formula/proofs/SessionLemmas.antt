@@ -90,7 +90,52 @@ module _ {F : Type 0} (g : Flow F) (a : Asked F) (n : Nodes F) (d : Diagrams) (t
   pub with-nodes : (new : Nodes F) → IsGraph n → IsGraph new → Extends n new → AreDrawn g a new d table
   with-nodes new is longer ext = record { formulas = formulas-extended n new is longer ext d.nodes table drawn.formulas; parts = drawn.parts }
 
--- ---- a comparison of two tests
+-- ---- what is gained by parts of the session, and what makes it crowded
+
+module _ {F : Type 0} (g : Flow F) (a : Asked F) (B : Bases) (within : Within B (IsSessionBase g a)) (n : Nodes F) (old : Diagrams) (table : List (Option ℕ)) (drawn : AreDrawn g a n old table) where
+  -- what is gained are parts of the session
+  gained-parts : (new : Diagrams) (more : List (Option ℕ)) → Gains B old new → AreFormulas (node_flow n) new.nodes more → AreDrawn g a n new more
+  gained-parts new more gained are = record {
+    formulas = are;
+    parts = record {
+      each = λ r two belongs. elim (cases_lt r (length old.nodes + 2)) [
+        | inl early ↦ fixed-same (IsSessionBase g a) (meaning old.nodes r) (meaning new.nodes r) (drawn.parts.each r two early) (gained.unchanged r early).1
+        | inr late ↦ fixed-wider B (IsSessionBase g a) within (meaning new.nodes r) (gained.parts r late belongs)
+      ];
+    };
+  }
+
+  -- and where there is no room there are more parts of the session, with whatever was asked besides, than the limit
+  too-many-parts : (b : Asked F) → Within (IsSessionBase g a) (IsSessionBase g b) → IsCrowdedBy B old → HasMoreParts g b old.limit
+  too-many-parts b wider c = record {
+    functions = c.functions;
+    more = c.more;
+    distinct = c.distinct;
+    parts = λ k d lt. record {
+      is_fixed = fixed-wider (IsSessionBase g a) (IsSessionBase g b) wider (get_or c.functions k d) (part (get_or c.functions k d) (c.each k d lt));
+      varies = c.not_constant k d lt;
+    };
+  }
+    where
+      part : (h : Members → Bool) → IsHeld old.nodes h ⊎ IsFixed B h → IsFixed (IsSessionBase g a) h
+      part h w = elim w [
+        | inl held ↦ fixed-same (IsSessionBase g a) (meaning old.nodes held.0) h (drawn.parts.each held.0 held.1 held.2) held.3
+        | inr fixed ↦ fixed-wider B (IsSessionBase g a) within h fixed
+      ]
+
+-- ---- the diagram of one test, and a comparison of two
+
+module _ {F : Type 0} (g : Flow F) (law : IsFlow g) (n : Nodes F) (is : IsGraph n) (m : Mirrors g n) (a : Asked F) (i : ℕ) (facts : List F)
+    (at : slice_get a.tests i ≡ Some facts) (ids : List NodeId) (nodes : AreNodesOf n ids facts) where
+  test-bases : Within (IsBaseOfTest (node_flow n) (map (λ p. p.0) ids)) (IsSessionBase g a)
+  test-bases b w = of_test facts (test-in a i facts at) (test-bases-of-facts g law n is m ids facts nodes b w)
+
+  module _ (old : Diagrams) (table : List (Option ℕ)) (drawn : AreDrawn g a n old table) where
+    pub drawn-test : (new : Diagrams) (more : List (Option ℕ)) → Gains (IsBaseOfTest (node_flow n) (map (λ p. p.0) ids)) old new → AreFormulas (node_flow n) new.nodes more → AreDrawn g a n new more
+    drawn-test = gained-parts g a (IsBaseOfTest (node_flow n) (map (λ p. p.0) ids)) test-bases n old table drawn
+
+    pub crowded-test : IsCrowdedBy (IsBaseOfTest (node_flow n) (map (λ p. p.0) ids)) old → HasMoreParts g a old.limit
+    crowded-test = too-many-parts g a (IsBaseOfTest (node_flow n) (map (λ p. p.0) ids)) test-bases n old table drawn a (λ b w. w)
 
 module _ {F : Type 0} (g : Flow F) (law : IsFlow g) (n : Nodes F) (is : IsGraph n) (m : Mirrors g n) (a : Asked F) (i j : ℕ) (left right : List F)
     (at : slice_get a.tests i ≡ Some left) (next : slice_get a.tests j ≡ Some right) (first second : List NodeId) (lefts : AreNodesOf n first left) (rights : AreNodesOf n second right) where
@@ -99,37 +144,13 @@ module _ {F : Type 0} (g : Flow F) (law : IsFlow g) (n : Nodes F) (is : IsGraph 
 
   both-bases : Within Both (IsSessionBase g a)
   both-bases b w = elim w [
-    | inl l ↦ of_test left (test-in a i left at) (test-bases-of-facts g law n is m first left lefts b l)
-    | inr r ↦ of_test right (test-in a j right next) (test-bases-of-facts g law n is m second right rights b r)
+    | inl l ↦ test-bases g law n is m a i left at first lefts b l
+    | inr r ↦ test-bases g law n is m a j right next second rights b r
   ]
 
   module _ (old : Diagrams) (table : List (Option ℕ)) (drawn : AreDrawn g a n old table) where
-    -- what it gains are parts of the session
     pub compared : (new : Diagrams) (more : List (Option ℕ)) → Gains Both old new → AreFormulas (node_flow n) new.nodes more → AreDrawn g a n new more
-    compared new more gained are = record {
-      formulas = are;
-      parts = record {
-        each = λ r two belongs. elim (cases_lt r (length old.nodes + 2)) [
-          | inl early ↦ fixed-same (IsSessionBase g a) (meaning old.nodes r) (meaning new.nodes r) (drawn.parts.each r two early) (gained.unchanged r early).1
-          | inr late ↦ fixed-wider Both (IsSessionBase g a) both-bases (meaning new.nodes r) (gained.parts r late belongs)
-        ];
-      };
-    }
+    compared = gained-parts g a Both both-bases n old table drawn
 
-    -- and where it finds no room there are more parts than the limit
     pub crowded-parts : IsCrowdedBy Both old → HasMoreParts g (with_question a i j) old.limit
-    crowded-parts c = record {
-      functions = c.functions;
-      more = c.more;
-      distinct = c.distinct;
-      parts = λ k d lt. record {
-        is_fixed = fixed-wider (IsSessionBase g a) (IsSessionBase g (with_question a i j)) (bases-with-question g a i j) (get_or c.functions k d) (part (get_or c.functions k d) (c.each k d lt));
-        varies = c.not_constant k d lt;
-      };
-    }
-      where
-        part : (h : Members → Bool) → IsHeld old.nodes h ⊎ IsFixed Both h → IsFixed (IsSessionBase g a) h
-        part h w = elim w [
-          | inl held ↦ fixed-same (IsSessionBase g a) (meaning old.nodes held.0) h (drawn.parts.each held.0 held.1 held.2) held.3
-          | inr fixed ↦ fixed-wider Both (IsSessionBase g a) both-bases h fixed
-        ]
+    crowded-parts = too-many-parts g a Both both-bases n old table drawn (with_question a i j) (bases-with-question g a i j)

@@ -20,6 +20,7 @@ mod walk;
 pub use formulas::Formulas;
 pub use laws::{diagrams_are_of_facts, formulas_of_a_grown_store, formulas_of_an_extended_graph};
 pub use session::{
-    comparisons_are_of_facts, drawn_by_a_comparison, drawn_for_a_longer_graph,
+    comparisons_are_of_facts, drawn_by_a_comparison, drawn_by_a_test, drawn_for_a_longer_graph,
     drawn_with_a_question, drawn_with_a_test, nothing_is_drawn, refused_for_its_parts,
+    refused_for_the_parts_of_a_test,
 };

@@ -8,7 +8,7 @@ ghost use Rattle.nc_graph.specs.declared.node.NodeId.{NodeId};
 ghost use Rattle.nc_diagram.specs.Counter.{Implies, IsGreatest};
 ghost use Rattle.nc_diagram.specs.Sets.{Members, Same};
 ghost use Rattle.nc_diagram.specs.Diagrams.{Diagrams};
-ghost use Rattle.nc_formula.specs.Parts.{carrying_each, IsBaseOfBoth, Gains, IsCrowdedBy};
+ghost use Rattle.nc_formula.specs.Parts.{carrying_each, IsBaseOfTest, IsBaseOfBoth, Gains, IsCrowdedBy};
 ghost use Rattle.nc_formula.specs.Formulas.{AreFormulas};
 ghost use Rattle.nc_formula.specs.Session.{Asked, with_test, with_question, AreDrawn, HasMoreParts};
 
@@ -59,6 +59,16 @@ pub fn drawn_with_a_question<F>()
         → AreDrawn g (with_question asked i j) n d table }
 {}
 
+/// The diagram of a test of the session, once it is asked for, leaves what is drawn for the session, at every answer.
+pub fn drawn_by_a_test<F>()
+    ensures { (g : Flow F) → IsFlow g → (n : Nodes F) → IsGraph n → Mirrors g n
+        → (asked : Asked F) (i : ℕ) (facts : List F) → slice_get asked.tests i ≡ Some facts
+        → (ids : List NodeId) → AreNodesOf n ids facts
+        → (old new : Diagrams) (table more : List (Option ℕ)) → AreDrawn g asked n old table
+        → Gains (IsBaseOfTest (node_flow n) (map (λ p. p.0) ids)) old new
+        → AreFormulas (node_flow n) new.nodes more → AreDrawn g asked n new more }
+{}
+
 /// A comparison of two tests of the session leaves what is drawn for it, at every answer.
 pub fn drawn_by_a_comparison<F>()
     ensures { (g : Flow F) → IsFlow g → (n : Nodes F) → IsGraph n → Mirrors g n
@@ -80,4 +90,15 @@ pub fn refused_for_its_parts<F>()
         → (old : Diagrams) (table : List (Option ℕ)) → AreDrawn g asked n old table
         → IsCrowdedBy (IsBaseOfBoth (node_flow n) (map (λ p. p.0) first) (map (λ p. p.0) second)) old
         → HasMoreParts g (with_question asked i j) old.limit }
+{}
+
+/// Where a store is full at the diagram of a test of the session, the session has more parts than the
+/// store's limit.
+pub fn refused_for_the_parts_of_a_test<F>()
+    ensures { (g : Flow F) → IsFlow g → (n : Nodes F) → IsGraph n → Mirrors g n
+        → (asked : Asked F) (i : ℕ) (facts : List F) → slice_get asked.tests i ≡ Some facts
+        → (ids : List NodeId) → AreNodesOf n ids facts
+        → (old : Diagrams) (table : List (Option ℕ)) → AreDrawn g asked n old table
+        → IsCrowdedBy (IsBaseOfTest (node_flow n) (map (λ p. p.0) ids)) old
+        → HasMoreParts g asked old.limit }
 {}

@@ -2,6 +2,7 @@ ghost use Rattle.std.specs.Prelude.{◌≡◌, ◌<◌, ◌^◌, IfOk};
 ghost use Rattle.std.specs.Option.{ForSome};
 ghost use Rattle.nc_tables.specs.State.{StateView, IsState};
 ghost use Rattle.nc_policy.specs.Indexes.{ArePolicies};
+ghost use Rattle.nc_underlay.specs.Kept.{AreKept};
 ghost use Rattle.nc_graph.specs.Flow.{IsFlow};
 ghost use Rattle.nc_rules.specs.Known.{IsKnown};
 ghost use Rattle.nc_rules.specs.Rules.{flow_of};
@@ -14,6 +15,7 @@ use nc_policy::Policies;
 use nc_rules_route::{path_address, path_parents, route_parents, rules_are_lawful};
 use nc_stable::SettledNetwork;
 use nc_tables::Stable;
+use nc_underlay::DistancesByAddr;
 use std::alloc::{AllocError, Global};
 
 /// The flow graph of every state of a network meets the laws of flow graphs. It does nothing: a
@@ -27,17 +29,20 @@ pub fn rules_make_a_flow()
 /// The rules of a network: its state and the tables of its maps, both of which they own as settling
 /// made them, and how many facts were asked for. Nothing gives the state back, so whatever is
 /// inferred of it is counted here. They keep the ways of packets for one address, that of the fact of
-/// such a way that was inferred last; at first there are none.
+/// such a way that was inferred last, and over how few hops each neighbor address is reached of which a
+/// fact was inferred; at first there are none.
 #[derive(Drop)]
 pub struct Rules {
     alloc: Global,
     state: Stable,
     policies: Policies,
     known: Option<Known>,
+    distances: DistancesByAddr,
     asked: u64,
     ghost lawful: { IsFlow (flow_of state) },
     ghost tables: { ArePolicies state.routers policies },
     ghost right: { ForSome known (IsKnown state) },
+    ghost kept: { AreKept state.routers state.base distances },
     ghost counted: { asked < 2 ^ 64 },
 }
 
@@ -58,6 +63,7 @@ impl Rules {
             state,
             policies,
             known: None,
+            distances: DistancesByAddr::new(alloc),
             asked: 0,
         }
     }
@@ -109,7 +115,10 @@ impl Inference for Rules {
                 self.known = Some(known);
                 kind?
             }
-            None => route_parents(&self.state, &self.policies, fact, into)?,
+            None => {
+                let distances = &mut self.distances;
+                route_parents(&self.state, &self.policies, distances, fact, into)?
+            }
         };
         Ok(kind)
     }

@@ -1,6 +1,6 @@
 -- Hops: by which rows a packet goes on, and where to.
-use Rattle.std.proofs.Common.{◌≡◌, ℕ, zero, suc, ◌+◌, ◌<◌, Bool, true, false, not, ◌&&◌, ◌||◌, ◌==◌, List, length, map, Option, Some, None, refl, sym, ap, subst, ◌∙◌, arith}
-use Rattle.std.proofs.lemmas.Bool.{and_parts}
+use Rattle.std.proofs.Common.{◌≡◌, ℕ, zero, suc, ◌+◌, ◌-◌, ◌<◌, ◌≤◌, Bool, true, false, not, ◌&&◌, ◌||◌, ◌==◌, nat_eq, nat_lt, List, length, map, Option, Some, None, refl, sym, ap, subst, ◌∙◌, arith}
+use Rattle.std.proofs.lemmas.Bool.{and_parts, lt-ltb, le-ltb}
 use Rattle.std.specs.List.{list_any, filter_map, slice_get, position}
 use Rattle.std.specs.Option.{option_map_or, option_and_then, is_some}
 use Rattle.std.proofs.lemmas.Option.{option_and_then_some, cond_some}
@@ -15,6 +15,13 @@ use Rattle.nc_tables.specs.Reach.{rows_of, is_hit, hits, exit_of, is_linked, exi
 use Rattle.nc_types.proofs.Members.{In, in_by_filter, in_by_filter_map, some_passes}
 use Rattle.nc_tables.proofs.Ordered.{place_within}
 use Rattle.nc_types.proofs.Lookups.{is_placed}
+use Rattle.nc_types.specs.declared.TheConstants.{HOP_LIMIT}
+use Rattle.nc_types.specs.declared.addr.Addr.{Addr}
+use Rattle.nc_types.specs.declared.config.RouterId.{RouterId}
+use Rattle.nc_tables.specs.State.{StateView}
+use Rattle.nc_fact.specs.declared.fact.Fact.TheVariants.{Hop}
+use Rattle.nc_fact.specs.Facts.{holds}
+use Rattle.nc_fact.proofs.Places.{and_false}
 
 module _ (routers : List ConfigView) (tables : List (List BaseRow)) where
   -- a hit is a row of the table
@@ -72,3 +79,34 @@ module _ (routers : List ConfigView) (tables : List (List BaseRow)) where
       by_router : (o : Option ConfigView) → option_and_then (λ c. position (has_address addr) c.interfaces) o ≡ None → option_map_or (λ c. is_own c.interfaces addr) o false ≡ false
       by_router None e = refl
       by_router (Some c) e = sym (is_placed (has_address addr) c.interfaces) ∙ ap is_some e
+
+-- ---- whether a hop holds
+
+module _ (s : StateView) (router : RouterId) (addr : Addr) (row : ℕ) where
+  abbrev hits_it : Bool
+  hits_it = is_hit s.base router.0 row
+
+  -- over no hop, or over more than there may be, none does
+  pub no_hop : (hops : ℕ) → hops ≡ 0 → false ≡ (hits_it && holds s (Hop router addr row hops))
+  unfolding holds
+  no_hop hops none = sym (ap (λ (n : ℕ). hits_it && holds s (Hop router addr row n)) none ∙ and_false hits_it)
+
+  pub too_many : (hops : ℕ) → HOP_LIMIT < hops → false ≡ (hits_it && holds s (Hop router addr row hops))
+  unfolding holds
+  too_many zero many = absurd (omega arith)
+  too_many (suc hops) many = sym (ap (λ (b : Bool). hits_it && (b && (list_any (nat_eq row) (hits s.base router.0 addr.0) && leads_far hops (leads_to s.routers s.base router.0 addr.0 row)))) (le-ltb hops HOP_LIMIT (omega arith)) ∙ and_false hits_it)
+    where
+      leads_far : ℕ → Option PlaceIn → Bool
+      leads_far n q = option_map_or (λ (next : PlaceIn). reaches s.routers s.base n next.router addr.0) q false
+
+  -- else it does where the row leads to a router from which a packet comes on
+  pub by_row : (hops : ℕ) (q : Option PlaceIn) → 0 < hops → hops ≤ HOP_LIMIT → list_any (nat_eq row) (hits s.base router.0 addr.0) ≡ hits_it → hits_it ≡ true → q ≡ leads_to s.routers s.base router.0 addr.0 row
+      → option_map_or (λ (next : PlaceIn). reaches s.routers s.base (hops - 1) next.router addr.0) q false ≡ (hits_it && holds s (Hop router addr row hops))
+  unfolding holds
+  by_row zero q some few longest hit leads = absurd (omega arith)
+  by_row (suc hops) q some few longest hit leads =
+      let less : suc hops - 1 ≡ hops = omega arith in
+      let there : nat_lt hops HOP_LIMIT ≡ true = lt-ltb hops HOP_LIMIT (omega arith) in
+      ap (λ (n : ℕ). option_map_or (λ (next : PlaceIn). reaches s.routers s.base n next.router addr.0) q false) less
+      ∙ ap (λ (p : Option PlaceIn). option_map_or (λ (next : PlaceIn). reaches s.routers s.base hops next.router addr.0) p false) leads
+      ∙ rw (hit, there, longest, hit) refl

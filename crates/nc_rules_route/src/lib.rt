@@ -1,7 +1,8 @@
 //! Rules of routes and of the ways of packets: from which facts each fact follows.
 //!
 //! The crate stands on `nc_tables` for the state of a network, on `nc_fact` for the facts, on `nc_sessions` for
-//! the two ends of a session, on `nc_trace` for the ways of packets, and on `nc_graph` for the ways in which a fact
+//! the two ends of a session, on `nc_underlay` for how far an address is reached, which its caller keeps, on
+//! `nc_trace` for the ways of packets, and on `nc_graph` for the ways in which a fact
 //! may follow from others. Its contract promises that [`route_parents`] and, for the facts of packets' ways,
 //! [`path_parents`] give of each fact that holds exactly the parents and the kind that the rules define; that
 //! [`path_address`] tells these facts from the others; and that the rules make a flow

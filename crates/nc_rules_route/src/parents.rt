@@ -2,6 +2,7 @@
 
 ghost use Rattle.std.specs.Prelude.{◌≡◌, ◌++◌, ◌≤◌, true, None, length, take, is_ok, IfOk, MatchOption, OnOk, if◌then◌else◌};
 ghost use Rattle.nc_trace.specs.Traced.{IsTracedTo};
+ghost use Rattle.nc_underlay.specs.Kept.{AreKept};
 ghost use Rattle.nc_policy.specs.Indexes.{ArePolicies};
 ghost use Rattle.nc_fact.specs.Facts.{holds};
 ghost use Rattle.nc_rules_route.specs.Parents.{kind, parents, path_address};
@@ -19,6 +20,7 @@ use nc_policy::Policies;
 use nc_tables::Stable;
 use nc_trace::TracedTo;
 use nc_types::Addr;
+use nc_underlay::DistancesByAddr;
 use std::alloc::AllocError;
 
 // How a fact follows from its parents.
@@ -64,12 +66,15 @@ pub fn path_address(fact: &Fact) -> Option<Addr>
 fn push_parents(
     state: &Stable,
     policies: &Policies,
+    distances: &mut DistancesByAddr,
     fact: &Fact,
     into: &mut Vec<Fact>,
 ) -> Result<(), AllocError>
     requires policies { ArePolicies state.now.routers policies.now }
+    requires distances { AreKept state.now.routers state.now.base distances.old }
     requires holds { holds state.now fact.now ≡ true }
     requires other { path_address fact.now ≡ None }
+    ensures distances { AreKept state.now.routers state.now.base distances.new }
     ensures ok { OnOk result (into.new.items ≡ into.old.items ++ parents state.now fact.now) }
     ensures kept { take (length into.old.items) into.new.items ≡ into.old.items }
 {
@@ -80,7 +85,7 @@ fn push_parents(
         Fact::Base(router, row) => push_base(state, router, row, into),
         Fact::Resolve(router, addr) => push_resolve(state, router, addr, into),
         Fact::NetSource(router, prefix) => push_source(state, router, prefix, into),
-        Fact::Reach(router, addr, hops) => { push_reach(state, policies, router, addr, hops, into) }
+        Fact::Reach(router, addr, hops) => push_reach(state, distances, router, addr, hops, into),
         Fact::Hop(router, addr, row, hops) => push_hop(state, router, addr, row, hops, into),
         Fact::Session(router, place) => push_session(state, router, place, into),
         Fact::Origin(router, place) => push_origin(state, router, place, into),
@@ -162,18 +167,21 @@ fn kind_behind(
 pub fn route_parents(
     state: &Stable,
     policies: &Policies,
+    distances: &mut DistancesByAddr,
     fact: &Fact,
     into: &mut Vec<Fact>,
 ) -> Result<NodeKind, AllocError>
     requires policies { ArePolicies state.now.routers policies.now }
+    requires distances { AreKept state.now.routers state.now.base distances.old }
     requires holds { holds state.now fact.now ≡ true }
     requires other { path_address fact.now ≡ None }
+    ensures distances { AreKept state.now.routers state.now.base distances.new }
     ensures kind { IfOk result (λ k. k ≡ kind fact.now) }
     ensures parents { into.new.items
         ≡ (if is_ok result then into.old.items ++ parents state.now fact.now else into.old.items) }
 {
     let before = into.len();
-    let pushed = push_parents(state, policies, fact, into);
+    let pushed = push_parents(state, policies, distances, fact, into);
     kind_behind(fact, before, pushed, into)
 }
 

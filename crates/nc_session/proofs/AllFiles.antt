@@ -6,7 +6,7 @@ use Rattle.nc_outside.specs.Named.{Named}
 use Rattle.nc_outside.specs.Counts.{Faults}
 use Rattle.nc_tables.specs.State.{StateView}
 use Rattle.nc_network.specs.Judged.{judged}
-use Rattle.nc_types.specs.declared.TheConstants.{ROUTER_LIMIT}
+use Rattle.nc_session.specs.Limits.{most_routers}
 use Rattle.nc_session.specs.declared.refusal.LoadFault.{LoadFault}
 use Rattle.nc_session.specs.declared.refusal.LoadFault.TheVariants.{Outside, Over, Bad, Memory}
 use Rattle.nc_session.specs.declared.refusal.LoadFault.TheVariants as faults
@@ -19,15 +19,15 @@ abbrev by_count : List (List ℕ) → List Named → Bool → Result (List Confi
 by_count names fs few = cond few (load_joined names (load_each fs names)) (Err (TooMany Routers))
 
 -- too many files
-pub too_many : (rounds : ℕ) (names : List (List ℕ)) (files : Option (List Named)) → ROUTER_LIMIT < length names → IfSome files (λ fs. load_settled rounds (load_names names fs) ≡ Err (TooMany Routers))
+pub too_many : (rounds : ℕ) (names : List (List ℕ)) (files : Option (List Named)) → most_routers < length names → IfSome files (λ fs. load_settled rounds (load_names names fs) ≡ Err (TooMany Routers))
 unfolding load_names
 too_many rounds names files many =
-    some_of files (λ fs. load_settled rounds (load_names names fs) ≡ Err (TooMany Routers)) (λ fs. ap (λ (few : Bool). load_settled rounds (by_count names fs few)) (lt-leb (length names) ROUTER_LIMIT many))
+    some_of files (λ fs. load_settled rounds (load_names names fs) ≡ Err (TooMany Routers)) (λ fs. ap (λ (few : Bool). load_settled rounds (by_count names fs few)) (lt-leb (length names) most_routers many))
 
-module _ (rounds : ℕ) (names : List (List ℕ)) (few : length names ≤ ROUTER_LIMIT) where
+module _ (rounds : ℕ) (names : List (List ℕ)) (few : length names ≤ most_routers) where
   names_is : (fs : List Named) → load_names names fs ≡ load_joined names (load_each fs names)
   unfolding load_names
-  names_is fs = ap (by_count names fs) (le-leb (length names) ROUTER_LIMIT few)
+  names_is fs = ap (by_count names fs) (le-leb (length names) most_routers few)
 
   -- what comes of all files by their state
   abbrev outcome : List Named → Result StateView Refusal

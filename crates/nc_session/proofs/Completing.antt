@@ -3,8 +3,8 @@ use Rattle.std.proofs.Common.{◌≡◌, ◌⊎◌, ℕ, ◌<◌, Bool, true, co
 use Rattle.nc_outside.specs.Named.{Named}
 use Rattle.nc_outside.specs.Counts.{Rose}
 use Rattle.nc_words.specs.Words.{InputView, Files, Generated, RequestView}
-use Rattle.nc_session.specs.File.{LoadedView}
-use Rattle.nc_types.specs.declared.TheConstants.{ROUTER_LIMIT}
+use Rattle.nc_engine.specs.File.{LoadedView}
+use Rattle.nc_session.specs.Limits.{most_routers}
 use Rattle.nc_session.specs.declared.status.Status.{Status}
 use Rattle.nc_session.specs.declared.status.Status.TheVariants.{Done, Config, Usage, Unstable, InputFault, OutputFault, FileFault, Memory, Limit}
 use Rattle.nc_session.specs.Load.{Refusal, Missing, files_in, lists_in, load_asked, load_over, names_in}
@@ -21,14 +21,14 @@ Outcome = Result LoadedView Refusal
 pub files_are : (asked : Option RequestView) (request : RequestView) → asked ≡ Some request → named_asked asked ≡ named_in request.input
 files_are asked request named = ap named_asked named
 
-few_files : (asked : Option RequestView) → IsNamingFew asked → ROUTER_LIMIT < length (named_asked asked) → ⊥
+few_files : (asked : Option RequestView) → IsNamingFew asked → most_routers < length (named_asked asked) → ⊥
 few_files asked few many = absurd (omega (arith, ap length (files_are asked few.0 few.1), few.2, many))
 
-no_files : (asked : Option RequestView) → asked ≡ None → ROUTER_LIMIT < length (named_asked asked) → ⊥
+no_files : (asked : Option RequestView) → asked ≡ None → most_routers < length (named_asked asked) → ⊥
 no_files asked none many = absurd (omega (arith, ap length (ap named_asked none), many))
 
 -- too many files end as a limit that is passed, if that could be told
-pub many_ends : (asked : Option RequestView) (before now : Seen) (status : Status) → EndsAs asked before now status → ROUTER_LIMIT < length (named_asked asked) → IsLimitOrUntold status
+pub many_ends : (asked : Option RequestView) (before now : Seen) (status : Status) → EndsAs asked before now status → most_routers < length (named_asked asked) → IsLimitOrUntold status
 many_ends asked before now Done e many = absurd (few_files asked e.2 many)
 many_ends asked before now Config e many = absurd (few_files asked e.2 many)
 many_ends asked before now Usage e many = absurd (no_files asked e.2 many)

@@ -5,8 +5,8 @@ use Rattle.std.specs.Prelude.{IfOk, MatchResult}
 use Rattle.std.specs.Io.KnownBytes.{Appends, Keeps, IsAtEnd}
 use Rattle.nc_outside.specs.Named.{Named}
 use Rattle.nc_outside.specs.Counts.{Rose, Follows}
-use Rattle.nc_session.specs.File.{LoadedView}
-use Rattle.nc_types.specs.declared.TheConstants.{ROUTER_LIMIT}
+use Rattle.nc_engine.specs.File.{LoadedView}
+use Rattle.nc_session.specs.Limits.{most_routers}
 use Rattle.nc_session.specs.declared.refusal.LoadFault.{LoadFault}
 use Rattle.nc_session.specs.declared.refusal.LoadFault.TheVariants as load
 use Rattle.nc_session.specs.declared.refusal.Quantity.TheVariants.{Routers}
@@ -126,7 +126,7 @@ module _ (request : RequestView) (before now : Seen) (result : Status) where
   file_cause (inl rose) = inl rose
   file_cause (inr missing) = inr (absent before.files missing.0)
 
-  few_by : (fault : LoadFault) → (fault ≡ load.Over Routers → ⊥) → (fault ≡ load.Over Routers) ⊎ (length (named_in request.input) ≤ ROUTER_LIMIT) → length (named_in request.input) ≤ ROUTER_LIMIT
+  few_by : (fault : LoadFault) → (fault ≡ load.Over Routers → ⊥) → (fault ≡ load.Over Routers) ⊎ (length (named_in request.input) ≤ most_routers) → length (named_in request.input) ≤ most_routers
   few_by fault other (inl many) = absurd (other many)
   few_by fault other (inr few) = few
 
@@ -139,7 +139,7 @@ module _ (request : RequestView) (before now : Seen) (result : Status) where
   -- the files give no network
   pub refused_ends : (fault : LoadFault) → now.failures.source ≡ before.failures.source
       → IfSome (needed_in request.input before.files) (λ fs. IsFault (names_in request.input) fault (load_request request fs))
-      → HasFaultCause before.files (load_request request) before.faults now.faults fault → (fault ≡ load.Over Routers) ⊎ (length (named_in request.input) ≤ ROUTER_LIMIT)
+      → HasFaultCause before.files (load_request request) before.faults now.faults fault → (fault ≡ load.Over Routers) ⊎ (length (named_in request.input) ≤ most_routers)
       → EndsRefused (names_in request.input) fault (sink_of before) (sink_of now) result → EndsAs asked before now result
   refused_ends load.Outside source is cause few silent =
       by_status asked before now result FileFault silent.0 (file_cause cause, source, silent.1, (request, refl, few_by load.Outside (λ e. absurd cc) few), silent.2)
@@ -159,7 +159,7 @@ module _ (request : RequestView) (before now : Seen) (result : Status) where
   refused_ends (load.Unsettled rounds) source is cause few (inr silent) = memory_ends asked before now result cause source silent
 
   -- the files give a network
-  module _ (few : length (named_in request.input) ≤ ROUTER_LIMIT) (loaded : LoadedView) (files : now.faults ≡ before.faults) (is : IsLoad (Ok loaded)) where
+  module _ (few : length (named_in request.input) ≤ most_routers) (loaded : LoadedView) (files : now.faults ≡ before.faults) (is : IsLoad (Ok loaded)) where
     quiet_by : now.failures.source ≡ before.failures.source → now.failures.sink ≡ before.failures.sink → NoFault before now
     quiet_by source sink = record { files = files; source = source; sink = sink }
 
@@ -255,7 +255,7 @@ module _ (rounds : ℕ) (names : List (List ℕ)) (before now : Seen) where
   open_of_cut loaded (Some r) None takes = takes
   open_of_cut loaded (Some r) (Some l) takes = (takes.0, takes.1, record { few = takes.2.few; goes = takes.2.goes })
 
-  module _ (few : length names ≤ ROUTER_LIMIT) (loaded : LoadedView) (files : now.faults ≡ before.faults) (is : IfSome before.files (λ fs. load_over true rounds names fs ≡ Ok loaded)) where
+  module _ (few : length names ≤ most_routers) (loaded : LoadedView) (files : now.faults ≡ before.faults) (is : IfSome before.files (λ fs. load_over true rounds names fs ≡ Ok loaded)) where
     -- the source failed
     cut_ends : Leaves loaded before.told now.told InputFault → FailsAs before.failures now.failures InputFault → EndsAs (Some of_files) before now InputFault
     cut_ends leaves fails = (

@@ -1,7 +1,5 @@
 -- How a run over a generated network ends.
-use Rattle.std.proofs.Common.{◌≡◌, ◌≢◌, ◌⊎◌, ℕ, ◌≤◌, Bool, true, false, List, [], Option, None, Some, Result, Ok, Err, IfSome, refl, sym, ap, ◌∙◌, subst, inl, inr, arith}
-use Rattle.std.specs.Io.KnownBytes.{Appends}
-use Rattle.nc_types.specs.declared.TheConstants.{ROUTER_LIMIT}
+use Rattle.std.proofs.Common.{◌≡◌, ◌≢◌, ◌⊎◌, ℕ, true, false, List, [], Option, Some, Result, Ok, Err, refl, sym, ◌∙◌, subst, inl, inr, arith}
 use Rattle.nc_outside.specs.Named.{Named}
 use Rattle.nc_outside.specs.Counts.{Faults, Rose, Follows}
 use Rattle.nc_words.specs.Words.{Generated, RequestView}
@@ -9,7 +7,7 @@ use Rattle.nc_session.specs.declared.refusal.LoadFault.{LoadFault}
 use Rattle.nc_session.specs.declared.refusal.LoadFault.TheVariants as load
 use Rattle.nc_session.specs.declared.status.Status.{Status}
 use Rattle.nc_session.specs.declared.status.Status.TheVariants.{Done, Config, Usage, Unstable, InputFault, OutputFault, FileFault, Memory, Limit}
-use Rattle.nc_session.specs.File.{LoadedView}
+use Rattle.nc_engine.specs.File.{LoadedView}
 use Rattle.nc_session.specs.Reading.{HasStopCause}
 use Rattle.nc_session.specs.declared.reading.Stop.{Stop}
 use Rattle.nc_session.specs.declared.reading.Stop.TheVariants as stops
@@ -18,10 +16,11 @@ use Rattle.nc_tables.specs.State.{StateView}
 use Rattle.nc_session.specs.Generated.{tree_files, tree_names, tree_session}
 use Rattle.nc_session.specs.Load.{Refusal, Missing, load_names, load_over, load_request, load_settled}
 use Rattle.nc_session.specs.Loading.{IsFault, IsMissingOf, HasFaultCause, AreFilesNamed}
-use Rattle.nc_session.specs.Output.{heading_in, session_in}
-use Rattle.nc_session.specs.Leaving.{Told, told, Failures, failures, Begins, IsBegun, Leaves, FailsAs, GoesOn}
+use Rattle.nc_session.specs.Output.{heading_in}
+use Rattle.nc_session.specs.Leaving.{Told, told, failures, Begins, IsBegun, Leaves, FailsAs}
+use Rattle.nc_engine.specs.Session.{GoesOn}
 use Rattle.nc_session.specs.Causes.{IsLate}
-use Rattle.nc_session.specs.Ending.{SinkSeen, Silent, EndsRefused, Seen, EndsAs, IsServedBehind, ServesBehind}
+use Rattle.nc_session.specs.Ending.{SinkSeen, EndsRefused, Seen, EndsAs, ServesBehind}
 use Rattle.nc_session.proofs.Ends.{memory_ends, refused_ends, headed_ends, served_ends, refused_early, refused_outside}
 use Rattle.nc_session.proofs.GeneratedFiles.{tree_there}
 use Rattle.nc_session.proofs.Options.{keeps_same}

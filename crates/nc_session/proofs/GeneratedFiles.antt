@@ -1,26 +1,24 @@
 -- The files of a generated network: their names are texts, and each of them is there.
-use Rattle.std.proofs.Common.{◌≡◌, ◌≢◌, ℕ, ◌<◌, Bool, true, false, cond, nat_le, nat_lt, zero, ◌&&◌, ◌*◌, ◌/◌, suc, List, [], ◌∷◌, ◌++◌, codes, length, map, All, Option, Some, None, Result, Ok, Err, refl, sym, ap, ◌∙◌, subst, inl, inr, arith}
+use Rattle.std.proofs.Common.{◌≡◌, ◌≢◌, ℕ, ◌<◌, Bool, true, false, cond, nat_le, nat_lt, zero, ◌&&◌, ◌*◌, ◌/◌, suc, List, [], ◌∷◌, ◌++◌, codes, length, map, All, Option, Some, None, Result, Ok, Err, refl, sym, ap, ◌∙◌, subst, arith}
 use Rattle.std.specs.List.{flat_map, list_all}
 use Rattle.std.specs.Fmt.{decimal}
 use Rattle.std.proofs.lemmas.Fmt.{IsAscii-decimal}
 use Rattle.std.specs.Str.{IsUtf8, IsAscii, bytes_eq}
 use Rattle.std.specs.Option.{option_map_or}
 use Rattle.std.proofs.lemmas.Bool.{and_parts}
-use Rattle.std.proofs.lemmas.Bool.Decides.{eqb_tells, nat_tests}
+use Rattle.std.proofs.lemmas.Bool.Decides.{nat_tests}
 use Rattle.std.proofs.lemmas.List.Elements.{All-nil, All-cons}
 use Rattle.std.proofs.lemmas.Slice.Eq.{bytes_eq-Decides}
 use Rattle.std.proofs.lemmas.Str.{IsUtf8-append, IsUtf8-from_ascii}
 use Rattle.nc_types.specs.Config.{ConfigView}
-use Rattle.nc_types.specs.Joining.{Clash}
 use Rattle.nc_types.specs.declared.fault.Fault.{Fault}
 use Rattle.nc_outside.specs.Named.{Named, content_of}
 use Rattle.nc_lines.specs.Lines.{lines_of}
 use Rattle.nc_reader.specs.Configuration.{configuration}
-use Rattle.nc_network.specs.Judged.{ClashKind, Names, Overlaps, Addresses, References, Judgement, Clashing, OverLimit, Fine, judged}
+use Rattle.nc_network.specs.Judged.{Names, Overlaps, Addresses, References, Judgement, Clashing, OverLimit, Fine, judged}
 use Rattle.nc_tables.specs.State.{StateView}
 use Rattle.nc_tables.specs.Settling.{settled}
-use Rattle.nc_types.specs.declared.TheConstants.{ROUTER_LIMIT, LINE_LIMIT}
-use Rattle.nc_session.specs.declared.TheConstants.{FILE_LIMIT}
+use Rattle.nc_session.specs.Limits.{most_file_bytes, most_lines, most_routers}
 use Rattle.nc_session.specs.declared.refusal.Quantity.TheVariants.{Routers, Bytes, Lines}
 use Rattle.nc_gen.specs.declared.generated.GenFile.{GenFile}
 use Rattle.nc_gen.specs.Tree.{below, is_size, routers}
@@ -140,12 +138,12 @@ lines_there name r true is = result_there name r is
 lines_there name r false is = absurd cc
 
 content_there : (name : List ℕ) (lines : List (List ℕ)) (few : Bool) → cond few (load_lines name lines) (Err (TooMany Bytes)) ≢ Err Missing
-content_there name lines true is = lines_there name (configuration lines) (nat_le (length lines) LINE_LIMIT) is
+content_there name lines true is = lines_there name (configuration lines) (nat_le (length lines) most_lines) is
 content_there name lines false is = absurd cc
 
 one_there : (name : List ℕ) (content : Option (List ℕ)) → content ≢ None → load_content name content ≢ Err Missing
 one_there name None there is = there refl
-one_there name (Some content) there is = content_there name (lines_of content) (nat_le (length content) FILE_LIMIT) is
+one_there name (Some content) there is = content_there name (lines_of content) (nat_le (length content) most_file_bytes) is
 
 and_there : (one : Result ConfigView Refusal) (further : Result (List ConfigView) Refusal) → one ≢ Err Missing → further ≢ Err Missing → and_then one further ≢ Err Missing
 and_there (Ok c) (Ok cs) first more is = absurd cc
@@ -172,7 +170,7 @@ joined_there names (Err refusal) there is = there is
 
 names_there : (names : List (List ℕ)) (files : List Named) → Present files names → load_names names files ≢ Err Missing
 unfolding load_names
-names_there names files are is = on (nat_le (length names) ROUTER_LIMIT) is
+names_there names files are is = on (nat_le (length names) most_routers) is
   where
     on : (few : Bool) → cond few (load_joined names (load_each files names)) (Err (TooMany Routers)) ≢ Err Missing
     on true is = joined_there names (load_each files names) (each_there files names are) is

@@ -18,10 +18,10 @@ use Rattle.nc_network.specs.Judged.{Names, Overlaps, Addresses, References, Judg
 use Rattle.nc_network.specs.Told.{IsTold, fault_of, router_of}
 use Rattle.nc_network.specs.declared.fault.JoinFault.{JoinFault}
 use Rattle.nc_network.specs.declared.fault.JoinFault.TheVariants as joins
-use Rattle.nc_types.specs.declared.TheConstants.{LINE_LIMIT}
+use Rattle.nc_session.specs.Limits.{most_lines}
 use Rattle.nc_report.specs.Views.{FileView, file_view}
 use Rattle.nc_report.specs.declared.file.LoadedFile.{LoadedFile}
-use Rattle.nc_session.specs.File.{AreFilesOf}
+use Rattle.nc_engine.specs.File.{AreFilesOf}
 use Rattle.nc_session.specs.Load.{Unsettled, load_judged, load_settled}
 use Rattle.nc_session.specs.Loading.{IsFault, IsConfigured, AreBeside, joining_fault}
 
@@ -45,18 +45,18 @@ configured lines c e = by_parts (length lines) _ _ _ _ c e (λ n. refl)
 pub all_formed : (cs : List RouterConfig) → All (λ c. IsConfigured (config_view c)) cs → All IsWellFormed (map config_view cs)
 all_formed cs read = All-map IsWellFormed config_view cs (λ k d within. (read k d within).formed)
 
-pub all_short : (cs : List RouterConfig) → All (λ c. IsConfigured (config_view c)) cs → All (λ c. c.line_count ≤ LINE_LIMIT) cs
+pub all_short : (cs : List RouterConfig) → All (λ c. IsConfigured (config_view c)) cs → All (λ c. c.line_count ≤ most_lines) cs
 all_short cs read = λ k d within. (read k d within).lines
 
 -- the files beside them have no more lines than a file may have
 pub files_short : (files : List LoadedFile) (cs : List RouterConfig) → AreBeside (map file_view files) (map config_view cs) → All (λ c. IsConfigured (config_view c)) cs
-    → All (λ f. length (file_view f).lines ≤ LINE_LIMIT) files
-files_short [] cs beside read = All-nil (λ f. length (file_view f).lines ≤ LINE_LIMIT)
+    → All (λ f. length (file_view f).lines ≤ most_lines) files
+files_short [] cs beside read = All-nil (λ f. length (file_view f).lines ≤ most_lines)
 files_short (f ∷ fs) [] beside read = absurd cc
 files_short (f ∷ fs) (c ∷ cs) beside read =
     let first : length (file_view f).lines ≡ (config_view c).line_count = cc in
     let others : AreBeside (map file_view fs) (map config_view cs) = cc in
-    All-cons (λ f. length (file_view f).lines ≤ LINE_LIMIT) f fs (omega (arith, first, (read 0 c (omega arith)).lines))
+    All-cons (λ f. length (file_view f).lines ≤ most_lines) f fs (omega (arith, first, (read 0 c (omega arith)).lines))
     (files_short fs cs others (λ k d lt. read (suc k) d (omega (arith, lt))))
 
 module _ (rounds : ℕ) (names : List (List ℕ)) (routers : List ConfigView) where

@@ -13,27 +13,29 @@ use Rattle.nc_marks.specs.declared.mark.Mark.{Mark}
 use Rattle.nc_marks.specs.declared.mark.Mark.TheVariants.{Strong, Weak, Uncovered, Outside}
 use Rattle.nc_reader.specs.Configuration.{configuration}
 use Rattle.nc_types.specs.Joining.{IsValid}
-use Rattle.nc_types.specs.declared.TheConstants.{ROUTER_LIMIT}
+use Rattle.nc_session.specs.Limits.{most_routers}
 use Rattle.nc_tables.specs.State.{StateView, IsState}
 use Rattle.nc_tables.specs.Settling.{settled}
 use Rattle.nc_fact.specs.declared.fact.Fact.{Fact}
 use Rattle.nc_fact.specs.Tested.{tested_facts}
 use Rattle.nc_rules.specs.Rules.{flow_of}
-use Rattle.nc_command.specs.declared.command.Command.TheVariants.{Test, Forget, Implies, Show, Lcov, Json, Quit}
+use Rattle.nc_command.specs.declared.command.Command.TheVariants.{Test, Forget, Implies, Cut, Show, Lcov, Json, Quit}
 use Rattle.nc_command.specs.Command.{Line, Passed, TooLong, Unread, Asks, command_of, text_of}
-use Rattle.nc_session.specs.declared.TheConstants.{TEST_LIMIT}
+use Rattle.nc_engine.specs.Limits.{most_tests}
 use Rattle.nc_session.specs.declared.status.Status.{Status}
 use Rattle.nc_report.specs.Texts.{Sheet, letter, report_by, lcov_of, json_of}
-use Rattle.nc_session.specs.Session.{accepted_of, forgot_of}
-use Rattle.nc_session.specs.File.{LoadedView}
-use Rattle.nc_session.specs.Marks.{AreLineMarks, IsSheet, IsFormOf}
-use Rattle.nc_session.specs.Session.{KeptTest, State, no_tests, test_in, with_pair, live_place, IsReported, IsCrowded, Forgets, Compares, Questions, asked_in, live_in, router_of, until_quit, IsReply, Counts, Tests, Lined, Named as IsNamed, has_line, Tells, Shows, listing_at, Answers, Run, AreReplies}
+use Rattle.nc_engine.specs.Session.{accepted_of, forgot_of}
+use Rattle.nc_engine.specs.File.{LoadedView}
+use Rattle.nc_engine.specs.Marks.{AreLineMarks, IsSheet, IsFormOf}
+use Rattle.nc_engine.specs.Session.{KeptTest, State, no_tests, test_in, with_pair, live_place, IsReported, IsCrowded, Forgets, Compares, Questions, CutsNamed, asked_in, live_in, router_of, until_quit, IsReply, Counts, Tests, Lined, Named as IsNamed, has_line, Tells, Shows, listing_at, Answers, Run, AreReplies}
 use Rattle.nc_session.specs.Load.{Refusal, load}
 use Rattle.nc_session.specs.Refusals.{long_session_text}
 use Rattle.nc_session.specs.Output.{ServesWithin, Concludes, Output, heading_asked, is_within, served_lines, session_of}
 use Rattle.nc_words.specs.Words.{request_of}
-use Rattle.nc_session.specs.Crowding.{CrowdsBetween, Crowds, AreCrowding, IsCrowding}
-use Rattle.nc_session.proofs.Carrying.{answer_once}
+use Rattle.nc_session.specs.Crowding.{CrowdsBetween, CrowdsAt, Crowds, AreCrowding, IsCrowding}
+use Rattle.nc_engine.specs.Cuts.{unknown_among}
+use Rattle.nc_engine.proofs.Carrying.{answer_once}
+use Rattle.nc_engine.proofs.Cutting.{cut_once}
 use Rattle.nc_session.proofs.ValidLoads.{loaded_state}
 use Rattle.std.specs.List.Sorted.{IsStrictlyIncreasing}
 use Rattle.nc_diagram.specs.Sets.{has, all_but}
@@ -136,7 +138,7 @@ module _ (lengths : (g : Flow Fact) → IsFlow g → (fs xs ys : List Fact) → 
 
   tests_once : (old : State) (facts : List Fact) (text r t : List ℕ) (m n : State) → Tests network.state network.listed old facts text r m → Tests network.state network.listed old facts text t n → Same r t m n
   tests_once old [] text r t m n p q = (p.0 ∙ sym q.0, p.1 ∙ sym q.1)
-  tests_once old (fact ∷ facts) text r t m n p q = counts_once (nat_lt (length old.tests) TEST_LIMIT) old (fact ∷ facts) r t m n p q
+  tests_once old (fact ∷ facts) text r t m n p q = counts_once (nat_lt (length old.tests) most_tests) old (fact ∷ facts) r t m n p q
 
   lined_once : (there : Bool) (old : State) (test : TestCommand) (r t : List ℕ) (m n : State) → Lined network.state network.listed there old test r m → Lined network.state network.listed there old test t n → Same r t m n
   lined_once false old test r t m n p q = (p.0 ∙ sym q.0, p.1 ∙ sym q.1)
@@ -176,6 +178,16 @@ module _ (lengths : (g : Flow Fact) → IsFlow g → (fs xs ys : List Fact) → 
   questions_once (Some i) None old first second r t m n p q = inl (p.0 ∙ sym q.0, p.1 ∙ sym q.1)
   questions_once (Some i) (Some j) old first second r t m n p q = compares_once old i j first second r t m n p q
 
+  -- and so is a cut
+  cuts_once : (unknown : Option (List ℕ)) (place : Option ℕ) (old : State) (number : ℕ) (names : List (List ℕ)) (r t : List ℕ) (m n : State) → CutsNamed network.state unknown place old number names r m
+      → CutsNamed network.state unknown place old number names t n → Same r t m n ⊎ CrowdsAt network.state old unknown place
+  cuts_once (Some name) place old number names r t m n p q = inl (p.0 ∙ sym q.0, p.1 ∙ sym q.1)
+  cuts_once None None old number names r t m n p q = inl (p.0 ∙ sym q.0, p.1 ∙ sym q.1)
+  cuts_once None (Some place) old number names r t m n (inl p) (inl q) =
+      inl (cut_once (flow_of network.state) network.state.routers names (test_in old.tests place).facts number r t p.0 q.0, p.1 ∙ sym q.1)
+  cuts_once None (Some place) old number names r t m n (inl p) (inr q) = inr q.0
+  cuts_once None (Some place) old number names r t m n (inr p) q = inr p.0
+
   step_once : (old : State) (line : Line) (r t : List ℕ) (m n : State) → Answers network old line r m → Answers network old line t n → Same r t m n ⊎ Crowds network.state old line
   step_once old Passed r t m n p q = inl (p.0 ∙ sym q.0, p.1 ∙ sym q.1)
   step_once old TooLong r t m n p q = inl (p.0 ∙ sym q.0, p.1 ∙ sym q.1)
@@ -187,6 +199,7 @@ module _ (lengths : (g : Flow Fact) → IsFlow g → (fs xs ys : List Fact) → 
   step_once old (Asks (Test test)) r t m n p q = inl (named_once (router_named network.state.routers (router_of test)) old test r t m n p q)
   step_once old (Asks (Forget number)) r t m n p q = inl (forgets_once (live_place old.tests number) old number r t m n p q)
   step_once old (Asks (Implies first second)) r t m n p q = questions_once (live_place old.tests first) (live_place old.tests second) old first second r t m n p q
+  step_once old (Asks (Cut number names)) r t m n p q = cuts_once (unknown_among network.state.routers names) (live_place old.tests number) old number names r t m n p q
 
   -- the replies are the same, up to a question of too many parts
   run_once : (old : State) (lines : List (List ℕ)) (r t : List ℕ) (m n : State) → Run network old lines r m → Run network old lines t n → (r ≡ t) ⊎ AreCrowding network old lines
@@ -232,7 +245,7 @@ module _ (lengths : (g : Flow Fact) → IsFlow g → (fs xs ys : List Fact) → 
 -- ---- one output
 
 module _ (formed : (lines : List (List ℕ)) (c : ConfigView) → configuration lines ≡ Ok c → IsWellFormed c)
-    (lawful : (routers : List ConfigView) (rounds : ℕ) (s : StateView) → IsValid routers → length routers ≤ ROUTER_LIMIT → settled rounds routers ≡ Some s → IsState s)
+    (lawful : (routers : List ConfigView) (rounds : ℕ) (s : StateView) → IsValid routers → length routers ≤ most_routers → settled rounds routers ≡ Some s → IsState s)
     (flows : (s : StateView) → IsState s → IsFlow (flow_of s))
     (lengths : (g : Flow Fact) → IsFlow g → (fs xs ys : List Fact) → IsClosure g fs xs → IsClosure g fs ys → length xs ≡ length ys)
     (lacks : (missing : List ℕ) (v : ℕ) → IsStrictlyIncreasing missing → (has (all_but missing) v ≡ false) ↔ Contains missing v) where

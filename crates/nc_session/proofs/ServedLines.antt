@@ -5,19 +5,19 @@ use Rattle.std.specs.Io.KnownBytes.{Appends}
 use Rattle.std.proofs.KnownBytes.{Appends-trans, Appends-nil}
 use Rattle.std.proofs.lemmas.Bool.{lt-ltb, ltb-true, or_left, or_right, or_from}
 use Rattle.std.proofs.lemmas.List.Folds.{list_any-append}
-use Rattle.nc_session.specs.File.{LoadedView}
+use Rattle.nc_engine.specs.File.{LoadedView}
 use Rattle.nc_command.specs.declared.TheConstants as command
-use Rattle.nc_command.specs.declared.command.Command.TheVariants.{Test, Forget, Implies, Show, Lcov, Json, Quit}
+use Rattle.nc_command.specs.declared.command.Command.TheVariants.{Test, Forget, Implies, Cut, Show, Lcov, Json, Quit}
 use Rattle.nc_command.specs.Command.{Line, Passed, TooLong, Unread, Asks, command_of, asked_by}
 use Rattle.nc_command.specs.declared.cutter.Cut.TheVariants as cut
 use Rattle.nc_command.specs.Cutting.{cut_of}
 use Rattle.nc_lines.specs.Lines.{words_of, without_return}
-use Rattle.nc_session.specs.declared.engine.Flow.{Flow}
-use Rattle.nc_session.specs.declared.engine.Flow.TheVariants.{Go, Stop}
+use Rattle.nc_engine.specs.declared.engine.Flow.{Flow}
+use Rattle.nc_engine.specs.declared.engine.Flow.TheVariants.{Go, Stop}
 use Rattle.nc_session.specs.declared.reading.Stop as stop
-use Rattle.nc_session.specs.Session.{State, Step, Answers, Run, ends, is_quit, until_quit}
+use Rattle.nc_engine.specs.Session.{State, Step, Answers, Run, ends, is_quit, until_quit}
 use Rattle.nc_session.specs.Output.{has_quit}
-use Rattle.nc_session.specs.Engine.{Progress, flow_behind, Turns}
+use Rattle.nc_engine.specs.Engine.{Progress, flow_behind, Turns}
 use Rattle.nc_report.specs.Texts.{line_of}
 use Rattle.nc_session.specs.Serving.{AppendsFront, AppendsPart, EndsWith, AreServed, ArePending, AreEnded, AreBroken, AreAnswered, ServesLines, AnswersLine}
 
@@ -122,6 +122,7 @@ quit_reply n line reply a b quits step = on (command_of line) quits step
     on (Asks (Test test)) quits answers = absurd cc
     on (Asks (Forget number)) quits answers = absurd cc
     on (Asks (Implies first second)) quits answers = absurd cc
+    on (Asks (Cut number names)) quits answers = absurd cc
     on Passed quits answers = absurd cc
     on TooLong quits answers = absurd cc
     on Unread quits answers = absurd cc

@@ -9,56 +9,57 @@ use Rattle.std.proofs.lemmas.List.Folds.{list_any-append}
 use Rattle.nc_lines.specs.Lines.{lines_of}
 use Rattle.nc_lines.specs.WholeLines.{whole_lines_of, open_of}
 use Rattle.nc_lines.proofs.WholeLines.{whole_more, lines_more}
-use Rattle.nc_session.specs.declared.TheConstants.{SESSION_LIMIT}
+use Rattle.nc_session.specs.Limits.{most_session_bytes}
 use Rattle.nc_session.specs.declared.status.Status.TheVariants.{Done, InputFault, Limit}
-use Rattle.nc_session.specs.File.{LoadedView}
-use Rattle.nc_session.specs.Session.{State, no_tests, Run, AreReplies, is_quit, until_quit}
-use Rattle.nc_session.specs.Engine.{Progress, begin_at}
+use Rattle.nc_engine.specs.File.{LoadedView}
+use Rattle.nc_engine.specs.Session.{State, no_tests, Run, AreReplies, is_quit, until_quit}
+use Rattle.nc_engine.specs.Engine.{Progress, begin_at}
 use Rattle.nc_session.specs.Output.{Writes, Serves, ServesWithin, has_quit, is_within, lines_within, served_lines, TookQuit}
 use Rattle.nc_session.specs.Refusals.{long_session_text}
 use Rattle.nc_session.specs.Serving.{AppendsFront, AreServed, AreEnded, AreBroken, AreAnswered}
-use Rattle.nc_session.specs.Leaving.{Told, told, Takes, IsCutShort, Begins, IsBegun, Leaves, GoesOn}
+use Rattle.nc_session.specs.Leaving.{Told, told, Takes, IsCutShort, Begins, IsBegun, Leaves}
+use Rattle.nc_engine.specs.Session.{GoesOn}
 use Rattle.nc_session.proofs.Options.{writes}
 use Rattle.nc_session.proofs.ServedLines.{run_then, until_all, until_ended, until_more}
 
 -- ---- the lines that are served
 
 module _ (session : List ℕ) where
-  pub short_served : length session ≤ SESSION_LIMIT → served_lines session ≡ lines_of session
-  short_served short = ap (λ (b : Bool). cond b (lines_of session) (lines_within session)) (le-leb (length session) SESSION_LIMIT short)
+  pub short_served : length session ≤ most_session_bytes → served_lines session ≡ lines_of session
+  short_served short = ap (λ (b : Bool). cond b (lines_of session) (lines_within session)) (le-leb (length session) most_session_bytes short)
 
-  pub short_within : length session ≤ SESSION_LIMIT → is_within session ≡ true
-  short_within short = ap (λ (b : Bool). cond b true (has_quit (lines_within session))) (le-leb (length session) SESSION_LIMIT short)
+  pub short_within : length session ≤ most_session_bytes → is_within session ≡ true
+  short_within short = ap (λ (b : Bool). cond b true (has_quit (lines_within session))) (le-leb (length session) most_session_bytes short)
 
-  pub long_served : SESSION_LIMIT < length session → served_lines session ≡ lines_within session
-  long_served long = ap (λ (b : Bool). cond b (lines_of session) (lines_within session)) (lt-leb (length session) SESSION_LIMIT long)
+  pub long_served : most_session_bytes < length session → served_lines session ≡ lines_within session
+  long_served long = ap (λ (b : Bool). cond b (lines_of session) (lines_within session)) (lt-leb (length session) most_session_bytes long)
 
-  pub long_within : SESSION_LIMIT < length session → is_within session ≡ has_quit (lines_within session)
-  long_within long = ap (λ (b : Bool). cond b true (has_quit (lines_within session))) (lt-leb (length session) SESSION_LIMIT long)
+  pub long_within : most_session_bytes < length session → is_within session ≡ has_quit (lines_within session)
+  long_within long = ap (λ (b : Bool). cond b true (has_quit (lines_within session))) (lt-leb (length session) most_session_bytes long)
 
 -- the lines within the limit of bytes that stay within it
-few_within : (taken : List ℕ) → length taken ≤ SESSION_LIMIT → lines_within taken ≡ whole_lines_of taken
-few_within taken few = ap whole_lines_of (take_all SESSION_LIMIT taken few)
+few_within : (taken : List ℕ) → length taken ≤ most_session_bytes → lines_within taken ≡ whole_lines_of taken
+few_within taken few = ap whole_lines_of (take_all most_session_bytes taken few)
 
-module _ (taken rest : List ℕ) (few : length taken ≤ SESSION_LIMIT) where
+module _ (taken rest : List ℕ) (few : length taken ≤ most_session_bytes) where
   -- the whole lines of what was taken are in front of those within the limit, and of those that are served
   front_within : (more : List (List ℕ)) × (lines_within (taken ++ rest) ≡ whole_lines_of taken ++ more)
   front_within =
-      let room : ℕ = SESSION_LIMIT - length taken in
-      let sum : length taken + room ≡ SESSION_LIMIT = omega arith in (
+      let room : ℕ = most_session_bytes - length taken in
+      let sum : length taken + room ≡ most_session_bytes = omega arith in (
         whole_lines_of (open_of taken ++ take room rest),
         ap (λ (n : ℕ). whole_lines_of (take n (taken ++ rest))) (sym sum) ∙ ap whole_lines_of (take-append-add taken rest room) ∙ whole_more taken (take room rest),
       )
 
   pub front_served : (more : List (List ℕ)) × (served_lines (taken ++ rest) ≡ whole_lines_of taken ++ more)
-  front_served = elim (cases_lt SESSION_LIMIT (length (taken ++ rest))) [
+  front_served = elim (cases_lt most_session_bytes (length (taken ++ rest))) [
     | inl long ↦ (front_within.0, long_served (taken ++ rest) long ∙ front_within.1)
     | inr short ↦ (lines_of (open_of taken ++ rest), short_served (taken ++ rest) short ∙ lines_more taken rest)
   ]
 
   -- a line that ends the session keeps it within the limit
   pub quit_within : has_quit (whole_lines_of taken) ≡ true → is_within (taken ++ rest) ≡ true
-  quit_within quits = elim (cases_lt SESSION_LIMIT (length (taken ++ rest))) [
+  quit_within quits = elim (cases_lt most_session_bytes (length (taken ++ rest))) [
     | inl long ↦
         long_within (taken ++ rest) long ∙ ap has_quit front_within.1 ∙ list_any-append is_quit (whole_lines_of taken) front_within.0
         ∙ or_left (has_quit (whole_lines_of taken)) (has_quit front_within.0) quits
@@ -142,7 +143,7 @@ took_quit (Some session) None taken consumed quits = absurd consumed
 took_quit (Some session) (Some more) taken consumed quits = (taken, consumed, quits)
 
 module _ (n : LoadedView) (before : Told) (rest new : Option (List ℕ)) (taken : List ℕ) (consumed : Consumes before.rest rest taken) where
-  module _ (few : length taken ≤ SESSION_LIMIT) where
+  module _ (few : length taken ≤ most_session_bytes) where
     -- a line ended the session
     pub quit_leaves : AreEnded (begin_at n) (whole_lines_of taken) before.written new → Leaves n before (told rest new) Done
     quit_leaves e = (
@@ -190,18 +191,18 @@ module _ (n : LoadedView) (before : Told) (rest new : Option (List ℕ)) (taken 
 
 -- ---- past the limit
 
-module _ (n : LoadedView) (before : Told) (rest mid new : Option (List ℕ)) (taken extra : List ℕ) (full : length taken ≡ SESSION_LIMIT) (some : 0 < length extra)
+module _ (n : LoadedView) (before : Told) (rest mid new : Option (List ℕ)) (taken extra : List ℕ) (full : length taken ≡ most_session_bytes) (some : 0 < length extra)
     (consumed : Consumes before.rest rest (taken ++ extra)) (now : Option Progress) (a : AreServed (begin_at n) (whole_lines_of taken) now before.written mid) where
   module _ (more : List ℕ) where
     abbrev session : List ℕ
     session = (taken ++ extra) ++ more
 
-    long : SESSION_LIMIT < length session
+    long : most_session_bytes < length session
     long = omega (arith, length-append (taken ++ extra) more, length-append taken extra)
 
     front : lines_within session ≡ whole_lines_of taken
     front =
-        ap (λ (l : List ℕ). whole_lines_of (take SESSION_LIMIT l)) (append_assoc taken extra more)
+        ap (λ (l : List ℕ). whole_lines_of (take most_session_bytes l)) (append_assoc taken extra more)
         ∙ ap (λ (n : ℕ). whole_lines_of (take n (taken ++ (extra ++ more)))) (sym full) ∙ ap whole_lines_of (take-append_seam taken (extra ++ more))
 
     past : is_within session ≡ false

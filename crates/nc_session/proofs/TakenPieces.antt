@@ -9,23 +9,23 @@ use Rattle.std.proofs.lemmas.List.{length-take}
 use Rattle.nc_lines.specs.Lines.{is_empty, is_feed, lines_of, without_return}
 use Rattle.nc_lines.specs.WholeLines.{whole_lines_of, open_of}
 use Rattle.nc_lines.proofs.WholeLines.{whole_more, whole_held, open_held, whole_fed, open_fed, lines_end, whole_of_open, open_of_open}
-use Rattle.nc_command.specs.declared.TheConstants.{HELD_LIMIT}
 use Rattle.nc_command.specs.declared.cutter.Cut.{Cut}
-use Rattle.nc_command.specs.Cutting.{cut_of, front_of, held_of}
+use Rattle.nc_command.specs.Cutting.{most_held_bytes, cut_of, front_of, held_of}
 use Rattle.nc_command.proofs.CutLemmas.{cut_front, front_more}
-use Rattle.nc_session.specs.declared.TheConstants.{SESSION_LIMIT}
-use Rattle.nc_session.specs.declared.engine.Flow.{Flow}
-use Rattle.nc_session.specs.declared.engine.Flow.TheVariants as flow
+use Rattle.nc_session.specs.Limits.{most_session_bytes}
+use Rattle.nc_engine.specs.declared.engine.Flow.{Flow}
+use Rattle.nc_engine.specs.declared.engine.Flow.TheVariants as flow
 use Rattle.nc_session.specs.declared.reading.Stop.{Stop}
 use Rattle.nc_session.specs.declared.reading.Stop.TheVariants as stop
 use Rattle.nc_session.specs.declared.status.Status.{Status}
 use Rattle.nc_session.specs.declared.status.Status.TheVariants.{Done, Config, Usage, Unstable, InputFault, OutputFault, FileFault, Memory, Limit}
-use Rattle.nc_session.specs.File.{LoadedView}
-use Rattle.nc_session.specs.Session.{no_tests, Run, is_quit}
+use Rattle.nc_engine.specs.File.{LoadedView}
+use Rattle.nc_engine.specs.Session.{no_tests, Run, is_quit}
 use Rattle.nc_session.specs.Output.{has_quit}
-use Rattle.nc_session.specs.Engine.{Progress, begin_at}
+use Rattle.nc_engine.specs.Engine.{Progress, begin_at}
 use Rattle.nc_session.specs.Serving.{AppendsFront, EndsWith, AreServed, ArePending, AreEnded, AreBroken, AreAnswered, ServesLines}
-use Rattle.nc_session.specs.Leaving.{Told, told, failures, Leaves, FailsAs, GoesOn, stopped_as}
+use Rattle.nc_session.specs.Leaving.{Told, told, failures, Leaves, FailsAs, stopped_as}
+use Rattle.nc_engine.specs.Session.{GoesOn}
 use Rattle.nc_session.specs.SoFar.{IsTaken, RefusesRest}
 use Rattle.nc_session.proofs.ServedLines.{pending_served, pending_broken, pending_ends, served_broken, served_quit, served_answered, ended_answered, ended_on}
 use Rattle.nc_session.proofs.SessionLeft.{quit_leaves, end_leaves, fault_leaves, broken_leaves, last_broken, limit_leaves, limit_broken}
@@ -36,7 +36,7 @@ empty_front : (xs : List ℕ) → front_of xs ≡ [] → xs ≡ []
 empty_front [] e = refl
 empty_front (x ∷ xs) e =
     let none : length (front_of (x ∷ xs)) ≡ 0 = ap length e in
-    let taken : length (front_of (x ∷ xs)) ≡ min HELD_LIMIT (length (x ∷ xs)) = length-take HELD_LIMIT (x ∷ xs) in
+    let taken : length (front_of (x ∷ xs)) ≡ min most_held_bytes (length (x ∷ xs)) = length-take most_held_bytes (x ∷ xs) in
     absurd (omega arith)
 
 pub nothing_held : (held : List ℕ) → length held ≡ 0 → held ≡ []
@@ -148,7 +148,7 @@ one_line xs some = lines_end xs ∙ on (open_of xs) some
 
 module _ (n : LoadedView) (before : Told) (rest mid new : Option (List ℕ)) (engine : Option Progress) (held : List ℕ) (room : ℕ)
     (t : IsTaken (begin_at n) before (told rest mid) engine held room) (ended : IsAtEnd rest) where
-  few : length t.taken ≤ SESSION_LIMIT
+  few : length t.taken ≤ most_session_bytes
   few = omega (arith, t.count)
 
   -- nothing is open
@@ -192,7 +192,7 @@ module _ (n : LoadedView) (before : Told) (rest mid new : Option (List ℕ)) (en
 
 -- nothing was taken yet
 pub taken_none : (n : LoadedView) (rest written : Option (List ℕ)) (engine : Option Progress) (held : List ℕ) → engine ≡ Some (begin_at n) → held ≡ []
-    → IsTaken (begin_at n) (told rest written) (told rest written) engine held SESSION_LIMIT
+    → IsTaken (begin_at n) (told rest written) (told rest written) engine held most_session_bytes
 taken_none n rest written engine held is none = record {
   taken = [];
   consumed = Consumes-nil rest;
@@ -215,7 +215,7 @@ module _ (n : LoadedView) (before : Told) (rest mid : Option (List ℕ)) (engine
     further : Consumes before.rest left (t.taken ++ piece)
     further = Consumes-trans before.rest rest left t.taken piece t.consumed consumed
 
-    within : length (t.taken ++ piece) ≤ SESSION_LIMIT
+    within : length (t.taken ++ piece) ≤ most_session_bytes
     within = omega (arith, length-append t.taken piece, t.count)
 
     -- a piece more was taken
@@ -257,9 +257,9 @@ module _ (n : LoadedView) (before : Told) (rest mid : Option (List ℕ)) (engine
 -- an engine that wasn't made leaves nothing
 pub nothing_begun : (n : LoadedView) (rest written : Option (List ℕ)) → GoesOn n → Leaves n (told rest written) (told rest written) Memory
 nothing_begun n rest written goes =
-    let t : IsTaken (begin_at n) (told rest written) (told rest written) (Some (begin_at n)) [] SESSION_LIMIT =
+    let t : IsTaken (begin_at n) (told rest written) (told rest written) (Some (begin_at n)) [] most_session_bytes =
     taken_none n rest written (Some (begin_at n)) [] refl refl in
-    taken_broken n (told rest written) rest written (Some (begin_at n)) [] SESSION_LIMIT t rest [] (Consumes-nil rest) (omega arith) written goes stop.Memory
+    taken_broken n (told rest written) rest written (Some (begin_at n)) [] most_session_bytes t rest [] (Consumes-nil rest) (omega arith) written goes stop.Memory
     (memory_behind (begin_at n) t.taken [] written written (Some (begin_at n)) t.served)
 
 -- as many bytes as the limit allows were taken, and one more
@@ -268,7 +268,7 @@ module _ (n : LoadedView) (before : Told) (rest mid : Option (List ℕ)) (engine
   pub past_leaves : (status : Status) → RefusesRest mid new status → Leaves n before (told left new) status
   past_leaves status refuses = on status refuses
     where
-      full : length t.taken ≡ SESSION_LIMIT
+      full : length t.taken ≡ most_session_bytes
       full = omega (arith, t.count)
 
       more : Consumes before.rest left (t.taken ++ piece)

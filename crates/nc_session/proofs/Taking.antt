@@ -4,7 +4,7 @@ use Rattle.std.proofs.Common.{◌≡◌, ℕ, ◌+◌, ◌≤◌, true, false, L
 use Rattle.std.specs.Io.KnownBytes.{Consumes, Keeps}
 use Rattle.std.proofs.KnownBytes.{Consumes-nil, Consumes-trans, Consumes-kept}
 use Rattle.nc_outside.specs.Named.{Named, Enters, content_of}
-use Rattle.nc_session.specs.declared.TheConstants.{FILE_LIMIT}
+use Rattle.nc_session.specs.Limits.{most_file_bytes}
 use Rattle.nc_session.specs.Reading.{TakesAtMost}
 use Rattle.nc_session.specs.Causes.{TakesOfEntered}
 
@@ -22,14 +22,14 @@ takes_more most rest a b c bytes consumes within takes =
     (bytes ++ takes.0, Consumes-trans a b c bytes takes.0 consumes takes.1, omega (arith, length-append bytes takes.0, takes.2))
 
 -- what is left of a file that was entered
-pub takes_entered : (files : Option (List Named)) (name : List ℕ) (entered now left rest : Option (List ℕ)) → Enters files name entered left → now ≡ entered → TakesAtMost (FILE_LIMIT + 1) left rest → TakesOfEntered files now rest
+pub takes_entered : (files : Option (List Named)) (name : List ℕ) (entered now left rest : Option (List ℕ)) → Enters files name entered left → now ≡ entered → TakesAtMost (most_file_bytes + 1) left rest → TakesOfEntered files now rest
 takes_entered None name entered now left rest enters same takes = tt
 takes_entered (Some files) name entered None left rest enters same takes = tt
 takes_entered (Some files) name entered (Some now) left None enters same takes = tt
 takes_entered (Some files) name entered (Some now) left (Some rest) enters same takes =
     let named : Some now ≡ Some name = same ∙ enters.2 in
     let is : content_of files now ≡ Some enters.0 = ap (λ (o : Option (List ℕ)). option_and_then (content_of files) o) named ∙ enters.1 in
-    (enters.0, is, subst (λ (l : Option (List ℕ)). TakesAtMost (FILE_LIMIT + 1) l (Some rest)) enters.3 takes)
+    (enters.0, is, subst (λ (l : Option (List ℕ)). TakesAtMost (most_file_bytes + 1) l (Some rest)) enters.3 takes)
 
 -- no file is entered
 pub takes_no_file : (files : Option (List Named)) (entered left : Option (List ℕ)) → entered ≡ None → TakesOfEntered files entered left

@@ -13,13 +13,12 @@ use Rattle.nc_reader.specs.Configuration.{configuration}
 use Rattle.nc_network.specs.Judged.{ClashKind, Names, Overlaps, Addresses, References, Judgement, Clashing, OverLimit, Fine, or_clash, judged}
 use Rattle.nc_tables.specs.State.{StateView, IsState}
 use Rattle.nc_tables.specs.Settling.{settled}
-use Rattle.nc_types.specs.declared.TheConstants.{ROUTER_LIMIT, LINE_LIMIT}
-use Rattle.nc_session.specs.declared.TheConstants.{FILE_LIMIT}
+use Rattle.nc_session.specs.Limits.{most_file_bytes, most_lines, most_routers}
 use Rattle.nc_session.specs.declared.refusal.Quantity.TheVariants.{Routers, Bytes, Lines}
 use Rattle.nc_words.specs.Words.{RequestView, request_of}
 use Rattle.nc_report.specs.Views.{FileView}
-use Rattle.nc_session.specs.File.{LoadedView}
-use Rattle.nc_session.specs.Load.{Refusal, TooMany, Unsettled, load, load_result, load_lines, load_content, load_each, and_then, load_judged, load_joined, load_names, load_settled, load_request, load_asked, names_in, files_in, lists_in, file_of, with_files}
+use Rattle.nc_engine.specs.File.{LoadedView}
+use Rattle.nc_session.specs.Load.{Refusal, TooMany, Unsettled, load, load_result, load_lines, load_content, load_each, and_then, load_judged, load_joined, load_names, load_settled, load_asked, names_in, files_in, lists_in, file_of, with_files}
 
 -- ---- joining
 
@@ -39,7 +38,7 @@ valid routers formed fine =
 -- ---- file by file
 
 module _ (formed : (lines : List (List ℕ)) (c : ConfigView) → configuration lines ≡ Ok c → IsWellFormed c)
-    (lawful : (routers : List ConfigView) (rounds : ℕ) (s : StateView) → IsValid routers → length routers ≤ ROUTER_LIMIT → settled rounds routers ≡ Some s → IsState s) where
+    (lawful : (routers : List ConfigView) (rounds : ℕ) (s : StateView) → IsValid routers → length routers ≤ most_routers → settled rounds routers ≡ Some s → IsState s) where
   result_one : (name : List ℕ) (lines : List (List ℕ)) (c : ConfigView) (r : Result ConfigView Fault) → configuration lines ≡ r → load_result name r ≡ Ok c → IsWellFormed c
   result_one name lines c (Err fault) is e = absurd (cc)
   result_one name lines c (Ok d) is e =
@@ -52,12 +51,12 @@ module _ (formed : (lines : List (List ℕ)) (c : ConfigView) → configuration 
   lines_one name lines c false e = absurd (cc)
 
   length_one : (name content : List ℕ) (c : ConfigView) (few : Bool) → cond few (load_lines name (lines_of content)) (Err (TooMany Bytes)) ≡ Ok c → IsWellFormed c
-  length_one name content c true e = lines_one name (lines_of content) c (nat_le (length (lines_of content)) LINE_LIMIT) e
+  length_one name content c true e = lines_one name (lines_of content) c (nat_le (length (lines_of content)) most_lines) e
   length_one name content c false e = absurd (cc)
 
   content_one : (name : List ℕ) (content : Option (List ℕ)) (c : ConfigView) → load_content name content ≡ Ok c → IsWellFormed c
   content_one name None c e = absurd (cc)
-  content_one name (Some content) c e = length_one name content c (nat_le (length content) FILE_LIMIT) e
+  content_one name (Some content) c e = length_one name content c (nat_le (length content) most_file_bytes) e
 
   -- what is known of all that were loaded
   record AreLoaded (names : List (List ℕ)) (cs : List ConfigView) : Type 0 where
@@ -89,7 +88,7 @@ module _ (formed : (lines : List (List ℕ)) (c : ConfigView) → configuration 
   by_settled rounds (Some s) state holds e =
       let same : s ≡ state = cc in subst IsState same (holds s refl)
 
-  routers_settled : (routers : List ConfigView) → IsValid routers → length routers ≤ ROUTER_LIMIT → IsSettled (Ok routers)
+  routers_settled : (routers : List ConfigView) → IsValid routers → length routers ≤ most_routers → IsSettled (Ok routers)
   unfolding IsSettled
   routers_settled routers valid few rounds state e = by_settled rounds (settled rounds routers) state (λ s. lawful routers rounds s valid few) e
 
@@ -97,7 +96,7 @@ module _ (formed : (lines : List (List ℕ)) (c : ConfigView) → configuration 
   unfolding IsSettled
   refusal_settled refusal rounds state e = absurd cc
 
-  judged_settled : (names : List (List ℕ)) (cs : List ConfigView) (j : Judgement) → judged cs ≡ j → All IsWellFormed cs → length cs ≤ ROUTER_LIMIT → IsSettled (load_judged names cs j)
+  judged_settled : (names : List (List ℕ)) (cs : List ConfigView) (j : Judgement) → judged cs ≡ j → All IsWellFormed cs → length cs ≤ most_routers → IsSettled (load_judged names cs j)
   judged_settled names cs (Clashing Names c) is each few = refusal_settled _
   judged_settled names cs (Clashing Overlaps c) is each few = refusal_settled _
   judged_settled names cs (Clashing Addresses c) is each few = refusal_settled _
@@ -105,20 +104,20 @@ module _ (formed : (lines : List (List ℕ)) (c : ConfigView) → configuration 
   judged_settled names cs (OverLimit which) is each few = refusal_settled _
   judged_settled names cs Fine is each few = routers_settled cs (valid cs each is) few
 
-  joined_settled : (names : List (List ℕ)) (each : Result (List ConfigView) Refusal) → length names ≤ ROUTER_LIMIT
+  joined_settled : (names : List (List ℕ)) (each : Result (List ConfigView) Refusal) → length names ≤ most_routers
       → ((cs : List ConfigView) → each ≡ Ok cs → AreLoaded names cs) → IsSettled (load_joined names each)
   joined_settled names (Err refusal) few loaded = refusal_settled refusal
   joined_settled names (Ok cs) few loaded =
       let are = loaded cs refl in judged_settled names cs (judged cs) refl are.each (omega (arith, are.count, few))
 
-  names_settled : (names : List (List ℕ)) (files : List Named) (few : Bool) → nat_le (length names) ROUTER_LIMIT ≡ few
+  names_settled : (names : List (List ℕ)) (files : List Named) (few : Bool) → nat_le (length names) most_routers ≡ few
       → IsSettled (cond few (load_joined names (load_each files names)) (Err (TooMany Routers)))
-  names_settled names files true few = joined_settled names (load_each files names) (leb-true (length names) ROUTER_LIMIT few) (each_loaded files names)
+  names_settled names files true few = joined_settled names (load_each files names) (leb-true (length names) most_routers few) (each_loaded files names)
   names_settled names files false few = refusal_settled (TooMany Routers)
 
   files_settled : (names : List (List ℕ)) (files : List Named) → IsSettled (load_names names files)
   unfolding load_names
-  files_settled names files = names_settled names files (nat_le (length names) ROUTER_LIMIT) refl
+  files_settled names files = names_settled names files (nat_le (length names) most_routers) refl
 
   by_files : (listed : Bool) (files : List FileView) (settles : Result StateView Refusal) (loaded : LoadedView) → ((state : StateView) → settles ≡ Ok state → IsState state)
       → with_files listed files settles ≡ Ok loaded → IsState loaded.state

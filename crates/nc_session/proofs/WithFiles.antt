@@ -1,5 +1,5 @@
 -- What comes of files, as a network with its files.
-use Rattle.std.proofs.Common.{◌≡◌, ℕ, Bool, List, map, Option, Some, None, Result, Ok, Err, IfSome, inl, inr, sym, ap, ◌∙◌}
+use Rattle.std.proofs.Common.{◌≡◌, ℕ, Bool, List, map, Option, Some, None, Result, Ok, IfSome, inl, inr, sym, ap, ◌∙◌}
 use Rattle.nc_outside.specs.Named.{Named}
 use Rattle.nc_outside.specs.Counts.{Faults}
 use Rattle.nc_tables.specs.State.{StateView}
@@ -7,8 +7,7 @@ use Rattle.nc_report.specs.Views.{FileView}
 use Rattle.nc_session.specs.declared.refusal.LoadFault.{LoadFault}
 use Rattle.nc_session.specs.declared.refusal.LoadFault.TheVariants.{Outside, Over, Bad, Memory}
 use Rattle.nc_session.specs.declared.refusal.LoadFault.TheVariants as faults
-use Rattle.nc_session.specs.File.{LoadedView}
-use Rattle.nc_session.specs.Load.{Refusal, Missing, file_of, load_names, load_settled, load_over, with_files}
+use Rattle.nc_session.specs.Load.{Refusal, file_of, load_names, load_settled, load_over, with_files}
 use Rattle.nc_session.specs.Loading.{IsFault, IsMissingOf, HasFaultCause, AreFilesNamed}
 use Rattle.nc_session.proofs.Options.{some_more}
 

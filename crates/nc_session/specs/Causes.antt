@@ -4,8 +4,8 @@ use Rattle.nc_outside.specs.Named.{Named, content_of}
 use Rattle.nc_outside.specs.Counts.{Entries, entries_after}
 use Rattle.nc_lines.specs.WholeLines.{all_but_last, whole_lines_of}
 use Rattle.nc_types.specs.Config.{ConfigView}
-use Rattle.nc_session.specs.File.{LoadedView}
-use Rattle.nc_session.specs.declared.TheConstants.{FILE_LIMIT, SESSION_LIMIT}
+use Rattle.nc_engine.specs.File.{LoadedView}
+use Rattle.nc_session.specs.Limits.{most_file_bytes, most_session_bytes}
 use Rattle.nc_session.specs.declared.status.Status.{Status}
 use Rattle.nc_session.specs.declared.status.Status.TheVariants.{Done, Config, Usage, Unstable, InputFault, OutputFault, FileFault, Memory, Limit}
 use Rattle.nc_words.specs.Words.{InputView, Files, Generated, RequestView, request_of}
@@ -147,7 +147,7 @@ TakesOfEntered None entered left = Unit {0}
 TakesOfEntered (Some files) None left = Unit {0}
 TakesOfEntered (Some files) (Some name) None = Unit {0}
 TakesOfEntered (Some files) (Some name) (Some left) =
-    (content : List ℕ) × (content_of files name ≡ Some content) × TakesAtMost (FILE_LIMIT + 1) (Some content) (Some left)
+    (content : List ℕ) × (content_of files name ≡ Some content) × TakesAtMost (most_file_bytes + 1) (Some content) (Some left)
 
 -- the file entered before is entered still and nothing was taken of it, or of the one that is entered now no more was taken
 -- than is read of a file
@@ -159,7 +159,7 @@ TakesOfFiles files before left_before now left_now =
 
 -- what was taken of a session before its source failed: no more than its limit, and no line that ends it
 pub record IsOpenSession (taken : List ℕ) : Type 0 where
-  pub few : length taken ≤ SESSION_LIMIT
+  pub few : length taken ≤ most_session_bytes
   pub goes : has_quit (whole_lines_of taken) ≡ false
 
 -- the source failed behind bytes of a session: the whole lines among them were replied over the state that was loaded

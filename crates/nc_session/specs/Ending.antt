@@ -3,13 +3,13 @@ use Rattle.std.specs.Prelude.{◌≡◌, ◌⊎◌, ℕ, ◌≤◌, true, List, 
 use Rattle.std.specs.Io.KnownBytes.{Appends, Keeps}
 use Rattle.nc_outside.specs.Named.{Named}
 use Rattle.nc_outside.specs.Counts.{Faults, Rose}
-use Rattle.nc_types.specs.declared.TheConstants.{ROUTER_LIMIT}
+use Rattle.nc_session.specs.Limits.{most_routers}
 use Rattle.nc_session.specs.declared.refusal.LoadFault.{LoadFault}
 use Rattle.nc_session.specs.declared.refusal.LoadFault.TheVariants as load
 use Rattle.nc_session.specs.declared.status.Status.{Status}
 use Rattle.nc_session.specs.declared.status.Status.TheVariants.{Done, Config, Usage, Unstable, InputFault, OutputFault, FileFault, Memory, Limit}
 use Rattle.nc_words.specs.Words.{RequestView}
-use Rattle.nc_session.specs.File.{LoadedView}
+use Rattle.nc_engine.specs.File.{LoadedView}
 use Rattle.nc_session.specs.Load.{load_asked, file_named}
 use Rattle.nc_session.specs.Refusals.{usage_text, limit_text, fault_text, unsettled_text}
 use Rattle.nc_session.specs.Output.{OutputAsked, Writes, is_within, session_asked, needed_asked, TookAsked}
@@ -63,7 +63,7 @@ IsNaming asked = (request : RequestView) × (asked ≡ Some request)
 
 abbrev pub IsNamingFew : Option RequestView → Type 0
 IsNamingFew asked =
-    (request : RequestView) × (asked ≡ Some request) × (length (named_in request.input) ≤ ROUTER_LIMIT)
+    (request : RequestView) × (asked ≡ Some request) × (length (named_in request.input) ≤ most_routers)
 
 -- ---- by what was asked for
 

@@ -3,13 +3,13 @@ use Rattle.std.specs.Prelude.{◌≡◌, ◌⊎◌, ℕ, ◌≤◌, true, false,
 use Rattle.std.specs.Io.KnownBytes.{IsAtEnd}
 use Rattle.nc_outside.specs.Counts.{Faults, Rose}
 use Rattle.nc_lines.specs.WholeLines.{whole_lines_of}
-use Rattle.nc_session.specs.File.{LoadedView}
-use Rattle.nc_session.specs.declared.TheConstants.{SESSION_LIMIT}
+use Rattle.nc_engine.specs.File.{LoadedView}
+use Rattle.nc_session.specs.Limits.{most_session_bytes}
 use Rattle.nc_session.specs.declared.reading.Stop.{Stop}
 use Rattle.nc_session.specs.declared.reading.Stop.TheVariants as stop
 use Rattle.nc_session.specs.declared.status.Status.{Status}
 use Rattle.nc_session.specs.declared.status.Status.TheVariants.{Done, InputFault, OutputFault, Memory, Limit}
-use Rattle.nc_session.specs.Session.{State, no_tests, Run, AreReplies}
+use Rattle.nc_engine.specs.Session.{AreReplies}
 use Rattle.nc_session.specs.Output.{Writes, Serves, has_quit, is_within, TookQuit}
 
 -- the status with which a session ends whose replies ended early
@@ -41,7 +41,7 @@ Takes (Some before) (Some now) P = (taken : List ℕ) × (before ≡ taken ++ no
 
 -- the source failed behind bytes that stay within the limit and have no line that ends the session: their whole lines were replied
 pub record IsCutShort (n : LoadedView) (old new : Option (List ℕ)) (taken : List ℕ) : Type 0 where
-  pub few : length taken ≤ SESSION_LIMIT
+  pub few : length taken ≤ most_session_bytes
   pub goes : has_quit (whole_lines_of taken) ≡ false
   pub replied : Writes old new (λ bytes. AreReplies n (whole_lines_of taken) bytes)
 
@@ -70,9 +70,3 @@ abbrev pub FailsAs : Failures → Failures → Status → Type 0
 FailsAs before now InputFault = Rose before.source now.source × (now.sink ≡ before.sink)
 FailsAs before now OutputFault = (now.source ≡ before.source) × Rose before.sink now.sink
 FailsAs before now status = (now.source ≡ before.source) × (now.sink ≡ before.sink)
-
--- from wherever a session came, it can go on: further lines are replied
-abbrev pub GoesOn : LoadedView → Type 0
-GoesOn n =
-    (lines more : List (List ℕ)) (replies : List ℕ) (last : State) → Run n no_tests lines replies last
-    → (rest : List ℕ) × (end : State) × Run n last more rest end

@@ -1,7 +1,4 @@
-pub mod File
-pub mod Marks
-pub mod Questions
-pub mod Session
+pub mod Limits
 pub mod Generated
 pub mod Load
 pub mod Refusals
@@ -14,5 +11,3 @@ pub mod SoFar
 pub mod Causes
 pub mod Loading
 pub mod Ending
-pub mod Engine
-pub mod Work

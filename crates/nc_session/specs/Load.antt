@@ -17,14 +17,13 @@ use Rattle.nc_network.specs.declared.fault.LimitWord.{LimitWord}
 use Rattle.nc_network.specs.declared.fault.LimitWord.TheVariants as words
 use Rattle.nc_tables.specs.State.{StateView}
 use Rattle.nc_tables.specs.Settling.{settled}
-use Rattle.nc_types.specs.declared.TheConstants.{ROUTER_LIMIT, LINE_LIMIT}
-use Rattle.nc_session.specs.declared.TheConstants.{FILE_LIMIT}
+use Rattle.nc_session.specs.Limits.{most_file_bytes, most_lines, most_routers}
 use Rattle.nc_session.specs.declared.refusal.Quantity.{Quantity}
 use Rattle.nc_session.specs.declared.refusal.Quantity.TheVariants.{Routers, Bytes, Lines, Prefixes, Neighbors}
 use Rattle.nc_session.specs.declared.refusal.Reason.{Reason}
 use Rattle.nc_session.specs.declared.refusal.Reason.TheVariants.{Syntax, Unsupported, NoName, TwoProcesses, SameName, Overlap, SameAddress, Undefined}
 use Rattle.nc_report.specs.Views.{FileView}
-use Rattle.nc_session.specs.File.{LoadedView}
+use Rattle.nc_engine.specs.File.{LoadedView}
 use Rattle.nc_words.specs.Words.{InputView, Files, Generated, RequestView, request_of}
 use Rattle.nc_session.specs.Generated.{tree_files, tree_names}
 
@@ -56,12 +55,12 @@ load_result name (Err fault) = Err (Faulty name fault.line (reason_of fault.caus
 
 -- what comes of the lines of a file: too many, or its configuration
 abbrev pub load_lines : List ℕ → List (List ℕ) → Result ConfigView Refusal
-load_lines name lines = if nat_le (length lines) LINE_LIMIT then load_result name (configuration lines) else Err (TooMany Lines)
+load_lines name lines = if nat_le (length lines) most_lines then load_result name (configuration lines) else Err (TooMany Lines)
 
 -- what comes of a file: that it isn't there, its length, its lines
 abbrev pub load_content : List ℕ → Option (List ℕ) → Result ConfigView Refusal
 load_content name None = Err Missing
-load_content name (Some content) = if nat_le (length content) FILE_LIMIT then load_lines name (lines_of content) else Err (TooMany Bytes)
+load_content name (Some content) = if nat_le (length content) most_file_bytes then load_lines name (lines_of content) else Err (TooMany Bytes)
 
 -- the file of a name as it is kept: its name and its lines
 abbrev pub file_of : List Named → List ℕ → FileView
@@ -111,7 +110,7 @@ load_joined names (Err refusal) = Err refusal
 -- what comes of files by their names: too many of them, then file by file, then all together
 unfoldable pub load_names : List (List ℕ) → List Named → Result (List ConfigView) Refusal
 load_names names files =
-    if nat_le (length names) ROUTER_LIMIT then load_joined names (load_each files names) else Err (TooMany Routers)
+    if nat_le (length names) most_routers then load_joined names (load_each files names) else Err (TooMany Routers)
 
 -- ---- their state
 

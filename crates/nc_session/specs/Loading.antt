@@ -9,7 +9,7 @@ use Rattle.nc_network.specs.declared.fault.JoinFault.{JoinFault}
 use Rattle.nc_network.specs.declared.fault.JoinFault.TheVariants as joins
 use Rattle.nc_tables.specs.State.{StateView}
 use Rattle.nc_stable.specs.declared.settled_network.SettledNetwork.{SettledNetwork}
-use Rattle.nc_types.specs.declared.TheConstants.{LINE_LIMIT}
+use Rattle.nc_session.specs.Limits.{most_lines}
 use Rattle.nc_session.specs.declared.reading.Stop.{Stop}
 use Rattle.nc_session.specs.declared.reading.Stop.TheVariants as stop
 use Rattle.nc_session.specs.declared.load.FileRead.{FileRead}
@@ -55,7 +55,7 @@ HasCauseOf files outcome before now (Err fault) = HasFaultCause files outcome be
 -- a configuration of a file: it is well formed, and its lines are counted
 pub record IsConfigured (c : ConfigView) : Type 0 where
   pub formed : IsWellFormed c
-  pub lines : c.line_count ≤ LINE_LIMIT
+  pub lines : c.line_count ≤ most_lines
 
 -- a file is the one of this name, with its own lines where the files are told
 pub record IsFileOf (files : Option (List Named)) (name : List ℕ) (file : FileView) : Type 0 where

@@ -8,11 +8,11 @@ use Rattle.nc_lines.specs.Lines.{lines_of}
 use Rattle.nc_lines.specs.WholeLines.{whole_lines_of}
 use Rattle.nc_words.specs.Words.{InputView, Files, Generated, RequestView, request_of}
 use Rattle.nc_session.specs.Generated.{heading_text, tree_session}
-use Rattle.nc_session.specs.File.{LoadedView}
-use Rattle.nc_session.specs.declared.TheConstants.{SESSION_LIMIT}
+use Rattle.nc_engine.specs.File.{LoadedView}
+use Rattle.nc_session.specs.Limits.{most_session_bytes}
 use Rattle.nc_session.specs.declared.status.Status.{Status}
 use Rattle.nc_session.specs.declared.status.Status.TheVariants.{Done, Limit}
-use Rattle.nc_session.specs.Session.{AreReplies, is_quit}
+use Rattle.nc_engine.specs.Session.{AreReplies, is_quit}
 use Rattle.nc_session.specs.Load.{Refusal, load_asked}
 use Rattle.nc_session.specs.Refusals.{long_session_text, refusal_status, refusal_text}
 
@@ -20,7 +20,7 @@ use Rattle.nc_session.specs.Refusals.{long_session_text, refusal_status, refusal
 
 -- the whole lines within the limit of a session
 abbrev pub lines_within : List ℕ → List (List ℕ)
-lines_within session = whole_lines_of (take SESSION_LIMIT session)
+lines_within session = whole_lines_of (take most_session_bytes session)
 
 -- whether a line ends the session
 abbrev pub has_quit : List (List ℕ) → Bool
@@ -28,11 +28,11 @@ has_quit lines = list_any is_quit lines
 
 -- a session is within its limit where its bytes are, up to its end or through the line that ends it
 abbrev pub is_within : List ℕ → Bool
-is_within session = if nat_le (length session) SESSION_LIMIT then true else has_quit (lines_within session)
+is_within session = if nat_le (length session) most_session_bytes then true else has_quit (lines_within session)
 
 -- the lines that a session longer than its limit still has answered are those that are whole within the limit
 abbrev pub served_lines : List ℕ → List (List ℕ)
-served_lines session = if nat_le (length session) SESSION_LIMIT then lines_of session else lines_within session
+served_lines session = if nat_le (length session) most_session_bytes then lines_of session else lines_within session
 
 -- the replies to a session, and a refusal behind them where it isn't within its limit
 abbrev pub ServesWithin : LoadedView → List ℕ → Bool → Status → List ℕ → Type 0

@@ -3,11 +3,11 @@ use Rattle.std.specs.Prelude.{◌≡◌, ℕ, ◌+◌, List, length, Option}
 use Rattle.std.specs.Io.KnownBytes.{Appends, Consumes}
 use Rattle.nc_lines.specs.WholeLines.{whole_lines_of}
 use Rattle.nc_command.specs.Cutting.{held_of}
-use Rattle.nc_session.specs.declared.TheConstants.{SESSION_LIMIT}
+use Rattle.nc_session.specs.Limits.{most_session_bytes}
 use Rattle.nc_session.specs.declared.status.Status.{Status}
 use Rattle.nc_session.specs.declared.status.Status.TheVariants.{Limit, OutputFault}
 use Rattle.nc_session.specs.Refusals.{long_session_text}
-use Rattle.nc_session.specs.Engine.{Progress}
+use Rattle.nc_engine.specs.Engine.{Progress}
 use Rattle.nc_session.specs.Serving.{AppendsFront, AreServed}
 use Rattle.nc_session.specs.Leaving.{Told}
 
@@ -17,7 +17,7 @@ pub record IsTaken (from : Progress) (before now : Told) (engine : Option Progre
   pub consumed : Consumes before.rest now.rest taken
   pub held_is : held ≡ held_of taken
   pub served : AreServed from (whole_lines_of taken) engine before.written now.written
-  pub count : length taken + room ≡ SESSION_LIMIT
+  pub count : length taken + room ≡ most_session_bytes
 
 -- a session past its limit is refused: the refusal was written, or the sink failed within it
 abbrev pub RefusesRest : Option (List ℕ) → Option (List ℕ) → Status → Type 0

@@ -5,22 +5,22 @@ ghost use Rattle.std.specs.Str.{IsUtf8};
 ghost use Rattle.nc_outside.specs.Named.{Named};
 ghost use Rattle.nc_outside.specs.Counts.{Faults};
 ghost use Rattle.nc_outside.specs.Memory.{faults_of};
-ghost use Rattle.nc_types.specs.declared.TheConstants.{ROUTER_LIMIT, LINE_LIMIT};
+ghost use Rattle.nc_session.specs.Limits.{most_routers, most_lines};
 ghost use Rattle.nc_report.specs.Views.{file_view as loaded_view};
 ghost use Rattle.nc_gen.specs.Tree.{is_size};
 ghost use Rattle.nc_gen.specs.Files.{file_view};
 ghost use Rattle.nc_words.specs.Words.{Generated, texts};
-ghost use Rattle.nc_session.specs.File.{AreFilesOf};
+ghost use Rattle.nc_engine.specs.File.{AreFilesOf};
 ghost use Rattle.nc_session.specs.Generated.{heading_text, line_count, name_of_file, named_file, tree_files, tree_names, tree_session};
 ghost use Rattle.nc_session.specs.Ending.{EndsAs, ServesBehind};
 ghost use Rattle.nc_session.specs.declared.status.Status.TheVariants as Status;
 
-use crate::laws::sessions_go_on;
 use crate::load::{Loaded, load};
 use crate::pieces::serve;
 use crate::runs::refuse;
 use crate::status::Status;
 use crate::writing::write_all;
+use nc_engine::laws::sessions_go_on;
 use nc_gen::{GenFile, fat_tree};
 use nc_outside::{MemFile, MemFiles, PlainSource, Sink};
 use nc_report::{LoadedFile, push_line};
@@ -67,8 +67,8 @@ fn files_of(alloc: Global, files: Vec<GenFile>) -> Result<Vec<MemFile>, AllocErr
 
 // How many lines files have together.
 fn line_count(files: &[LoadedFile]) -> u32
-    requires few { length files.now ≤ ROUTER_LIMIT }
-    requires short { All (λ file. length (loaded_view file).lines ≤ LINE_LIMIT) files.now }
+    requires few { length files.now ≤ most_routers }
+    requires short { All (λ file. length (loaded_view file).lines ≤ most_lines) files.now }
     ensures { result ≡ line_count (map (λ file. file.lines) (map loaded_view files.now)) }
 {
     let mut count = 0;
@@ -80,8 +80,8 @@ fn line_count(files: &[LoadedFile]) -> u32
 
 // The line of the numbers of a generated network.
 fn heading_line(alloc: Global, pods: u32, files: &[LoadedFile]) -> Result<Vec<u8>, AllocError>
-    requires few { length files.now ≤ ROUTER_LIMIT }
-    requires short { All (λ file. length (loaded_view file).lines ≤ LINE_LIMIT) files.now }
+    requires few { length files.now ≤ most_routers }
+    requires short { All (λ file. length (loaded_view file).lines ≤ most_lines) files.now }
     ensures { IfOk result (λ text. text.items
         ≡ heading_text pods (map (λ file. file.lines) (map loaded_view files.now))) }
 {
@@ -101,8 +101,8 @@ fn serve_behind<K: Sink>(
     session: Vec<u8>,
     output: &mut K,
 ) -> Status
-    requires few { length loaded.files.items ≤ ROUTER_LIMIT }
-    requires short { All (λ file. length (loaded_view file).lines ≤ LINE_LIMIT)
+    requires few { length loaded.files.items ≤ most_routers }
+    requires short { All (λ file. length (loaded_view file).lines ≤ most_lines)
         loaded.files.items }
     requires fit { AreFilesOf loaded.settled.state.routers (map loaded_view loaded.files.items) }
     ensures { ServesBehind

@@ -5,12 +5,11 @@ ghost use Rattle.nc_types.specs.Config.{config_view};
 ghost use Rattle.nc_lines.specs.Lines.{lines_of};
 ghost use Rattle.nc_outside.specs.Named.{content_of};
 ghost use Rattle.nc_outside.specs.Counts.{one_entry, entries_after};
-ghost use Rattle.nc_types.specs.declared.TheConstants.{ROUTER_LIMIT, LINE_LIMIT};
-ghost use Rattle.nc_session.specs.declared.TheConstants.{FILE_LIMIT};
+ghost use Rattle.nc_session.specs.Limits.{most_file_bytes, most_lines, most_routers};
 ghost use Rattle.nc_session.specs.declared.refusal.LoadFault.TheVariants as LoadFault;
 ghost use Rattle.nc_session.specs.declared.refusal.Quantity.TheVariants as Quantity;
 ghost use Rattle.nc_report.specs.Views.{file_view};
-ghost use Rattle.nc_session.specs.File.{AreFilesOf};
+ghost use Rattle.nc_engine.specs.File.{AreFilesOf};
 ghost use Rattle.nc_words.specs.Words.{texts};
 ghost use Rattle.nc_session.specs.Load.{file_named, load_content, load_lines, load_each, load_names, load_settled};
 ghost use Rattle.nc_session.specs.Reading.{IsInTime};
@@ -58,7 +57,7 @@ fn read_lines(
     bytes: Vec<u8>,
 ) -> Result<FileRead, LoadFault>
     requires place { place < length names.now }
-    requires short { length bytes.items ≤ FILE_LIMIT }
+    requires short { length bytes.items ≤ most_file_bytes }
     ensures loaded { IsOne (texts names.now) result
         (load_lines (file_named (texts names.now) place) (lines_of bytes.items)) }
     ensures read { IfOk result (λ one. IsConfigured (config_view one.config)) }
@@ -243,7 +242,7 @@ fn join_all(
     configs: Vec<RouterConfig>,
     rounds: u32,
 ) -> Result<SettledNetwork, LoadFault>
-    requires few { length configs.items ≤ ROUTER_LIMIT }
+    requires few { length configs.items ≤ most_routers }
     requires read { All (λ c. IsConfigured (config_view c)) configs.items }
     ensures joined { (names : List (List ℕ))
         → IsJoined names rounds result (map config_view configs.items) }
@@ -276,9 +275,9 @@ pub(crate) fn load<F: Files>(
     ensures fit { IfOk result (λ loaded.
         AreFilesOf loaded.settled.state.routers (map file_view loaded.files.items)) }
     ensures short { IfOk result (λ loaded.
-        All (λ file. length (file_view file).lines ≤ LINE_LIMIT) loaded.files.items) }
-    ensures few { MatchResult result (λ _. length names.now ≤ ROUTER_LIMIT)
-        (λ fault. (fault ≡ LoadFault.Over Quantity.Routers) ⊎ (length names.now ≤ ROUTER_LIMIT)) }
+        All (λ file. length (file_view file).lines ≤ most_lines) loaded.files.items) }
+    ensures few { MatchResult result (λ _. length names.now ≤ most_routers)
+        (λ fault. (fault ≡ LoadFault.Over Quantity.Routers) ⊎ (length names.now ≤ most_routers)) }
     ensures cause { HasCauseOf (F.files files.old)
         (λ fs. load_settled rounds (load_names (texts names.now) fs))
         (F.faults files.old) (F.faults files.new) result }
@@ -292,7 +291,7 @@ pub(crate) fn load<F: Files>(
         (F.entries files.new ≡ entries_after (texts names.now) (F.entries files.old)) }
     ensures taken { TakesOfFiles (F.files files.old) (F.entered files.old) (F.left files.old)
         (F.entered files.new) (F.left files.new) }
-    ensures many { ROUTER_LIMIT < length names.now
+    ensures many { most_routers < length names.now
         → (F.entries files.new ≡ F.entries files.old)
         × (F.entered files.new ≡ F.entered files.old) × (F.left files.new ≡ F.left files.old) }
     ensures in_time { IsInTime (F.end files.old) (F.end files.new) }

@@ -5,20 +5,22 @@ ghost use Rattle.std.specs.Prelude.{◌≡◌, ◌≢◌, ℕ, ◌+◌, ◌<◌,
 ghost use Rattle.std.specs.Io.KnownBytes.{Consumes, Keeps, IsAtEnd};
 ghost use Rattle.nc_outside.specs.Counts.{Faults, HasCause};
 ghost use Rattle.nc_report.specs.Views.{file_view};
-ghost use Rattle.nc_session.specs.File.{AreFilesOf, LoadedView};
+ghost use Rattle.nc_engine.specs.File.{AreFilesOf, LoadedView};
+ghost use Rattle.nc_session.specs.Limits.{most_session_bytes};
 ghost use Rattle.nc_session.specs.Reading.{TakesAtMost, StaysInTime};
-ghost use Rattle.nc_session.specs.Engine.{begin_at};
-ghost use Rattle.nc_session.specs.Leaving.{Told, told, failures, Leaves, FailsAs, GoesOn, stopped_as};
+ghost use Rattle.nc_engine.specs.Engine.{begin_at};
+ghost use Rattle.nc_session.specs.Leaving.{Told, told, failures, Leaves, FailsAs, stopped_as};
+ghost use Rattle.nc_engine.specs.Session.{GoesOn};
 ghost use Rattle.nc_session.specs.SoFar.{IsTaken, RefusesRest};
 
 use crate::SESSION_LIMIT;
-use crate::engine::{Engine, Flow};
-use crate::laws::sessions_go_on;
 use crate::reading::Stop;
 use crate::serving::{answer_last, take_piece};
 use crate::status::Status;
 use crate::writing::write_all;
 use nc_command::Cutter;
+use nc_engine::laws::sessions_go_on;
+use nc_engine::{Engine, Flow};
 use nc_outside::{Failed, Sink, Source};
 use nc_report::LoadedFile;
 use nc_stable::SettledNetwork;
@@ -127,7 +129,7 @@ fn serve_pieces<S: Source, K: Sink>(
         (told (S.rest input.new) (K.written output.new)) result }
     ensures fails { FailsAs (failures (S.faults input.old) (K.faults output.old))
         (failures (S.faults input.new) (K.faults output.new)) result }
-    ensures takes { TakesAtMost (SESSION_LIMIT + 1) (S.rest input.old) (S.rest input.new) }
+    ensures takes { TakesAtMost (most_session_bytes + 1) (S.rest input.old) (S.rest input.new) }
     ensures in_time { StaysInTime (S.end input.old) (S.end input.new) }
 {
     let mut cutter = Cutter::new(alloc);
@@ -171,7 +173,7 @@ pub(crate) fn serve<S: Source, K: Sink>(
         (told (S.rest input.new) (K.written output.new)) result }
     ensures fails { FailsAs (failures (S.faults input.old) (K.faults output.old))
         (failures (S.faults input.new) (K.faults output.new)) result }
-    ensures takes { TakesAtMost (SESSION_LIMIT + 1) (S.rest input.old) (S.rest input.new) }
+    ensures takes { TakesAtMost (most_session_bytes + 1) (S.rest input.old) (S.rest input.new) }
     ensures in_time { StaysInTime (S.end input.old) (S.end input.new) }
 {
     sessions_go_on();

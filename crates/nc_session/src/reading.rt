@@ -1,6 +1,7 @@
 //! Reading files, each up to one byte past its limit, and why work stops.
 
 ghost use Rattle.std.specs.Prelude.{◌≡◌, ◌≢◌, ◌≤◌, ◌+◌, ◌-◌, false, length, IfOk};
+ghost use Rattle.nc_session.specs.Limits.{most_file_bytes};
 ghost use Rattle.nc_session.specs.Reading.{IsPiece, IsRead, TakesAtMost, StaysInTime, HasStopCause};
 ghost use Rattle.nc_session.specs.declared.reading.Stop.TheVariants.{Outside, Memory};
 
@@ -46,13 +47,13 @@ impl<T: Drop> From<AllocFailed<T>> for Stop {
 
 // One read from the entered file.
 fn read_piece<F: Files>(files: &mut F, bytes: &mut Vec<u8>) -> Result<usize, Stop>
-    requires { length bytes.old.items ≤ FILE_LIMIT }
+    requires { length bytes.old.items ≤ most_file_bytes }
     ensures files { F.files files.new ≡ F.files files.old }
     ensures entered { F.entered files.new ≡ F.entered files.old }
     ensures entries { F.entries files.new ≡ F.entries files.old }
-    ensures piece { IfOk result (IsPiece FILE_LIMIT (F.left files.old) (F.left files.new)
+    ensures piece { IfOk result (IsPiece most_file_bytes (F.left files.old) (F.left files.new)
         bytes.old.items bytes.new.items) }
-    ensures takes { TakesAtMost (FILE_LIMIT + 1 - length bytes.old.items)
+    ensures takes { TakesAtMost (most_file_bytes + 1 - length bytes.old.items)
         (F.left files.old) (F.left files.new) }
     ensures in_time { StaysInTime (F.end files.old) (F.end files.new) }
     ensures goes_on { (F.end files.old).is_told ≡ false
@@ -72,8 +73,8 @@ pub(crate) fn read_file<F: Files>(alloc: Global, files: &mut F) -> Result<Vec<u8
     ensures entered { F.entered files.new ≡ F.entered files.old }
     ensures entries { F.entries files.new ≡ F.entries files.old }
     ensures read { IfOk result (λ bytes.
-        IsRead FILE_LIMIT (F.left files.old) (F.left files.new) bytes.items) }
-    ensures takes { TakesAtMost (FILE_LIMIT + 1) (F.left files.old) (F.left files.new) }
+        IsRead most_file_bytes (F.left files.old) (F.left files.new) bytes.items) }
+    ensures takes { TakesAtMost (most_file_bytes + 1) (F.left files.old) (F.left files.new) }
     ensures in_time { StaysInTime (F.end files.old) (F.end files.new) }
     ensures cause { HasStopCause (F.faults files.old) (F.faults files.new) result }
 {

@@ -3,8 +3,7 @@
 ghost use Rattle.std.specs.Prelude.{◌≡◌, ◌⊎◌, ◌≢◌, ◌+◌, ◌<◌, ℕ, List, true, Some, IfSome, MatchOption, MatchResult, IfOk, length};
 ghost use Rattle.std.specs.Io.KnownBytes.{Appends, Keeps};
 ghost use Rattle.nc_outside.specs.Counts.{Rose, entries_after};
-ghost use Rattle.nc_types.specs.declared.TheConstants.{ROUTER_LIMIT};
-ghost use Rattle.nc_session.specs.declared.TheConstants.{SESSION_LIMIT};
+ghost use Rattle.nc_session.specs.Limits.{most_routers, most_session_bytes};
 ghost use Rattle.nc_words.specs.Words.{Files, texts, request_of};
 ghost use Rattle.nc_session.specs.Load.{load, file_named};
 ghost use Rattle.nc_session.specs.Refusals.{usage_text, limit_text, fault_text, unsettled_text};
@@ -158,13 +157,13 @@ fn run_files<F: Files, S: Source, K: Sink>(
         → F.entries files.new ≡ entries_after (texts names.now) (F.entries files.old) }
     ensures entered_last { result ≡ Status.FileFault → IfSome (F.entered files.new)
         (EntersInTurn (texts names.now) (F.files files.old)) }
-    ensures entered_none { ROUTER_LIMIT < length names.now
+    ensures entered_none { most_routers < length names.now
         → (F.entries files.new ≡ F.entries files.old)
         × (F.entered files.new ≡ F.entered files.old) × (F.left files.new ≡ F.left files.old) }
     ensures file_taken { TakesOfFiles (F.files files.old) (F.entered files.old)
         (F.left files.old) (F.entered files.new) (F.left files.new) }
     ensures file_in_time { IsInTime (F.end files.old) (F.end files.new) }
-    ensures session_taken { TakesAtMost (SESSION_LIMIT + 1) (S.rest input.old) (S.rest input.new) }
+    ensures session_taken { TakesAtMost (most_session_bytes + 1) (S.rest input.old) (S.rest input.new) }
     ensures session_in_time { StaysInTime (S.end input.old) (S.end input.new) }
     ensures session_unread { IsEarly result
         → (S.rest input.new ≡ S.rest input.old) × (S.end input.new ≡ S.end input.old) }
@@ -208,13 +207,13 @@ fn run_words<F: Files, S: Source, K: Sink>(
         → F.entries files.new ≡ entries_after (files_of (texts words.now)) (F.entries files.old) }
     ensures entered_last { result ≡ Status.FileFault → IfSome (F.entered files.new)
         (EntersInTurn (files_of (texts words.now)) (F.files files.old)) }
-    ensures entered_none { ROUTER_LIMIT < length (files_of (texts words.now))
+    ensures entered_none { most_routers < length (files_of (texts words.now))
         → (F.entries files.new ≡ F.entries files.old)
         × (F.entered files.new ≡ F.entered files.old) × (F.left files.new ≡ F.left files.old) }
     ensures file_taken { TakesOfFiles (F.files files.old) (F.entered files.old)
         (F.left files.old) (F.entered files.new) (F.left files.new) }
     ensures file_in_time { IsInTime (F.end files.old) (F.end files.new) }
-    ensures session_taken { TakesAtMost (SESSION_LIMIT + 1) (S.rest input.old) (S.rest input.new) }
+    ensures session_taken { TakesAtMost (most_session_bytes + 1) (S.rest input.old) (S.rest input.new) }
     ensures session_in_time { StaysInTime (S.end input.old) (S.end input.new) }
     ensures session_unread { IsEarly result
         → (S.rest input.new ≡ S.rest input.old) × (S.end input.new ≡ S.end input.old) }
@@ -279,7 +278,7 @@ pub fn run<F: Files, S: Source, K: Sink>(
         IsOverLimit (load (texts words.now) fs) (session_of (texts words.now) session))) }
     ensures generated { IsGenerated (texts words.now) → (files.new ≡ files.old)
         × (input.new ≡ input.old) × (result ≢ Status.FileFault) × (result ≢ Status.InputFault) }
-    ensures many { ROUTER_LIMIT < length (files_of (texts words.now)) → IsLimitOrUntold result }
+    ensures many { most_routers < length (files_of (texts words.now)) → IsLimitOrUntold result }
     ensures done { result ≡ Status.Done
         → TookAll (texts words.now) (S.rest input.old) (S.rest input.new) }
     ensures done_within { result ≡ Status.Done
@@ -320,13 +319,13 @@ pub fn run<F: Files, S: Source, K: Sink>(
         → F.entries files.new ≡ entries_after (files_of (texts words.now)) (F.entries files.old) }
     ensures entered_last { result ≡ Status.FileFault → IfSome (F.entered files.new)
         (EntersInTurn (files_of (texts words.now)) (F.files files.old)) }
-    ensures entered_none { ROUTER_LIMIT < length (files_of (texts words.now))
+    ensures entered_none { most_routers < length (files_of (texts words.now))
         → (F.entries files.new ≡ F.entries files.old)
         × (F.entered files.new ≡ F.entered files.old) × (F.left files.new ≡ F.left files.old) }
     ensures file_taken { TakesOfFiles (F.files files.old) (F.entered files.old)
         (F.left files.old) (F.entered files.new) (F.left files.new) }
     ensures file_in_time { IsInTime (F.end files.old) (F.end files.new) }
-    ensures session_taken { TakesAtMost (SESSION_LIMIT + 1) (S.rest input.old) (S.rest input.new) }
+    ensures session_taken { TakesAtMost (most_session_bytes + 1) (S.rest input.old) (S.rest input.new) }
     ensures session_in_time { StaysInTime (S.end input.old) (S.end input.new) }
     ensures session_unread { IsEarly result
         → (S.rest input.new ≡ S.rest input.old) × (S.end input.new ≡ S.end input.old) }

@@ -1,16 +1,18 @@
 //! What it takes that a session is established.
 
-ghost use Rattle.std.specs.Prelude.{◌≡◌, ◌<◌, length};
+ghost use Rattle.std.specs.Prelude.{◌≡◌, ◌<◌, ◌&&◌, IfOk, length};
 ghost use Rattle.std.specs.List.{list_any};
 ghost use Rattle.nc_tables.specs.Base.{base_tables, is_toward};
 ghost use Rattle.nc_tables.specs.Sessions.{is_internal, may_reach, are_met, conditions_of};
+ghost use Rattle.nc_underlay.specs.Kept.{AreKept};
 ghost use Rattle.nc_sessions.specs.Views.{end_view, sides_view};
 ghost use Rattle.nc_sessions.specs.Parts.{agree, are_near, reach_each_other};
 
 use crate::ends::{End, Side};
 use nc_tables::BaseTables;
 use nc_types::{Addr, HOP_LIMIT, Interface, Network};
-use nc_underlay::reaches;
+use nc_underlay::{DistancesByAddr, reaches};
+use std::alloc::AllocError;
 
 /// Both sides of a session, the first of which is the one that sees it.
 #[derive(Clone, Copy)]
@@ -93,6 +95,13 @@ fn reach_each_other(network: &Network, base: &BaseTables, sides: &Sides) -> bool
         )
 }
 
+// Whether all holds that a session takes, but for reach.
+fn are_set(sides: &Sides) -> bool
+    ensures { result ≡ (agree (sides_view sides.now) && are_near (sides_view sides.now)) }
+{
+    agree(sides) && are_near(sides)
+}
+
 /// Whether the session of two sides is established. Reach is looked at last.
 pub(crate) fn are_met(network: &Network, base: &BaseTables, sides: &Sides) -> bool
     requires own { sides.now.own.router.0 < length network.now }
@@ -100,5 +109,56 @@ pub(crate) fn are_met(network: &Network, base: &BaseTables, sides: &Sides) -> bo
     requires tables { base.now ≡ base_tables network.now }
     ensures { result ≡ are_met (conditions_of network.now base.now (sides_view sides.now)) }
 {
-    agree(sides) && are_near(sides) && reach_each_other(network, base, sides)
+    are_set(sides) && reach_each_other(network, base, sides)
+}
+
+// Whether each side reaches the other's address, by the distances that are kept.
+fn reach_by(
+    network: &Network,
+    base: &BaseTables,
+    distances: &mut DistancesByAddr,
+    sides: &Sides,
+) -> Result<bool, AllocError>
+    requires own { sides.now.own.router.0 < length network.now }
+    requires peer { sides.now.peer.router.0 < length network.now }
+    requires tables { base.now ≡ base_tables network.now }
+    requires kept { AreKept network.now base.now distances.old }
+    ensures kept { AreKept network.now base.now distances.new }
+    ensures reach { IfOk result (λ b. b ≡ reach_each_other network.now base.now (sides_view sides.now)) }
+{
+    let own = &sides.own;
+    let peer = &sides.peer;
+    let there = own.end.statement.addr;
+    if !distances.reaches(network, base, own.router, there, HOP_LIMIT)? {
+        return Ok(false);
+    }
+    let back = peer.end.statement.addr;
+    let reaches = distances.reaches(network, base, peer.router, back, HOP_LIMIT)?;
+    Ok(reaches)
+}
+
+/// The same, where what was found of reach for other sides of the network is kept, and what is found here.
+///
+/// # Errors
+///
+/// Memory that runs out.
+pub(crate) fn are_met_by(
+    network: &Network,
+    base: &BaseTables,
+    distances: &mut DistancesByAddr,
+    sides: &Sides,
+) -> Result<bool, AllocError>
+    requires own { sides.now.own.router.0 < length network.now }
+    requires peer { sides.now.peer.router.0 < length network.now }
+    requires tables { base.now ≡ base_tables network.now }
+    requires kept { AreKept network.now base.now distances.old }
+    ensures kept { AreKept network.now base.now distances.new }
+    ensures met { IfOk result (λ b. b
+        ≡ are_met (conditions_of network.now base.now (sides_view sides.now))) }
+{
+    if !are_set(sides) {
+        return Ok(false);
+    }
+    let reach = reach_by(network, base, distances, sides)?;
+    Ok(reach)
 }

@@ -6,7 +6,8 @@
 //! `nc_types` for the network, on `nc_tables` for the tables and for the definition of a session,
 //! and on `nc_underlay` for where base tables lead. Its contract promises exactly the defined
 //! sessions, and the defined router id. [`session_at`], [`end_at`] and [`link_at`] answer of one
-//! statement, and take no memory.
+//! statement, and take no memory. While [`sessions`] makes the table it keeps from how far each
+//! neighbor address is reached, at most [`nc_types::ROUTER_LIMIT`] bytes for an address.
 #![tactic(auto)]
 
 mod conditions;

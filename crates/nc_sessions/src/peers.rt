@@ -1,17 +1,20 @@
 //! The two sides of a session together.
 
-ghost use Rattle.std.specs.Prelude.{◌≡◌, ◌<◌, IfSome, length, None, Some, if◌then◌else◌};
+ghost use Rattle.std.specs.Prelude.{◌≡◌, ◌<◌, IfOk, IfSome, length, None, Some, if◌then◌else◌};
 ghost use Rattle.std.specs.Option.{option_map};
 ghost use Rattle.nc_types.specs.Network.{owner_of};
 ghost use Rattle.nc_tables.specs.Base.{base_tables};
 ghost use Rattle.nc_tables.specs.Sessions.{are_met, conditions_of, session_of, session_at};
+ghost use Rattle.nc_underlay.specs.Kept.{AreKept};
 ghost use Rattle.nc_sessions.specs.Views.{sides_view};
 
-use crate::conditions::{Sides, are_met, is_internal};
+use crate::conditions::{Sides, are_met, are_met_by, is_internal};
 use crate::ends::{Side, side_at};
 use crate::places::place_for;
 use nc_tables::{BaseTables, SessionRow};
 use nc_types::{Network, RouterId};
+use nc_underlay::DistancesByAddr;
+use std::alloc::AllocError;
 
 /// The router that owns the address of a side's statement.
 pub(crate) fn owner_of(network: &Network, own: &Side) -> Option<RouterId>
@@ -57,6 +60,34 @@ pub(crate) fn session_between(
         Some(session_of(sides))
     } else {
         None
+    }
+}
+
+/// The same, by the distances that are kept.
+///
+/// # Errors
+///
+/// Memory that runs out.
+pub(crate) fn session_kept(
+    network: &Network,
+    base: &BaseTables,
+    distances: &mut DistancesByAddr,
+    sides: &Sides,
+) -> Result<Option<SessionRow>, AllocError>
+    requires own { sides.now.own.router.0 < length network.now }
+    requires peer { sides.now.peer.router.0 < length network.now }
+    requires tables { base.now ≡ base_tables network.now }
+    requires kept { AreKept network.now base.now distances.old }
+    ensures kept { AreKept network.now base.now distances.new }
+    ensures session { IfOk result (λ row. row
+        ≡ if are_met (conditions_of network.now base.now (sides_view sides.now))
+        then Some (session_of (sides_view sides.now)) else None) }
+    ensures place { IfOk result (λ row. IfSome row (λ s. s.neighbor ≡ sides.now.own.place)) }
+{
+    if are_met_by(network, base, distances, sides)? {
+        Ok(Some(session_of(sides)))
+    } else {
+        Ok(None)
     }
 }
 

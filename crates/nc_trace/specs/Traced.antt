@@ -1,18 +1,14 @@
 -- Of each router, its ways, and over how few hops a packet arrives from it.
-use Rattle.std.specs.Prelude.{◌≡◌, ℕ, suc, ◌<◌, ◌≤◌, Bool, true, false, List, [], length, nat_le, slice_index_or}
-use Rattle.nc_types.specs.declared.TheConstants.{HOP_LIMIT}
+use Rattle.std.specs.Prelude.{◌≡◌, ℕ, ◌<◌, Bool, true, false, List, [], length, slice_index_or}
 use Rattle.nc_tables.specs.State.{StateView}
 use Rattle.nc_tables.specs.Forwarding.{Alternative, alternatives, some_way, each_way, traces, all_trace}
+use Rattle.nc_underlay.specs.Distances as distances
 
 -- for each router its ways, and the fewest hops over which a packet arrives, by some way and by each; a number above the limit where it doesn't
 pub record Traced : Type 0 where
   pub ways : List (List Alternative)
   pub some : List ℕ
   pub each : List ℕ
-
--- the number of a router
-abbrev pub fewest_of : List ℕ → ℕ → ℕ
-fewest_of fewest router = slice_index_or fewest router (suc HOP_LIMIT)
 
 -- some way passes, or each of them does
 abbrev pub ways_pass : Bool → (Alternative → Bool) → List Alternative → Bool
@@ -26,8 +22,8 @@ module _ (s : StateView) where
   arrives_within false = traces s.routers s.base s.bgp s.main
 
   -- these are the numbers for an address
-  pub record AreFewest (every : Bool) (addr : ℕ) (fewest : List ℕ) : Type 0 where
-    pub hops : (router hops : ℕ) → hops ≤ HOP_LIMIT → nat_le (fewest_of fewest router) hops ≡ arrives_within every hops router addr
+  abbrev pub AreFewest : Bool → ℕ → List ℕ → Type 0
+  AreFewest every addr fewest = distances.AreFewest (λ hops router. arrives_within every hops router addr) fewest
 
   -- these are the ways of so many routers
   abbrev pub AreKept : ℕ → List (List Alternative) → Type 0

@@ -5,8 +5,9 @@ ghost use Rattle.std.specs.Prelude.{◌≡◌, ◌+◌, ◌≤◌, ◌<◌, ◌&
 ghost use Rattle.nc_types.specs.declared.TheConstants.{HOP_LIMIT, ROUTER_LIMIT};
 ghost use Rattle.nc_tables.specs.Forwarding.{alternatives, arrives_by, some_way, each_way};
 ghost use Rattle.nc_trace.specs.Views.{outcome_view, ways_view};
-ghost use Rattle.nc_trace.specs.Traced.{fewest_of, arrives_within, AreFewest, AreKept};
-ghost use Rattle.nc_trace.specs.Levels.{AreMarked, AreRight, is_earlier, passes};
+ghost use Rattle.nc_underlay.specs.Distances.{fewest_of, is_earlier};
+ghost use Rattle.nc_trace.specs.Traced.{arrives_within, AreFewest, AreKept};
+ghost use Rattle.nc_trace.specs.Levels.{AreMarked, AreRight, passes};
 
 use crate::alternative::{Alternative, Outcome};
 use crate::ways::Ways;

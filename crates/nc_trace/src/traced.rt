@@ -7,7 +7,8 @@ ghost use Rattle.nc_tables.specs.Forwarding.{alternatives, arrives_by, goes_on, 
 ghost use Rattle.nc_tables.specs.Forwarding.{step_by, step_at, all_step_at};
 ghost use Rattle.nc_tables.specs.State.{StateView};
 ghost use Rattle.nc_trace.specs.Views.{alternative_view, outcome_view, ways_view};
-ghost use Rattle.nc_trace.specs.Traced.{fewest_of, arrives_within, AreFewest, AreKept, IsTracedTo};
+ghost use Rattle.nc_underlay.specs.Distances.{fewest_of};
+ghost use Rattle.nc_trace.specs.Traced.{arrives_within, AreFewest, AreKept, IsTracedTo};
 
 use crate::alternative::{Alternative, Outcome};
 use crate::levels::{Question, fewest_hops};

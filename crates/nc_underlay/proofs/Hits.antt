@@ -1,5 +1,5 @@
 -- To which routers the hits of a router lead.
-use Rattle.std.proofs.Common.{◌≡◌, ℕ, zero, suc, ◌≤◌, Bool, false, nat_eq, nat_lt, List, [], ◌∷◌, length, map, Option, Some, None, option_and_then, slice_get, refl, sym, ap, ◌∙◌, arith}
+use Rattle.std.proofs.Common.{◌≡◌, ℕ, zero, suc, ◌≤◌, false, nat_eq, nat_lt, List, [], ◌∷◌, length, map, Option, Some, None, option_and_then, slice_get, refl, sym, ap, ◌∙◌, arith}
 use Rattle.std.specs.List.{list_any, range_with_len}
 use Rattle.std.specs.Option.{option_map_or}
 use Rattle.nc_types.specs.Config.{ConfigView}
@@ -13,23 +13,22 @@ use Rattle.nc_underlay.specs.Levels.{leads_there, is_next}
 use Rattle.nc_underlay.proofs.Flagging.{any_filter, some_kept}
 
 module _ (routers : List ConfigView) (tables : List (List BaseRow)) where
-  -- where a row leads, by what it comes from
-  abbrev leads_by : ℕ → ℕ → ℕ → BaseFrom → Bool
-  leads_by router addr other from = option_map_or (λ next. nat_eq next.router other) (option_and_then (exit_leads routers router) (exit_by routers router addr from)) false
+  by_from : (router addr : ℕ) (from : BaseFrom) → leads from ≡ false → option_and_then (exit_leads routers router) (exit_by routers router addr from) ≡ None
+  by_from router addr (Connected iface) e = absurd cc
+  by_from router addr (Static place iface) e = absurd cc
+  by_from router addr (Discard place) e = refl
 
-  by_from : (router addr other : ℕ) (from : BaseFrom) → leads from ≡ false → leads_by router addr other from ≡ false
-  by_from router addr other (Connected iface) e = absurd cc
-  by_from router addr other (Static place iface) e = absurd cc
-  by_from router addr other (Discard place) e = refl
-
-  by_row : (router addr other : ℕ) (row : Option BaseRow) → option_map_or (λ (r : BaseRow). leads r.from) row false ≡ false
-      → option_map_or (λ (next : PlaceIn). nat_eq next.router other) (option_and_then (exit_leads routers router) (option_and_then (λ (r : BaseRow). exit_by routers router addr r.from) row)) false ≡ false
-  by_row router addr other None e = refl
-  by_row router addr other (Some row) e = by_from router addr other row.from e
+  by_row : (router addr : ℕ) (row : Option BaseRow) → option_map_or (λ (r : BaseRow). leads r.from) row false ≡ false
+      → option_and_then (exit_leads routers router) (option_and_then (λ (r : BaseRow). exit_by routers router addr r.from) row) ≡ None
+  by_row router addr None e = refl
+  by_row router addr (Some row) e = by_from router addr row.from e
 
   -- a row that isn't a hit leads nowhere
+  pub leads_nowhere : (router addr place : ℕ) → is_hit tables router place ≡ false → leads_to routers tables router addr place ≡ None
+  leads_nowhere router addr place e = by_row router addr (slice_get (rows_of tables router) place) e
+
   not_hit : (router addr other place : ℕ) → is_hit tables router place ≡ false → leads_there routers tables router addr other place ≡ false
-  not_hit router addr other place e = by_row router addr other (slice_get (rows_of tables router) place) e
+  not_hit router addr other place e = ap (λ (q : Option PlaceIn). option_map_or (λ (next : PlaceIn). nat_eq next.router other) q false) (leads_nowhere router addr place e)
 
   pub next_by_rows : (router addr other from n : ℕ) → longest (map (λ row. row.prefix) (rows_of tables router)) addr ≡ range_with_len from n
       → is_next routers tables router addr other ≡ list_any (leads_there routers tables router addr other) (range_with_len from n)

@@ -3,3 +3,8 @@ pub mod Owners
 pub mod Hits
 pub mod Marks
 pub mod Steps
+pub mod Fewest
+pub mod Nexts
+pub mod Found
+pub mod Near
+pub mod Keeping

@@ -1,11 +1,10 @@
 -- The owner of an address is the one router that has it, in a network that is valid.
 use Rattle.std.proofs.Common.{◌≡◌, ℕ, zero, suc, ◌+◌, ◌<◌, ◌≤◌, Bool, true, false, cond, ◌||◌, nat_eq, List, [], ◌∷◌, ◌++◌, Option, Some, None, position, slice_get, refl, sym, ap, ◌∙◌, arith}
-use Rattle.std.specs.List.{list_any, filter_map, flat_map, position_from, cons_option}
+use Rattle.std.specs.List.{list_any, filter_map, flat_map, cons_option}
 use Rattle.std.specs.Prelude.{option_and_then}
 use Rattle.std.specs.Option.{option_map, option_map_or, is_some}
 use Rattle.std.proofs.lemmas.Bool.{eqb-true, eq-eqb}
 use Rattle.std.proofs.lemmas.Bool.Decides.{nat_tests}
-use Rattle.std.proofs.lemmas.Iterator.Adapters.{position_from-zero}
 use Rattle.nc_types.proofs.Lookups.{is_placed}
 use Rattle.nc_types.specs.declared.config.Interface.{Interface}
 use Rattle.nc_types.specs.declared.config.IfaceAddr.{IfaceAddr}
@@ -157,7 +156,7 @@ module _ (routers : List ConfigView) (valid : IsValid routers) (addr : ℕ) wher
   owned : (r : ℕ) → owns routers r addr ≡ option_map_or (λ o. nat_eq o.router r) (owner_of routers addr) false
   owned r = let e : 0 + r ≡ r = omega arith in owned_from addr 0 routers r valid.addresses ∙ ap (λ (k : ℕ). option_map_or (λ (o : PlaceIn). nat_eq o.router k) (owner_of routers addr) false) e
 
-  owned_by : (q : Option PlaceIn) (r : ℕ) → owner_of routers addr ≡ q → owns routers r addr ≡ option_map_or (λ o. nat_eq o.router r) q false
+  pub owned_by : (q : Option PlaceIn) (r : ℕ) → owner_of routers addr ≡ q → owns routers r addr ≡ option_map_or (λ o. nat_eq o.router r) q false
   owned_by q r e = owned r ∙ ap (λ (p : Option PlaceIn). option_map_or (λ (o : PlaceIn). nat_eq o.router r) p false) e
 
   pub no_owner : (flags : List Bool) (count : ℕ) → owner_of routers addr ≡ None → any_flagged flags (λ r. owns routers r addr) count ≡ false

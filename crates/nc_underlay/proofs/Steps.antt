@@ -77,11 +77,11 @@ module _ (routers : List ConfigView) (tables : List (List BaseRow)) (addr : ℕ)
   unfolding reaches
   one_hop hops router = refl
 
-  by_owner : (hops router : ℕ) → owning router ≡ true → within_hops hops router ≡ true
+  pub by_owner : (hops router : ℕ) → owning router ≡ true → within_hops hops router ≡ true
   by_owner zero router is = last_hop router ∙ is
   by_owner (suc hops) router is = one_hop hops router ∙ or_left (owning router) _ is
 
-  by_next : (hops router k : ℕ) → is_next routers tables router addr k ≡ true → within_hops hops k ≡ true → within_hops (suc hops) router ≡ true
+  pub by_next : (hops router k : ℕ) → is_next routers tables router addr k ≡ true → within_hops hops k ≡ true → within_hops (suc hops) router ≡ true
   unfolding is_next
   by_next hops router k next there =
       one_hop hops router ∙ or_right (owning router) _ (next_some (within_hops hops) (leads_to routers tables router addr) (length routers) (next_within routers tables router addr) (hits tables router addr) k next there)

@@ -1,1 +1,4 @@
 pub mod Levels
+pub mod Distances
+pub mod Toward
+pub mod Kept

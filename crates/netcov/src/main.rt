@@ -1,16 +1,16 @@
 //! The program: files of the system, a session on the standard input, replies on the standard output.
 //!
 //! It stands on `nc_session` and `nc_outside`. `main` makes the three objects of the outside and calls
-//! [`nc_session::run`], which writes all that is printed; it prints nothing itself, and ends with the number
-//! of the status.
+//! [`nc_session::run`], which writes all that is printed; it prints nothing itself. What it ends with is promised by the
+//! contract of its one step: the number of the status of a run over the words, or where the words can't be taken one of
+//! two numbers.
 #![tactic(auto)]
 
-ghost use Rattle.std.specs.Prelude.{◌≡◌, ◌≢◌, MatchOption};
+ghost use Rattle.std.specs.Prelude.{◌≡◌, MatchResult};
 ghost use Rattle.std.specs.IoError.{error_kind};
-ghost use Rattle.nc_session.specs.declared.status.Status.TheVariants as Status;
-ghost use Rattle.nc_words.specs.Words.{texts, request_of};
-ghost use Rattle.nc_session.specs.Causes.{IsUsageOrUntold};
-ghost use Rattle.netcov.specs.Ending.{number_untaken};
+ghost use Rattle.std.specs.Process.{exit_status};
+ghost use Rattle.nc_words.specs.Words.{texts};
+ghost use Rattle.netcov.specs.Ending.{IsStatusFor, IsNumberFor, number_untaken};
 
 use nc_outside::{FolderFiles, StdinSource, StdoutSink};
 use nc_session::{Status, run};
@@ -42,8 +42,7 @@ fn untaken(error: &Error) -> u8
 
 // Runs over the system.
 fn run_here(rt: &HostRuntime, words: &[String]) -> Status
-    ensures { MatchOption (request_of (texts words.now))
-        (IsUsageOrUntold result) (λ _. result ≢ Status.Usage) }
+    ensures { IsStatusFor (texts words.now) result }
 {
     let Ok(system) = rt.clone() else {
         return Status::Memory;
@@ -54,10 +53,18 @@ fn run_here(rt: &HostRuntime, words: &[String]) -> Status
     run(rt.alloc(), words, &mut files, &mut input, &mut output)
 }
 
+// What the program ends with, by the words or by why they can't be taken.
+fn end_of(rt: &HostRuntime, words: Result<Vec<String>>) -> ExitCode
+    ensures { MatchResult words (λ words. IsNumberFor (texts words.items) (exit_status result))
+        (λ error. exit_status result ≡ number_untaken (error_kind error)) }
+{
+    match words {
+        Ok(words) => ExitCode::from(run_here(rt, &words).number()),
+        Err(error) => ExitCode::from(untaken(&error)),
+    }
+}
+
 fn main(rt: HostRuntime) -> ExitCode {
-    let number = match words_of(&rt) {
-        Ok(words) => run_here(&rt, &words).number(),
-        Err(error) => untaken(&error),
-    };
-    ExitCode::from(number)
+    let words = words_of(&rt);
+    end_of(&rt, words)
 }

@@ -4,7 +4,7 @@ use Rattle.std.proofs.Common.{◌≡◌, ◌⊎◌, ℕ, ◌==◌, Bool, true, c
 use Rattle.nc_outside.specs.Named.{Named}
 use Rattle.nc_outside.specs.Counts.{Faults, Rose}
 use Rattle.nc_outside.specs.Memory.{FilesState, SourceState, no_calls, no_end, faults_of}
-use Rattle.nc_session.specs.File.{LoadedView}
+use Rattle.nc_engine.specs.File.{LoadedView}
 use Rattle.nc_session.specs.declared.status.Status.{Status}
 use Rattle.nc_session.specs.declared.status.Status.TheVariants.{Done, Memory, Limit}
 use Rattle.nc_words.specs.Words.{InputView, Files, Generated, RequestView, request_of}

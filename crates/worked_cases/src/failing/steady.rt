@@ -1,7 +1,7 @@
 //! A run over objects in memory of which none can fail.
 
 ghost use Rattle.std.specs.Prelude.{◌≡◌, ◌⊎◌, true, Ok};
-ghost use Rattle.nc_session.specs.File.{LoadedView};
+ghost use Rattle.nc_engine.specs.File.{LoadedView};
 ghost use Rattle.nc_words.specs.Words.{texts};
 ghost use Rattle.nc_session.specs.Load.{load};
 ghost use Rattle.nc_session.specs.Output.{is_within, session_of};

@@ -1,5 +1,5 @@
 use Rattle.std.proofs.Common.{◌≡◌, ◌≤◌, ◌*◌, map, take}
-use Rattle.nc_types.specs.declared.TheConstants.{LINE_LIMIT}
+use Rattle.nc_session.specs.Limits.{most_lines}
 use Rattle.nc_report.specs.Views.{file_view}
 use Rattle.nc_session.specs.Generated.{line_count}
 use Rattle.nc_session.proofs.generated.line_count.Given as goal
@@ -8,5 +8,5 @@ use Rattle.nc_session.proofs.generated.line_count.Given as goal
 abbrev pub invariant-files : goal.invariant-files
 invariant-files l = record {
   counted : l.count ≡ line_count (map (λ file. file.lines) (map file_view (take l.file-index l.files)));
-  small : l.count ≤ l.file-index * LINE_LIMIT;
+  small : l.count ≤ l.file-index * most_lines;
 }

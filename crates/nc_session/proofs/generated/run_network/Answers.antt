@@ -1,8 +1,8 @@
-use Rattle.std.proofs.Common.{◌≡◌, ℕ, List, false, Some, map, refl, sym, ap, ◌∙◌, subst}
+use Rattle.std.proofs.Common.{ℕ, List, false, map, subst}
 use Rattle.nc_outside.specs.Memory.{faults_of}
 use Rattle.nc_report.specs.Views.{file_view}
 use Rattle.nc_words.specs.Words.{Generated, texts}
-use Rattle.nc_session.specs.File.{LoadedView}
+use Rattle.nc_engine.specs.File.{LoadedView}
 use Rattle.nc_session.specs.Output.{heading_in}
 use Rattle.nc_session.specs.Ending.{SinkSeen, EndsRefused, ServesBehind}
 use Rattle.nc_session.proofs.GeneratedEnds.{refused_calm, tree_fault, tree_inside, tree_loaded, tree_refused, tree_served}

@@ -1,11 +1,11 @@
-use Rattle.std.proofs.Common.{◌≡◌, ℕ, List, false, true, Some, Err, map, length, refl, sym, ap, ◌∙◌, subst, inl, inr}
+use Rattle.std.proofs.Common.{ℕ, List, false, true, Some, Err, map, refl, ap, ◌∙◌, subst, inl, inr}
 use Rattle.std.specs.Io.KnownBytes.{Appends}
 use Rattle.nc_outside.specs.Memory.{PlainState}
 use Rattle.nc_outside.specs.Counts.{Faults}
 use Rattle.nc_report.specs.declared.file.LoadedFile.{LoadedFile}
 use Rattle.nc_report.specs.Views.{FileView, file_view}
 use Rattle.nc_session.specs.Generated.{heading_text}
-use Rattle.nc_session.specs.File.{LoadedView}
+use Rattle.nc_engine.specs.File.{LoadedView}
 use Rattle.nc_session.specs.Serving.{AppendsFront}
 use Rattle.nc_session.specs.Leaving.{told, failures, FailsAs, Leaves}
 use Rattle.nc_session.proofs.GeneratedEnds.{begins_so, stop_rose}

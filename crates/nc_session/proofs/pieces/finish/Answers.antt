@@ -1,7 +1,7 @@
 use Rattle.std.proofs.Common.{sym, subst}
 use Rattle.nc_session.specs.Leaving.{Leaves, told}
 use Rattle.nc_lines.specs.WholeLines.{whole_lines_of, open_of}
-use Rattle.nc_session.specs.Engine.{begin_at}
+use Rattle.nc_engine.specs.Engine.{begin_at}
 use Rattle.nc_session.proofs.TakenPieces.{nothing_left, last_cut_is, line_left, line_broken}
 use Rattle.nc_session.proofs.pieces.finish.Goals as goal
 

@@ -1,6 +1,6 @@
 use Rattle.std.proofs.Common.{map}
 use Rattle.nc_report.specs.Views.{file_view}
-use Rattle.nc_session.specs.File.{LoadedView}
+use Rattle.nc_engine.specs.File.{LoadedView}
 use Rattle.nc_session.proofs.TakenPieces.{nothing_begun}
 use Rattle.nc_session.proofs.pieces.serve.Goals as goal
 

@@ -2,8 +2,8 @@ use Rattle.std.proofs.Common.{◌≡◌, ◌++◌, ◌-◌, ◌≤◌, ◌∙◌
 use Rattle.std.proofs.KnownBytes.{Consumes-nil, Consumes-trans}
 use Rattle.std.proofs.lemmas.List.{length-take}
 use Rattle.nc_lines.specs.WholeLines.{whole_lines_of}
-use Rattle.nc_session.specs.declared.engine.Flow.{Flow}
-use Rattle.nc_session.specs.Engine.{begin_at}
+use Rattle.nc_engine.specs.declared.engine.Flow.{Flow}
+use Rattle.nc_engine.specs.Engine.{begin_at}
 use Rattle.nc_session.specs.Serving.{ServesLines}
 use Rattle.nc_session.specs.Leaving.{told, Leaves}
 use Rattle.nc_session.specs.SoFar.{IsTaken}

@@ -1,8 +1,8 @@
 use Rattle.std.proofs.Common.{◌≡◌, ◌+◌, List, ℕ, false, Some, length}
 use Rattle.std.specs.Io.KnownBytes.{Consumes}
-use Rattle.nc_session.specs.declared.TheConstants.{SESSION_LIMIT}
-use Rattle.nc_session.specs.File.{LoadedView}
-use Rattle.nc_session.specs.Engine.{begin_at}
+use Rattle.nc_session.specs.Limits.{most_session_bytes}
+use Rattle.nc_engine.specs.File.{LoadedView}
+use Rattle.nc_engine.specs.Engine.{begin_at}
 use Rattle.nc_session.specs.Leaving.{told}
 use Rattle.nc_session.specs.SoFar.{IsTaken}
 use Rattle.nc_session.proofs.pieces.serve_pieces.Given as goal
@@ -16,7 +16,7 @@ invariant-reading g l = record {
   untold : (g.S.Source.end l.fn.input).is_told ≡ false → (g.S.Source.end l.input).is_told ≡ false;
   bytes : List ℕ;
   consumed : Consumes (g.S.Source.rest l.fn.input) (g.S.Source.rest l.input) bytes;
-  room : length bytes + l.room ≡ SESSION_LIMIT;
+  room : length bytes + l.room ≡ most_session_bytes;
   taken : (n : LoadedView) → l.fn.engine ≡ Some (begin_at n)
       → IsTaken (begin_at n) (told (g.S.Source.rest l.fn.input) (g.K.Sink.written l.fn.output))
       (told (g.S.Source.rest l.input) (g.K.Sink.written l.output)) l.engine l.cutter l.room;

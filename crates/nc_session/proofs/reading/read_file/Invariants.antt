@@ -1,7 +1,7 @@
 use Rattle.std.proofs.Common.{◌≡◌, ◌≤◌, ◌+◌, ◌-◌, false, length}
 use Rattle.std.specs.Io.KnownBytes.{Consumes}
 use Rattle.nc_session.specs.Reading.{StaysInTime}
-use Rattle.nc_session.specs.declared.TheConstants.{FILE_LIMIT}
+use Rattle.nc_session.specs.Limits.{most_file_bytes}
 use Rattle.nc_session.proofs.reading.read_file.Given as goal
 
 abbrev pub invariant-reading : goal.invariant-reading
@@ -13,8 +13,8 @@ invariant-reading g l = record {
   in_time : StaysInTime (g.F.Files.end l.fn.files) (g.F.Files.end l.files);
   faults : g.F.Files.faults l.files ≡ g.F.Files.faults l.fn.files;
   taken : Consumes (g.F.Files.left l.fn.files) (g.F.Files.left l.files) l.bytes.items;
-  within : length l.bytes.items ≤ FILE_LIMIT + 1;
+  within : length l.bytes.items ≤ most_file_bytes + 1;
 }
 
 abbrev pub decreases-reading : goal.decreases-reading
-decreases-reading g l = FILE_LIMIT + 2 - length l.bytes.items
+decreases-reading g l = most_file_bytes + 2 - length l.bytes.items

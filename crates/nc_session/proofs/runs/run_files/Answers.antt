@@ -1,11 +1,11 @@
 use Rattle.std.proofs.Common.{◌≡◌, ◌⊎◌, ◌≤◌, true, refl, ap, sym, Err, subst, length, map, arith, ℕ}
 use Rattle.std.proofs.lemmas.List.{length-map}
 use Rattle.std.specs.String.{string_bytes}
-use Rattle.nc_types.specs.declared.TheConstants.{ROUTER_LIMIT}
+use Rattle.nc_session.specs.Limits.{most_routers}
 use Rattle.nc_session.specs.declared.refusal.LoadFault.TheVariants.{Over}
 use Rattle.nc_session.specs.declared.refusal.Quantity.TheVariants.{Routers}
 use Rattle.nc_report.specs.Views.{file_view}
-use Rattle.nc_session.specs.File.{LoadedView}
+use Rattle.nc_engine.specs.File.{LoadedView}
 use Rattle.nc_words.specs.Words.{Files, RequestView, texts}
 use Rattle.nc_session.specs.Leaving.{Told}
 use Rattle.nc_session.specs.Causes.{IsEarly}
@@ -29,7 +29,7 @@ returns-in-Ok-clause-ends g c =
       told = record { rest = g.S.Source.rest c.serve.new.input; written = g.K.Sink.written c.serve.new.output };
       failures = record { source = g.S.Source.faults c.serve.new.input; sink = g.K.Sink.faults c.serve.new.output };
     } in
-    let few : length names ≤ ROUTER_LIMIT = omega (arith, length-map c.args.names.now string_bytes, c.in-Ok.ensures.few) in
+    let few : length names ≤ most_routers = omega (arith, length-map c.args.names.now string_bytes, c.in-Ok.ensures.few) in
     let loaded : LoadedView = record { state = c.in-Ok.loaded.settled.state; files = map file_view c.in-Ok.loaded.files.items; listed = true } in
     files_ends c.args.rounds names before now few loaded c.in-Ok.ensures.cause
     (loaded_with true c.args.rounds names before.files loaded.state loaded.files c.in-Ok.ensures.loaded c.in-Ok.ensures.named) c.serve.result c.serve.ensures.leaves c.serve.ensures.fails
@@ -50,7 +50,7 @@ returns-in-Err-clause-ends g c =
       told = record { rest = g.S.Source.rest c.args.input.now; written = g.K.Sink.written c.refuse.new.output };
       failures = record { source = g.S.Source.faults c.args.input.now; sink = g.K.Sink.faults c.refuse.new.output };
     } in
-    let few = subst (λ (n : ℕ). (c.in-Err.fault ≡ Over Routers) ⊎ (n ≤ ROUTER_LIMIT)) (sym (length-map c.args.names.now string_bytes)) c.in-Err.ensures.few in
+    let few = subst (λ (n : ℕ). (c.in-Err.fault ≡ Over Routers) ⊎ (n ≤ most_routers)) (sym (length-map c.args.names.now string_bytes)) c.in-Err.ensures.few in
     refused_ends request before now c.refuse.result c.in-Err.fault refl (fault_with true c.args.rounds names before.files c.in-Err.fault c.in-Err.ensures.loaded)
     (cause_with true c.args.rounds names before.files before.faults now.faults c.in-Err.fault c.in-Err.ensures.cause) few c.refuse.ensures
 

@@ -3,8 +3,8 @@ use Rattle.std.proofs.lemmas.Option.{MatchOption-at_none, MatchOption-at_some}
 use Rattle.nc_lines.specs.Lines.{without_return}
 use Rattle.nc_lines.specs.WholeLines.{whole_lines_of, open_of}
 use Rattle.nc_command.specs.Cutting.{held_of}
-use Rattle.nc_session.specs.declared.engine.Flow.TheVariants.{Go}
-use Rattle.nc_session.specs.Engine.{Progress}
+use Rattle.nc_engine.specs.declared.engine.Flow.TheVariants.{Go}
+use Rattle.nc_engine.specs.Engine.{Progress}
 use Rattle.nc_session.specs.Serving.{AreBroken, ArePending, ServesLines, AnswersLine, AnswersFirst, AnswersNone}
 use Rattle.nc_session.proofs.ServedLines.{served_pending, pending_less}
 use Rattle.nc_session.proofs.TakenPieces.{joined, fed, fed_lines, held_on, nothing_open, pending_behind, go_ends, memory_ends, quit_ends, ok_after}

@@ -1,7 +1,7 @@
 use Rattle.std.proofs.Common.{◌≡◌, ◌++◌, List, ℕ, Option, length}
 use Rattle.nc_lines.specs.WholeLines.{whole_lines_of}
 use Rattle.nc_command.specs.Cutting.{held_of}
-use Rattle.nc_session.specs.Engine.{Progress}
+use Rattle.nc_engine.specs.Engine.{Progress}
 use Rattle.nc_session.specs.Serving.{AreServed, ArePending}
 use Rattle.nc_session.proofs.serving.take_piece.Given as goal
 

@@ -14,6 +14,7 @@ routers-preserved c =
     let rows = c.in_ok-sessions_of.field-0 in
     let items = c.in_ok-push.ensures.items in
     record {
+      kept = c.in_ok-sessions_of.ensures.kept;
       rows =
           ap (map (λ v. v.items)) items
           ∙ map_push (λ v. v.items) c.routers.rows.items rows

@@ -1,7 +1,7 @@
 use Rattle.std.proofs.Common.{◌≡◌, ◌&&◌, ◌||◌, nat_lt, length}
 use Rattle.std.specs.List.{list_all}
 use Rattle.nc_tables.specs.Forwarding.{arrives_by, each_way}
-use Rattle.nc_trace.specs.Levels.{is_earlier}
+use Rattle.nc_underlay.specs.Distances.{is_earlier}
 use Rattle.nc_trace.proofs.levels.each_passes.Given as goal
 
 abbrev pub invariant-ways : goal.invariant-ways

@@ -1,7 +1,8 @@
 use Rattle.std.proofs.Common.{ℕ, List, sym, subst, arith, inr}
-use Rattle.nc_trace.specs.Traced.{fewest_of}
-use Rattle.nc_trace.specs.Levels.{IsMarked}
-use Rattle.nc_trace.proofs.Marking.{never, no_more}
+use Rattle.nc_underlay.specs.Distances.{fewest_of, IsMarked}
+use Rattle.nc_underlay.proofs.Fewest.{never, no_more}
+use Rattle.nc_trace.specs.Levels.{over}
+use Rattle.nc_trace.proofs.Marking.{stepped}
 use Rattle.nc_trace.proofs.levels.fewest_hops.Goals as goal
 
 pub levels-init : goal.levels-init
@@ -10,5 +11,5 @@ levels-init c = record { marked = λ r. record { right = λ k lt. absurd (omega 
 pub returns-then-not-mark_level : goal.returns-then-not-mark_level
 returns-then-not-mark_level c =
     let kept = c.mark_level.ensures.same c.if-not-mark_level.true in
-    no_more c.args.asked.state.now c.args.asked.every c.args.asked.addr.0 c.levels.hops c.mark_level.new.fewest c.levels-test.true
-    (λ r. subst (λ (fs : List ℕ). IsMarked c.args.asked.state.now c.args.asked.every c.args.asked.addr.0 c.levels.hops (fewest_of fs r) r) (sym kept) (c.levels.invariant.marked r)) c.mark_level.ensures.marked
+    no_more (over c.args.asked.state.now c.args.asked.every c.args.asked.addr.0) _ (stepped c.args.asked.state.now c.args.asked.every c.args.asked.addr.0) c.levels.hops c.mark_level.new.fewest c.levels-test.true
+    (λ r. subst (λ (fs : List ℕ). IsMarked (over c.args.asked.state.now c.args.asked.every c.args.asked.addr.0) c.levels.hops (fewest_of fs r) r) (sym kept) (c.levels.invariant.marked r)) c.mark_level.ensures.marked

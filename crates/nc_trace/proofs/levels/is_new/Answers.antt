@@ -2,8 +2,11 @@ use Rattle.std.proofs.Common.{◌<◌, ◌&&◌, suc, length, Bool, ap, sym, ◌
 use Rattle.std.proofs.lemmas.Bool.{lt-ltb}
 use Rattle.std.proofs.lemmas.List.{get_or_default}
 use Rattle.nc_types.specs.declared.TheConstants.{HOP_LIMIT}
-use Rattle.nc_trace.specs.Traced.{fewest_of, arrives_within}
-use Rattle.nc_trace.proofs.Marking.{level}
+use Rattle.nc_underlay.specs.Distances.{fewest_of}
+use Rattle.nc_underlay.proofs.Fewest.{level}
+use Rattle.nc_trace.specs.Levels.{over}
+use Rattle.nc_trace.specs.Traced.{arrives_within}
+use Rattle.nc_trace.proofs.Marking.{stepped}
 use Rattle.nc_trace.proofs.levels.is_new.Goals as goal
 
 pub returns : goal.returns
@@ -11,5 +14,5 @@ returns c =
     let within : c.args.router.0 < length c.args.fewest.now = omega (arith, c.told-fewest, c.requires.router, c.requires.few) in
     let same = get_or_default c.args.fewest.now c.args.router.0 0 (suc HOP_LIMIT) within in
     c.passes.ensures
-    ∙ level c.args.asked.state.now c.args.asked.every c.args.asked.addr.0 c.args.hops c.args.fewest.now c.requires.known c.args.router.0
+    ∙ level (over c.args.asked.state.now c.args.asked.every c.args.asked.addr.0) _ (stepped c.args.asked.state.now c.args.asked.every c.args.asked.addr.0) c.args.hops c.args.fewest.now c.requires.known c.args.router.0
     ∙ ap (λ (b : Bool). b && arrives_within c.args.asked.state.now c.args.asked.every c.args.hops c.args.router.0 c.args.asked.addr.0) (sym (lt-ltb c.args.hops (fewest_of c.args.fewest.now c.args.router.0) (omega (arith, same, c.if-fewest-router.false))))

@@ -3,16 +3,18 @@ use Rattle.std.proofs.lemmas.Bool.{cases_lt}
 use Rattle.std.proofs.lemmas.List.{length-map}
 use Rattle.nc_types.specs.declared.TheConstants.{HOP_LIMIT}
 use Rattle.nc_types.specs.Config.{ConfigView, config_view}
-use Rattle.nc_trace.specs.Traced.{fewest_of}
-use Rattle.nc_trace.specs.Levels.{IsMarked}
+use Rattle.nc_underlay.specs.Distances.{fewest_of, IsMarked}
+use Rattle.nc_underlay.proofs.Fewest.{done_more, still}
+use Rattle.nc_trace.specs.Levels.{over}
 use Rattle.nc_trace.proofs.Beyond.{past_all, not_arrived}
-use Rattle.nc_trace.proofs.Marking.{done_more, rest_more, still}
+use Rattle.nc_trace.proofs.Marking.{stepped}
 use Rattle.nc_trace.proofs.levels.mark_level.Goals as goal
 use Rattle.nc_trace.proofs.levels.mark_level.Goals.{then-is_new, else-is_new}
 
 pub routers-preserved : goal.routers-preserved
 routers-preserved c =
-    let s = c.args.asked.state.now in
+    let arrives = over c.args.asked.state.now c.args.asked.every c.args.asked.addr.0 in
+    let steps = stepped c.args.asked.state.now c.args.asked.every c.args.asked.addr.0 in
     let old = c.args.fewest.now in
     let now = c.routers.fewest in
     let router = c.routers.router in
@@ -27,8 +29,8 @@ routers-preserved c =
           let apart : (r : ℕ) → r ≢ router → fewest_of c.if-is_new.fewest r ≡ fewest_of now r = λ r differ.
           ap (λ (fs : List ℕ). fewest_of fs r) w.fewest-is ∙ get_or-set_other now router r c.args.hops (suc HOP_LIMIT) differ in
           record {
-            done = done_more s c.args.asked.every c.args.asked.addr.0 c.args.hops old now c.if-is_new.fewest router true c.requires.hops c.requires.before c.routers.invariant.done c.routers.invariant.rest is at apart;
-            rest = rest_more s c.args.asked.every c.args.asked.addr.0 c.args.hops old now c.if-is_new.fewest router true c.requires.hops c.requires.before c.routers.invariant.done c.routers.invariant.rest is at apart;
+            done = done_more arrives _ steps c.args.hops old now c.if-is_new.fewest router true c.requires.hops c.requires.before c.routers.invariant.done c.routers.invariant.rest is at apart;
+            rest = λ r le. apart r (omega arith) ∙ c.routers.invariant.rest r (omega arith);
             same = λ e. absurd (cc);
           }
       | else-is_new w ↦
@@ -36,8 +38,8 @@ routers-preserved c =
           let at = ap (λ (fs : List ℕ). fewest_of fs router) w.fewest-is in
           let apart : (r : ℕ) → r ≢ router → fewest_of c.if-is_new.fewest r ≡ fewest_of now r = λ r differ. ap (λ (fs : List ℕ). fewest_of fs r) w.fewest-is in
           record {
-            done = done_more s c.args.asked.every c.args.asked.addr.0 c.args.hops old now c.if-is_new.fewest router false c.requires.hops c.requires.before c.routers.invariant.done c.routers.invariant.rest is at apart;
-            rest = rest_more s c.args.asked.every c.args.asked.addr.0 c.args.hops old now c.if-is_new.fewest router false c.requires.hops c.requires.before c.routers.invariant.done c.routers.invariant.rest is at apart;
+            done = done_more arrives _ steps c.args.hops old now c.if-is_new.fewest router false c.requires.hops c.requires.before c.routers.invariant.done c.routers.invariant.rest is at apart;
+            rest = λ r le. apart r (omega arith) ∙ c.routers.invariant.rest r (omega arith);
             same = λ e. w.fewest-is ∙ c.routers.invariant.same (sym w.more-is ∙ e);
           }
     ]
@@ -48,6 +50,6 @@ returns-clause-marked c r = elim (cases_lt r c.routers.router) [
   | inr le ↦
       let past : length c.routers-count.result.now ≤ r = omega (arith, le, c.routers-test.false) in
       let beyond = past_all c.routers-count.result.now c.network.result.now c.args.asked.state.now.routers r c.routers-count.ensures.routers c.network.ensures.network past in
-      subst (λ (n : ℕ). IsMarked c.args.asked.state.now c.args.asked.every c.args.asked.addr.0 (c.args.hops + 1) n r) (sym (c.routers.invariant.rest r le))
-      (still c.args.asked.state.now c.args.asked.every c.args.asked.addr.0 c.args.hops (fewest_of c.args.fewest.now r) r c.requires.hops (c.requires.before r) (not_arrived c.args.asked.state.now c.network.ensures.state r beyond c.args.asked.every c.args.asked.addr.0 c.args.hops))
+      subst (λ (n : ℕ). IsMarked (over c.args.asked.state.now c.args.asked.every c.args.asked.addr.0) (c.args.hops + 1) n r) (sym (c.routers.invariant.rest r le))
+      (still (over c.args.asked.state.now c.args.asked.every c.args.asked.addr.0) _ (stepped c.args.asked.state.now c.args.asked.every c.args.asked.addr.0) c.args.hops (fewest_of c.args.fewest.now r) r c.requires.hops (c.requires.before r) (not_arrived c.args.asked.state.now c.network.ensures.state r beyond c.args.asked.every c.args.asked.addr.0 c.args.hops))
 ]

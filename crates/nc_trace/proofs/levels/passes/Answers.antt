@@ -5,7 +5,7 @@ use Rattle.nc_tables.specs.CaseRelations.{state_base}
 use Rattle.nc_tables.specs.Forwarding.{Alternative, arrives_by, alternatives, each_way, some_way}
 use Rattle.nc_tables.specs.Reach.{owns, reaches}
 use Rattle.nc_trace.specs.Traced.{ways_pass}
-use Rattle.nc_trace.specs.Levels.{is_earlier}
+use Rattle.nc_underlay.specs.Distances.{is_earlier}
 use Rattle.nc_trace.proofs.Passing.{by_ways, by_owner}
 use Rattle.nc_trace.proofs.levels.passes.Goals as goal
 

@@ -1,6 +1,6 @@
 use Rattle.std.proofs.Common.{◌≡◌, length}
 use Rattle.nc_tables.specs.Forwarding.{arrives_by, some_way}
-use Rattle.nc_trace.specs.Levels.{is_earlier}
+use Rattle.nc_underlay.specs.Distances.{is_earlier}
 use Rattle.nc_trace.proofs.levels.some_passes.Given as goal
 
 abbrev pub invariant-ways : goal.invariant-ways

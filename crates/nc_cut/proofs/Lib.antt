@@ -1,0 +1,7 @@
+pub mod ListLemmas
+pub mod ExpansionLemmas
+pub mod SizeLemmas
+pub mod KnownLemmas
+pub mod WalkLemmas
+pub mod LawLemmas
+mod DecidingLemmas

@@ -1,0 +1,19 @@
+//! Least cuts of functions of sets of variables: the fewest variables, of those that are free, without
+//! which a function is false. It stands on `nc_diagram` alone, whose diagrams are the functions, and on
+//! nothing that knows of networks.
+//!
+//! The contracts promise that what `least_cut` answers is a cut, that no cut has fewer variables, that
+//! of those with as few it is the first, the ascending lists compared place by place, and that none
+//! comes just where there is no cut. A diagram is walked once for the sizes of the least cuts of its
+//! nodes, the ends before the node, and once from the top down for the cut. Both take time and memory
+//! for the nodes that are reached alone, whatever else the store holds.
+#![tactic(auto)]
+
+mod cut;
+mod laws;
+mod sizes;
+
+pub use cut::least_cut;
+pub use laws::{
+    law_of_cuts_or_none, law_of_no_variable_kept, law_of_one_least_cut, law_of_same_functions,
+};

@@ -1,0 +1,85 @@
+-- What an engine has, how it answers a line, and how many facts it infers for it.
+use Rattle.std.specs.Prelude.{◌≡◌, ◌⊎◌, ℕ, ◌-◌, nat_lt, List, [], ◌∷◌, ◌++◌, length, All, Contains, Option, Some, if◌then◌else◌, codes}
+use Rattle.nc_graph.specs.Flow.{raised}
+use Rattle.nc_graph.specs.Closure.{IsClosure, ReachesMoreThan}
+use Rattle.nc_tables.specs.State.{StateView}
+use Rattle.nc_rules.specs.Rules.{flow_of}
+use Rattle.nc_fact.specs.declared.fact.Fact.{Fact}
+use Rattle.nc_fact.specs.Tested.{tested_facts}
+use Rattle.nc_command.specs.declared.command.Command.TheVariants.{Test, Cut}
+use Rattle.nc_command.specs.Command.{Line, Asks, command_of}
+use Rattle.nc_report.specs.Texts.{line_of}
+use Rattle.nc_engine.specs.Limits.{most_tests, most_facts}
+use Rattle.nc_engine.specs.declared.engine.Flow.{Flow}
+use Rattle.nc_engine.specs.declared.engine.Flow.TheVariants.{Go, Stop}
+use Rattle.nc_engine.specs.File.{LoadedView}
+use Rattle.nc_engine.specs.Session.{KeptTest, State, no_tests, test_in, live_place, Step, asked_in, ends}
+
+-- an engine that isn't spent: its network, what is kept of the session, how many facts were inferred, and of which of them it has
+-- diagrams
+pub record Progress : Type 0 where
+  pub loaded : LoadedView
+  pub session : State
+  pub asked : ℕ
+  pub drawn : List Fact
+
+-- an engine that begins: no test was accepted, no fact was inferred, and there is no diagram
+abbrev pub begin_at : LoadedView → Progress
+begin_at n = record { loaded = n; session = no_tests; asked = 0; drawn = [] }
+
+-- it has the diagrams of all facts of the test at a place
+abbrev pub IsDrawn : Progress → ℕ → Type 0
+IsDrawn p place = All (Contains p.drawn) (test_in p.session.tests place).facts
+
+-- it has those of both tests of each question that was answered
+abbrev pub HasDrawn : Progress → Type 0
+HasDrawn p = All (λ q. IsDrawn p q.0 × IsDrawn p q.1) p.session.pairs
+
+-- the reply is a refusal
+abbrev pub IsRefusal : List ℕ → List ℕ → Type 0
+IsRefusal before after = (text : List ℕ) × (after ≡ before ++ line_of (codes "refused " ++ text))
+
+-- behind a line that asks for a cut it has the diagrams of all facts of the live test, or the reply was a refusal
+abbrev pub HasDrawnFor : Progress → Line → List ℕ → List ℕ → Type 0
+HasDrawnFor p (Asks (Cut number names)) before after =
+    (place : ℕ) → live_place p.session.tests number ≡ Some place → IsDrawn p place ⊎ IsRefusal before after
+HasDrawnFor p line before after = Unit {0}
+
+-- whether the session goes on behind a line
+abbrev pub flow_behind : Line → Flow
+flow_behind line = if ends line then Stop else Go
+
+module _ (s : StateView) (tests : List KeptTest) where
+  -- the facts for which a line asks: those of a test, where one more may be accepted; of any other line none
+  abbrev pub asked_for : Line → List Fact
+  asked_for (Asks (Test test)) = if nat_lt (length tests) most_tests then tested_facts s test else []
+  asked_for line = []
+
+  -- facts are inferred once: as many as are new where they fit, else as many as there was room for
+  pub record InfersAll (facts : List Fact) (before now : ℕ) : Type 0 where
+    pub fits : ¬ ReachesMoreThan (flow_of s) most_facts (asked_in tests ++ facts) → (xs ys : List Fact)
+        → IsClosure (flow_of s) (asked_in tests) xs → IsClosure (flow_of s) (asked_in tests ++ facts) ys
+        → now ≡ raised before (length ys - length xs)
+    pub full : ReachesMoreThan (flow_of s) most_facts (asked_in tests ++ facts) → (xs : List Fact)
+        → IsClosure (flow_of s) (asked_in tests) xs → now ≡ raised before (most_facts - length xs)
+
+  -- for a line that asks for facts, and for one that asks for none
+  abbrev pub Infers : List Fact → ℕ → ℕ → Type 0
+  Infers [] before now = now ≡ before
+  Infers (fact ∷ facts) before now = InfersAll (fact ∷ facts) before now
+
+-- a line is answered: the reply goes to the end of the bytes; the network stays
+pub record Answered (old new : Progress) (line before after : List ℕ) : Type 0 where
+  pub reply : List ℕ
+  pub step : Step old.loaded old.session line reply new.session
+  pub text : after ≡ before ++ reply
+  pub loaded : new.loaded ≡ old.loaded
+  pub infers : Infers old.loaded.state old.session.tests (asked_for old.loaded.state old.session.tests (command_of line)) old.asked new.asked
+
+-- the same of engines of which neither is spent
+pub record Turns (old new : Option Progress) (line before after : List ℕ) : Type 0 where
+  pub from : Progress
+  pub from_is : old ≡ Some from
+  pub to : Progress
+  pub to_is : new ≡ Some to
+  pub answered : Answered from to line before after

@@ -1,0 +1,30 @@
+//! The engine: a network in its state with the files of its routers, and the answers to the lines of a session.
+//!
+//! It stands on `nc_rules` for facts and how they are inferred, on `nc_graph` for what a derivation is, on `nc_marks` and
+//! `nc_report` for the marks and their texts, on `nc_formula` and `nc_diagram` for what is asked of sets of elements, and on
+//! `nc_command` for the lines. The contract of [`Engine::answer`] promises that each line gets the reply that the
+//! definitions of `specs/` give, that what is kept of the session moves by one step of theirs, and how many facts are
+//! inferred for it. The definitions are public: `Marks`, `Questions` and `Session`, in the order to read them; `Engine`
+//! says what an engine has and infers.
+#![tactic(auto)]
+
+mod cuts;
+mod engine;
+mod forgetting;
+mod forms;
+pub mod laws;
+mod lines;
+mod questions;
+mod testing;
+mod work;
+
+pub use engine::{Engine, Flow};
+
+/// How many tests are accepted.
+pub const TEST_LIMIT: usize = 4096;
+
+/// How many facts are asked in a session.
+pub const FACT_LIMIT: u32 = 1_048_576;
+
+/// How many parts of diagrams are kept in a session.
+pub const DIAGRAM_LIMIT: u32 = 1_048_576;

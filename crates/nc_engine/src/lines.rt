@@ -1,0 +1,54 @@
+//! A line of a session, by the command that stands on it.
+
+ghost use Rattle.std.specs.Prelude.{◌≡◌, ◌<◌, ◌-◌, Some, map, IfOk, OnOk};
+ghost use Rattle.nc_rules.specs.Seen.{state_of};
+ghost use Rattle.nc_command.specs.Command.{command_of};
+ghost use Rattle.nc_report.specs.Views.{file_view};
+ghost use Rattle.nc_engine.specs.File.{AreFilesOf};
+ghost use Rattle.nc_engine.specs.Engine.{Answered, HasDrawnFor, flow_behind};
+ghost use Rattle.nc_engine.specs.Work.{IsWork, progress_of};
+
+use crate::engine::Flow;
+use crate::work::Work;
+use nc_command::{Command, CommandFault, read_command};
+use nc_report::{LoadedFile, push_line};
+use std::alloc::{AllocError, Global};
+
+impl Work {
+    /// Answers a line: its reply goes to the end of `out`. The files are those of the routers.
+    pub(crate) fn answer(
+        &mut self,
+        alloc: Global,
+        line: &[u8],
+        files: &[LoadedFile],
+        out: &mut Vec<u8>,
+    ) -> Result<Flow, AllocError>
+        requires work { IsWork self.old }
+        requires files { AreFilesOf (state_of self.old.rules).routers (map file_view files.now) }
+        ensures work { OnOk result (IsWork self.new) }
+        ensures answered { OnOk result
+            (Answered (progress_of (map file_view files.now) self.old)
+            (progress_of (map file_view files.now) self.new)
+            line.now out.old.items out.new.items) }
+        ensures flow { IfOk result (λ flow. flow ≡ flow_behind (command_of line.now)) }
+        ensures drawn { OnOk result
+            (HasDrawnFor (progress_of (map file_view files.now) self.new)
+            (command_of line.now) out.old.items out.new.items) }
+    {
+        match read_command(alloc, line) {
+            Ok(None) => {}
+            Ok(Some(Command::Quit)) => return Ok(Flow::Stop),
+            Ok(Some(Command::Test(test))) => self.test(alloc, &test, out)?,
+            Ok(Some(Command::Forget(number))) => self.forget(alloc, number, out)?,
+            Ok(Some(Command::Implies(first, second))) => self.question(alloc, first, second, out)?,
+            Ok(Some(Command::Cut(number, names))) => self.cut(alloc, number, &names, out)?,
+            Ok(Some(Command::Show(name))) => self.show(alloc, &name, files, out)?,
+            Ok(Some(Command::Lcov)) => self.lcov(alloc, files, out)?,
+            Ok(Some(Command::Json)) => self.json(alloc, out)?,
+            Err(CommandFault::Long) => push_line(out, b"refused long")?,
+            Err(CommandFault::Syntax) => push_line(out, b"refused syntax")?,
+            Err(CommandFault::Memory) => return Err(AllocError),
+        }
+        Ok(Flow::Go)
+    }
+}
