@@ -1,9 +1,10 @@
 -- The loop that combines two references: what its frames wait for, and that each turn keeps it and falls.
-use Rattle.std.proofs.Common.{◌≡◌, ℕ, zero, suc, ◌+◌, ◌-◌, ◌*◌, ◌^◌, ◌<◌, ◌≤◌, Bool, true, false, cond, List, [], ◌∷◌, ◌++◌, length, Option, Some, None, sum_by, refl, sym, ap, subst, ◌∙◌, inl, inr, arith, if◌then◌else◌, ◌==◌}
+use Rattle.std.proofs.Common.{◌≡◌, ℕ, zero, suc, ◌+◌, ◌-◌, ◌*◌, ◌^◌, ◌<◌, ◌≤◌, Bool, true, false, List, [], ◌∷◌, ◌++◌, length, min, max, ◌⊎◌, sum_by, refl, sym, ap, subst, ◌∙◌, inl, inr, arith, if◌then◌else◌, ◌==◌}
 use Rattle.std.proofs.lemmas.List.Sums.{sum_by_push}
-use Rattle.std.proofs.lemmas.Bool.{cases_Bool, and_parts, eqb-true}
+use Rattle.std.proofs.lemmas.Bool.{cases_lt, and_parts, eqb-true}
 use Rattle.nc_diagram.specs.declared.node.Node.{Node}
 use Rattle.nc_diagram.specs.declared.apply.Operator.{Operator}
+use Rattle.nc_diagram.specs.declared.apply.Operator.TheVariants.{And, Or}
 use Rattle.nc_diagram.specs.declared.apply.Pair.{Pair}
 use Rattle.nc_diagram.specs.declared.apply.Frame.{Frame}
 use Rattle.nc_diagram.specs.declared.apply.Frame.TheVariants.{Low, High}
@@ -12,7 +13,7 @@ use Rattle.nc_diagram.specs.declared.apply.Focus.TheVariants.{Work, Done}
 use Rattle.nc_diagram.specs.Sets.{Members, has, fixing, below, Same, IsLowestFixed}
 use Rattle.nc_diagram.specs.Diagrams.{Diagrams, Belongs, meaning, level, IsReduced, IsNode, Adds, Means, IsCrowded}
 use Rattle.nc_diagram.specs.Places.{Makes}
-use Rattle.nc_diagram.specs.Operations.{combined, joint, BothBelong, pair_eq, IsCofactor, IsTop, IsAnswer, Opens}
+use Rattle.nc_diagram.specs.Operations.{combined, joint, BothBelong, ordered, pair_eq, IsCofactor, IsTop, IsAnswer, Opens}
 use Rattle.nc_diagram.proofs.SetLemmas.{length-below, IsLowestFixed-itself, IsLowestFixed-more}
 use Rattle.nc_diagram.proofs.DiagramLemmas.{meaning-newest}
 use Rattle.nc_diagram.proofs.Canonicity.{level-fixed}
@@ -139,16 +140,6 @@ module _ (operator : Operator) (old : List Node) where
       let part = IsLowestFixed-more f whole (part_of operator old frame) (IsLowestFixed-itself f whole w.1) (side_of frame) (part-fixed frame) in
       IsLowestFixed-more f (part_of operator old frame) g part rest.0 rest.1
 
-  -- the pairs done have their functions
-  abbrev pub IsDone : List Node → (Pair → Option ℕ) → Type 0
-  IsDone now found = (p : Pair) (r : ℕ) → found p ≡ Some r → Belongs now r × Same (meaning now r) (joint operator old p)
-
-  IsDone-keep : (now new : List Node) → Keeps now new → (found : Pair → Option ℕ) → IsDone now found → IsDone new found
-  IsDone-keep now new keeps found d p r h =
-      let e = d p r h in
-      let k = keeps r e.0 in
-      (k.0, λ s. k.1 s ∙ e.1 s)
-
   -- what the loop is at belongs, and has a function
   abbrev pub IsFocus : List Node → Focus → Type 0
   IsFocus now (Work p) = BothBelong old p
@@ -165,13 +156,52 @@ joint-kept operator now new keeps p b s =
     let r : meaning new p.right s ≡ meaning now p.right s = (keeps p.right b.1).1 s in
     λ i. combined operator (l i) (r i)
 
+-- a pair with the older reference first
+swapped : (operator : Operator) (x y : Bool) → combined operator x y ≡ combined operator y x
+swapped And true true = refl
+swapped And true false = refl
+swapped And false true = refl
+swapped And false false = refl
+swapped Or true true = refl
+swapped Or true false = refl
+swapped Or false true = refl
+swapped Or false false = refl
+
+ordered-either : (p : Pair) → (ordered p ≡ p) ⊎ (ordered p ≡ record { left = p.right; right = p.left })
+unfolding ordered
+ordered-either p =
+    elim (cases_lt p.right p.left) [
+      | inl h ↦
+          (let l : min p.left p.right ≡ p.right = omega arith in
+          let r : max p.left p.right ≡ p.left = omega arith in
+          inr (λ i. record { left = l i; right = r i }))
+      | inr h ↦
+          (let l : min p.left p.right ≡ p.left = omega arith in
+          let r : max p.left p.right ≡ p.right = omega arith in
+          inl (λ i. record { left = l i; right = r i }))
+    ]
+
+joint-ordered : (operator : Operator) (nodes : List Node) (p : Pair) → Same (joint operator nodes (ordered p)) (joint operator nodes p)
+joint-ordered operator nodes p s =
+    elim (ordered-either p) [
+      | inl e ↦ ap (λ q. joint operator nodes q s) e
+      | inr e ↦ ap (λ q. joint operator nodes q s) e ∙ swapped operator (meaning nodes p.right s) (meaning nodes p.left s)
+    ]
+
+pub both-ordered : (nodes : List Node) (p : Pair) → BothBelong nodes p → BothBelong nodes (ordered p)
+unfolding ordered
+both-ordered nodes p b = (omega (arith, b.0, b.1), omega (arith, b.0, b.1))
+
+sum-ordered : (p : Pair) → (ordered p).left + (ordered p).right ≡ p.left + p.right
+unfolding ordered
+sum-ordered p = omega arith
+
 -- the loop's invariant: f is the result's function
-pub record IsUnderway (operator : Operator) (f : Members → Bool) (old now : Diagrams) (frames : List Frame) (focus : Focus) (found : Pair → Option ℕ) : Type 0 where
+pub record IsUnderway (operator : Operator) (f : Members → Bool) (old now : Diagrams) (frames : List Frame) (focus : Focus) : Type 0 where
   pub adds : Adds f old now
   pub reduced : IsReduced now.nodes
   pub belongs : IsFocus operator old.nodes now.nodes focus
   pub waits : Waits operator old.nodes now.nodes f frames (aim operator old.nodes now.nodes focus)
-  pub done : IsDone operator old.nodes now.nodes found
 
 module _ (operator : Operator) (f : Members → Bool) (old now : Diagrams) where
   -- a side of a pair of old references, in the old nodes
@@ -196,166 +226,160 @@ module _ (operator : Operator) (f : Members → Bool) (old now : Diagrams) where
       sym ((keeps p.right b.1).1 s) ∙ is.right_value s ∙ (keeps p.right b.1).1 (fixing (below v (has s v)) s) in
       (λ i. combined operator (l i) (r i))
 
-  module _ (found : Pair → Option ℕ) where
-    -- a pair is begun
-    pub opened : (frames frames' : List Frame) (p : Pair) (focus : Focus) → IsUnderway operator f old now frames (Work p) found → Opens operator now.nodes found p frames frames' focus → IsUnderway operator f old now frames' focus found × (work_left frames' focus < work_left frames (Work p))
-    opened frames frames' p (Done r) u o =
-        let keeps = Keeps-adds f old now u.adds in
-        let is : Belongs now.nodes r × Same (meaning now.nodes r) (joint operator old.nodes p) =
-        elim o.1 [
-          | inl decided ↦
-              (let belongs : Belongs old.nodes r = elim decided.one_of_both [ inl e ↦ omega (arith, u.belongs.0) | inr e ↦ omega (arith, u.belongs.1) ] in
-              let k = keeps r belongs in
-              (k.0, λ s. k.1 s ∙ decided.value old.nodes s))
-          | inr either ↦
-              elim either [
-                | inl known ↦ u.done p r known
-                | inr answer ↦ (answer.belongs, λ s. answer.value s ∙ joint-kept operator old.nodes now.nodes keeps p u.belongs s)
-              ]
-        ] in (
+  -- a pair is begun
+  opened_ordered : (frames frames' : List Frame) (p : Pair) (focus : Focus) → IsUnderway operator f old now frames (Work p) → Opens operator now.nodes p frames frames' focus → IsUnderway operator f old now frames' focus × (work_left frames' focus < work_left frames (Work p))
+  opened_ordered frames frames' p (Done r) u o =
+      let keeps = Keeps-adds f old now u.adds in
+      let is : Belongs now.nodes r × Same (meaning now.nodes r) (joint operator old.nodes p) =
+      elim o.1 [
+        | inl decided ↦
+            (let belongs : Belongs old.nodes r = elim decided.one_of_both [ inl e ↦ omega (arith, u.belongs.0) | inr e ↦ omega (arith, u.belongs.1) ] in
+            let k = keeps r belongs in
+            (k.0, λ s. k.1 s ∙ decided.value old.nodes s))
+        | inr answer ↦ (answer.belongs, λ s. answer.value s ∙ joint-kept operator old.nodes now.nodes keeps p u.belongs s)
+      ] in (
+        record {
+          adds = u.adds;
+          reduced = u.reduced;
+          belongs = is.0;
+          waits = subst (λ fs. Waits operator old.nodes now.nodes f fs (meaning now.nodes r)) (sym o.0) (Waits-same operator old.nodes now.nodes f frames (joint operator old.nodes p) (meaning now.nodes r) u.waits is.1);
+        },
+        omega (arith, ap (sum_by weight_of) o.0, work-positive (p.left + p.right)),
+      )
+  opened_ordered frames frames' p (Work low) u o =
+      let keeps = Keeps-adds f old now u.adds in
+      let v = o.1.0 in
+      let high = o.1.1 in
+      let b = o.1.2 in
+      let split = o.1.4 in
+      let low_side = side_old keeps p u.belongs v false low split.low in
+      let high_side = side_old keeps p u.belongs v true high split.high in
+      let some : 0 < p.left + p.right = omega (arith, o.0.0) in
+      let frame : Frame = Low p v high b in
+      let is : IsFrame operator old.nodes now.nodes (Low p v high b) =
+      (record { belong = u.belongs; narrow = split.top.narrow; some = some; top = top_old keeps p u.belongs v split.top }, record { belong = high_side.0; older = split.high.older; value = high_side.1 }) in (
+        record {
+          adds = u.adds;
+          reduced = u.reduced;
+          belongs = low_side.0;
+          waits = subst (λ fs. Waits operator old.nodes now.nodes f fs (joint operator old.nodes low)) (sym o.1.3) (Waits-push operator old.nodes now.nodes f frames (Low p v high b) (joint operator old.nodes low) u.waits is low_side.1);
+        },
+        omega (arith, ap (sum_by weight_of) o.1.3, sum_by-push frames (Low p v high b), work-falls (p.left + p.right) some, work-positive (p.left + p.right - 1), work-mono (low.left + low.right) (p.left + p.right - 1) (omega (arith, split.low.older))),
+      )
+
+  pub opened : (frames frames' : List Frame) (p : Pair) (focus : Focus) → IsUnderway operator f old now frames (Work p) → Opens operator now.nodes (ordered p) frames frames' focus → IsUnderway operator f old now frames' focus × (work_left frames' focus < work_left frames (Work p))
+  opened frames frames' p focus u o =
+      let first : IsUnderway operator f old now frames (Work (ordered p)) =
+      record {
+        adds = u.adds;
+        reduced = u.reduced;
+        belongs = both-ordered old.nodes p u.belongs;
+        waits = Waits-same operator old.nodes now.nodes f frames (joint operator old.nodes p) (joint operator old.nodes (ordered p)) u.waits (joint-ordered operator old.nodes p);
+      } in
+      let step = opened_ordered frames frames' (ordered p) focus first o in
+      (step.0, omega (arith, step.1, ap work (sum-ordered p)))
+
+  -- the low side is done, and the high side is begun
+  pub turned : (frames all : List Frame) (p : Pair) (v : ℕ) (high : Pair) (b r : ℕ) → all ≡ frames ++ Low p v high b ∷ [] → IsUnderway operator f old now all (Done r) → IsUnderway operator f old now (frames ++ High p v r b ∷ []) (Work high) × (work_left (frames ++ High p v r b ∷ []) (Work high) < work_left all (Done r))
+  turned frames all p v high b r e u =
+      let w = Waits-pop operator old.nodes now.nodes f frames (Low p v high b) (meaning now.nodes r) (subst (λ fs. Waits operator old.nodes now.nodes f fs (meaning now.nodes r)) e u.waits) in
+      let set = w.1.0 in
+      let has_high = w.1.1 in (
+        record {
+          adds = u.adds;
+          reduced = u.reduced;
+          belongs = has_high.belong;
+          waits = Waits-push operator old.nodes now.nodes f frames (High p v r b) (joint operator old.nodes high) w.0 (set, record { belongs = u.belongs; value = w.2 }) has_high.value;
+        },
+        omega (arith, ap (sum_by weight_of) e, sum_by-push frames (Low p v high b), sum_by-push frames (High p v r b), work-positive (p.left + p.right - 1), work-mono (high.left + high.right) (p.left + p.right - 1) (omega (arith, has_high.older))),
+      )
+
+  module _ (frames all : List Frame) (p : Pair) (v low b r : ℕ) (e : all ≡ frames ++ High p v low b ∷ []) (u : IsUnderway operator f old now all (Done r)) where
+    popped : Waits operator old.nodes now.nodes f frames (joint operator old.nodes p) × IsFrame operator old.nodes now.nodes (High p v low b) × Same (meaning now.nodes r) (part_of operator old.nodes (High p v low b))
+    popped = Waits-pop operator old.nodes now.nodes f frames (High p v low b) (meaning now.nodes r) (subst (λ fs. Waits operator old.nodes now.nodes f fs (meaning now.nodes r)) e u.waits)
+
+    -- both sides are done: what `make` requires
+    pub low_belongs : Belongs now.nodes low
+    low_belongs = popped.1.1.belongs
+
+    pub low_later : v < level now.nodes low
+    low_later =
+        let h = level-fixed now.nodes u.reduced low low_belongs (joint operator old.nodes p) (below v false) (omega (arith, length-below v false, popped.1.0.narrow)) popped.1.1.value in
+        omega (arith, length-below v false)
+
+    pub high_later : v < level now.nodes r
+    high_later =
+        let h = level-fixed now.nodes u.reduced r u.belongs (joint operator old.nodes p) (below v true) (omega (arith, length-below v true, popped.1.0.narrow)) popped.2 in
+        omega (arith, length-below v true)
+
+    -- the choice between both sides is the pair's function
+    chosen : (s : Members) → (if has s v then meaning now.nodes r s else meaning now.nodes low s) ≡ joint operator old.nodes p s
+    chosen s = at (has s v) ∙ sym (popped.1.0.top s)
+      where
+        at : (b : Bool) → (if b then meaning now.nodes r s else meaning now.nodes low s) ≡ joint operator old.nodes p (fixing (below v b) s)
+        at true = popped.2 s
+        at false = popped.1.1.value s
+
+    part : IsLowestFixed f (joint operator old.nodes p)
+    part = Waits-fixed operator old.nodes now.nodes f frames (joint operator old.nodes p) popped.0
+
+    -- the node that found no room shows that the store is crowded
+    pub crowded : now.limit ≤ length now.nodes → IsNode now.nodes (record { variable = v; low = low; high = r }) → IsCrowded f old
+    crowded full node =
+        let n : Node = record { variable = v; low = low; high = r } in
+        IsCrowded-full f old now n u.adds u.reduced full node
+        (IsLowestFixed-same f (joint operator old.nodes p) (meaning (n ∷ now.nodes) (length now.nodes + 2)) part
+        (λ s. meaning-newest n now.nodes s ∙ choice (has s v) s ∙ chosen s))
+      where
+        choice : (b : Bool) (s : Members) → meaning now.nodes (if b then r else low) s ≡ (if b then meaning now.nodes r s else meaning now.nodes low s)
+        choice true s = refl
+        choice false s = refl
+
+    -- the node made is a part
+    pub made_adds : (new : Diagrams) (q : ℕ) → Makes v low r now new q → Adds f old new
+    made_adds new q m =
+        Adds-makes f old now new v low r q u.adds m
+        (IsLowestFixed-same f (joint operator old.nodes p) (meaning new.nodes q) part (λ s. m.value s ∙ chosen s))
+
+    -- which answers the pair
+    pub made_answer : (new : Diagrams) (q : ℕ) → Makes v low r now new q → IsAnswer new.nodes operator p q
+    made_answer new q m =
+        let keeps = Keeps-adds f old new (made_adds new q m) in
+        let b = popped.1.0.belong in
+        record {
+          belong = ((keeps p.left b.0).0, (keeps p.right b.1).0);
+          belongs = m.belongs;
+          value = λ s. m.value s ∙ chosen s ∙ sym (joint-kept operator old.nodes new.nodes keeps p b s);
+        }
+
+    -- and the pair is done
+    pub finished : (new : Diagrams) (q : ℕ) → Makes v low r now new q → IsUnderway operator f old new frames (Done q) × (work_left frames (Done q) < work_left all (Done r))
+    finished new q m =
+        let keeps = Keeps-makes v low r now new q m in
+        let value : Same (meaning new.nodes q) (joint operator old.nodes p) = λ s. m.value s ∙ chosen s in (
           record {
-            adds = u.adds;
-            reduced = u.reduced;
-            belongs = is.0;
-            waits = subst (λ fs. Waits operator old.nodes now.nodes f fs (meaning now.nodes r)) (sym o.0) (Waits-same operator old.nodes now.nodes f frames (joint operator old.nodes p) (meaning now.nodes r) u.waits is.1);
-            done = u.done;
-          },
-          omega (arith, ap (sum_by weight_of) o.0, work-positive (p.left + p.right)),
-        )
-    opened frames frames' p (Work low) u o =
-        let keeps = Keeps-adds f old now u.adds in
-        let v = o.1.0 in
-        let high = o.1.1 in
-        let b = o.1.2 in
-        let split = o.1.4 in
-        let low_side = side_old keeps p u.belongs v false low split.low in
-        let high_side = side_old keeps p u.belongs v true high split.high in
-        let some : 0 < p.left + p.right = omega (arith, o.0.0) in
-        let frame : Frame = Low p v high b in
-        let is : IsFrame operator old.nodes now.nodes (Low p v high b) =
-        (record { belong = u.belongs; narrow = split.top.narrow; some = some; top = top_old keeps p u.belongs v split.top }, record { belong = high_side.0; older = split.high.older; value = high_side.1 }) in (
-          record {
-            adds = u.adds;
-            reduced = u.reduced;
-            belongs = low_side.0;
-            waits = subst (λ fs. Waits operator old.nodes now.nodes f fs (joint operator old.nodes low)) (sym o.1.3) (Waits-push operator old.nodes now.nodes f frames (Low p v high b) (joint operator old.nodes low) u.waits is low_side.1);
-            done = u.done;
-          },
-          omega (arith, ap (sum_by weight_of) o.1.3, sum_by-push frames (Low p v high b), work-falls (p.left + p.right) some, work-positive (p.left + p.right - 1), work-mono (low.left + low.right) (p.left + p.right - 1) (omega (arith, split.low.older))),
-        )
-
-    -- the low side is done, and the high side is begun
-    pub turned : (frames all : List Frame) (p : Pair) (v : ℕ) (high : Pair) (b r : ℕ) → all ≡ frames ++ Low p v high b ∷ [] → IsUnderway operator f old now all (Done r) found → IsUnderway operator f old now (frames ++ High p v r b ∷ []) (Work high) found × (work_left (frames ++ High p v r b ∷ []) (Work high) < work_left all (Done r))
-    turned frames all p v high b r e u =
-        let w = Waits-pop operator old.nodes now.nodes f frames (Low p v high b) (meaning now.nodes r) (subst (λ fs. Waits operator old.nodes now.nodes f fs (meaning now.nodes r)) e u.waits) in
-        let set = w.1.0 in
-        let has_high = w.1.1 in (
-          record {
-            adds = u.adds;
-            reduced = u.reduced;
-            belongs = has_high.belong;
-            waits = Waits-push operator old.nodes now.nodes f frames (High p v r b) (joint operator old.nodes high) w.0 (set, record { belongs = u.belongs; value = w.2 }) has_high.value;
-            done = u.done;
-          },
-          omega (arith, ap (sum_by weight_of) e, sum_by-push frames (Low p v high b), sum_by-push frames (High p v r b), work-positive (p.left + p.right - 1), work-mono (high.left + high.right) (p.left + p.right - 1) (omega (arith, has_high.older))),
-        )
-
-    module _ (frames all : List Frame) (p : Pair) (v low b r : ℕ) (e : all ≡ frames ++ High p v low b ∷ []) (u : IsUnderway operator f old now all (Done r) found) where
-      popped : Waits operator old.nodes now.nodes f frames (joint operator old.nodes p) × IsFrame operator old.nodes now.nodes (High p v low b) × Same (meaning now.nodes r) (part_of operator old.nodes (High p v low b))
-      popped = Waits-pop operator old.nodes now.nodes f frames (High p v low b) (meaning now.nodes r) (subst (λ fs. Waits operator old.nodes now.nodes f fs (meaning now.nodes r)) e u.waits)
-
-      -- both sides are done: what `make` requires
-      pub low_belongs : Belongs now.nodes low
-      low_belongs = popped.1.1.belongs
-
-      pub low_later : v < level now.nodes low
-      low_later =
-          let h = level-fixed now.nodes u.reduced low low_belongs (joint operator old.nodes p) (below v false) (omega (arith, length-below v false, popped.1.0.narrow)) popped.1.1.value in
-          omega (arith, length-below v false)
-
-      pub high_later : v < level now.nodes r
-      high_later =
-          let h = level-fixed now.nodes u.reduced r u.belongs (joint operator old.nodes p) (below v true) (omega (arith, length-below v true, popped.1.0.narrow)) popped.2 in
-          omega (arith, length-below v true)
-
-      -- the choice between both sides is the pair's function
-      chosen : (s : Members) → (if has s v then meaning now.nodes r s else meaning now.nodes low s) ≡ joint operator old.nodes p s
-      chosen s = at (has s v) ∙ sym (popped.1.0.top s)
-        where
-          at : (b : Bool) → (if b then meaning now.nodes r s else meaning now.nodes low s) ≡ joint operator old.nodes p (fixing (below v b) s)
-          at true = popped.2 s
-          at false = popped.1.1.value s
-
-      part : IsLowestFixed f (joint operator old.nodes p)
-      part = Waits-fixed operator old.nodes now.nodes f frames (joint operator old.nodes p) popped.0
-
-      -- the node that found no room shows that the store is crowded
-      pub crowded : now.limit ≤ length now.nodes → IsNode now.nodes (record { variable = v; low = low; high = r }) → IsCrowded f old
-      crowded full node =
-          let n : Node = record { variable = v; low = low; high = r } in
-          IsCrowded-full f old now n u.adds u.reduced full node
-          (IsLowestFixed-same f (joint operator old.nodes p) (meaning (n ∷ now.nodes) (length now.nodes + 2)) part
-          (λ s. meaning-newest n now.nodes s ∙ choice (has s v) s ∙ chosen s))
-        where
-          choice : (b : Bool) (s : Members) → meaning now.nodes (if b then r else low) s ≡ (if b then meaning now.nodes r s else meaning now.nodes low s)
-          choice true s = refl
-          choice false s = refl
-
-      -- the node made is a part
-      pub made_adds : (new : Diagrams) (q : ℕ) → Makes v low r now new q → Adds f old new
-      made_adds new q m =
-          Adds-makes f old now new v low r q u.adds m
-          (IsLowestFixed-same f (joint operator old.nodes p) (meaning new.nodes q) part (λ s. m.value s ∙ chosen s))
-
-      -- which answers the pair
-      pub made_answer : (new : Diagrams) (q : ℕ) → Makes v low r now new q → IsAnswer new.nodes operator p q
-      made_answer new q m =
-          let keeps = Keeps-adds f old new (made_adds new q m) in
-          let b = popped.1.0.belong in
-          record {
-            belong = ((keeps p.left b.0).0, (keeps p.right b.1).0);
+            adds = made_adds new q m;
+            reduced = m.reduced;
             belongs = m.belongs;
-            value = λ s. m.value s ∙ chosen s ∙ sym (joint-kept operator old.nodes new.nodes keeps p b s);
-          }
-
-      -- and the pair is done
-      pub finished : (new : Diagrams) (q : ℕ) → Makes v low r now new q → (found' : Pair → Option ℕ) → ((x : Pair) → found' x ≡ cond (pair_eq p x) (Some q) (found x)) → ((x : Pair) → pair_eq p x ≡ true → p ≡ x) → IsUnderway operator f old new frames (Done q) found' × (work_left frames (Done q) < work_left all (Done r))
-      finished new q m found' updates same =
-          let keeps = Keeps-makes v low r now new q m in
-          let value : Same (meaning new.nodes q) (joint operator old.nodes p) = λ s. m.value s ∙ chosen s in (
-            record {
-              adds = made_adds new q m;
-              reduced = m.reduced;
-              belongs = m.belongs;
-              waits = Waits-same operator old.nodes new.nodes f frames (joint operator old.nodes p) (meaning new.nodes q) (Waits-keep operator old.nodes now.nodes new.nodes keeps f frames (joint operator old.nodes p) popped.0) value;
-              done = λ x t h.
-                  elim (cases_Bool (pair_eq p x)) [
-                    | inl yes_ ↦
-                        (let it : Some q ≡ Some t = sym (updates x ∙ ap (λ b. cond b (Some q) (found x)) yes_) ∙ h in
-                        let q_is : q ≡ t = cc in
-                        let p_is : p ≡ x = same x yes_ in
-                        (subst (Belongs new.nodes) q_is m.belongs, subst (λ y. Same (meaning new.nodes t) (joint operator old.nodes y)) p_is (subst (λ k. Same (meaning new.nodes k) (joint operator old.nodes p)) q_is value)))
-                    | inr no_ ↦ IsDone-keep operator old.nodes now.nodes new.nodes keeps found u.done x t (sym (updates x ∙ ap (λ b. cond b (Some q) (found x)) no_) ∙ h)
-                  ];
-            },
-            omega (arith, ap (sum_by weight_of) e, sum_by-push frames (High p v low b), work-positive (p.left + p.right - 1)),
-          )
+            waits = Waits-same operator old.nodes new.nodes f frames (joint operator old.nodes p) (meaning new.nodes q) (Waits-keep operator old.nodes now.nodes new.nodes keeps f frames (joint operator old.nodes p) popped.0) value;
+          },
+          omega (arith, ap (sum_by weight_of) e, sum_by-push frames (High p v low b), work-positive (p.left + p.right - 1)),
+        )
 
 -- the loop's beginning and its end
-pub begun : (operator : Operator) (old : Diagrams) (p : Pair) → IsReduced old.nodes → BothBelong old.nodes p → (frames : List Frame) → frames ≡ [] → (found : Pair → Option ℕ) → ((x : Pair) → found x ≡ None) → IsUnderway operator (joint operator old.nodes p) old old frames (Work p) found
+pub begun : (operator : Operator) (old : Diagrams) (p : Pair) → IsReduced old.nodes → BothBelong old.nodes p → (frames : List Frame) → frames ≡ [] → IsUnderway operator (joint operator old.nodes p) old old frames (Work p)
 unfolding Waits
-begun operator old p o b frames none found empty =
+begun operator old p o b frames none =
     record {
       adds = Adds-none (joint operator old.nodes p) old;
       reduced = o;
       belongs = b;
       waits = subst (λ fs. Waits operator old.nodes old.nodes (joint operator old.nodes p) fs (joint operator old.nodes p)) (sym none) (λ s. refl);
-      done = λ x r h. (let it : ◌≡◌ {A = Option ℕ} None (Some r) = sym (empty x) ∙ h in absurd (cc));
     }
 
-pub ended : (operator : Operator) (f : Members → Bool) (old now : Diagrams) (frames : List Frame) (r : ℕ) (found : Pair → Option ℕ) → frames ≡ [] → IsUnderway operator f old now frames (Done r) found → Means now r f
+pub ended : (operator : Operator) (f : Members → Bool) (old now : Diagrams) (frames : List Frame) (r : ℕ) → frames ≡ [] → IsUnderway operator f old now frames (Done r) → Means now r f
 unfolding Waits
-ended operator f old now frames r found none u =
+ended operator f old now frames r none u =
     record { belongs = u.belongs; means = subst (λ fs. Waits operator old.nodes now.nodes f fs (meaning now.nodes r)) none u.waits }
 
 pub pair_same : (p q : Pair) → pair_eq p q ≡ true → p ≡ q

@@ -24,33 +24,9 @@ absorbed_left : (operator : Operator) (nodes : List Node) (s : Members) (y : Boo
 absorbed_left And nodes s y = meaning-false nodes s ∙ ap (λ x. x && y) (sym (meaning-false nodes s))
 absorbed_left Or nodes s y = meaning-true nodes s ∙ ap (λ x. x || y) (sym (meaning-true nodes s))
 
-and_false : (x : Bool) → false ≡ (x && false)
-and_false true = refl
-and_false false = refl
-
-or_true : (x : Bool) → true ≡ (x || true)
-or_true true = refl
-or_true false = refl
-
-and_true : (x : Bool) → x ≡ (x && true)
-and_true true = refl
-and_true false = refl
-
-or_false : (x : Bool) → x ≡ (x || false)
-or_false true = refl
-or_false false = refl
-
-absorbed_right : (operator : Operator) (nodes : List Node) (s : Members) (x : Bool) → meaning nodes (absorbing operator) s ≡ combined operator x (meaning nodes (absorbing operator) s)
-absorbed_right And nodes s x = meaning-false nodes s ∙ and_false x ∙ ap (λ y. x && y) (sym (meaning-false nodes s))
-absorbed_right Or nodes s x = meaning-true nodes s ∙ or_true x ∙ ap (λ y. x || y) (sym (meaning-true nodes s))
-
 neutral_left : (operator : Operator) (nodes : List Node) (s : Members) (y : Bool) → y ≡ combined operator (meaning nodes (neutral operator) s) y
 neutral_left And nodes s y = ap (λ x. x && y) (sym (meaning-true nodes s))
 neutral_left Or nodes s y = ap (λ x. x || y) (sym (meaning-false nodes s))
-
-neutral_right : (operator : Operator) (nodes : List Node) (s : Members) (x : Bool) → x ≡ combined operator x (meaning nodes (neutral operator) s)
-neutral_right And nodes s x = and_true x ∙ ap (λ y. x && y) (sym (meaning-true nodes s))
-neutral_right Or nodes s x = or_false x ∙ ap (λ y. x || y) (sym (meaning-false nodes s))
 
 -- the left reference decides
 pub IsDecided-same : (operator : Operator) (p : Pair) → p.left ≡ p.right → IsDecided operator p p.left
@@ -60,23 +36,15 @@ pub IsDecided-absorbing_left : (operator : Operator) (p : Pair) → p.left ≡ a
 IsDecided-absorbing_left operator p e =
     record { one_of_both = inl refl; value = λ nodes s. subst (λ r. meaning nodes r s ≡ combined operator (meaning nodes r s) (meaning nodes p.right s)) (sym e) (absorbed_left operator nodes s (meaning nodes p.right s)) }
 
-pub IsDecided-neutral_right : (operator : Operator) (p : Pair) → p.right ≡ neutral operator → IsDecided operator p p.left
-IsDecided-neutral_right operator p e =
-    record { one_of_both = inl refl; value = λ nodes s. subst (λ r. meaning nodes p.left s ≡ combined operator (meaning nodes p.left s) (meaning nodes r s)) (sym e) (neutral_right operator nodes s (meaning nodes p.left s)) }
-
 -- the right reference decides
-pub IsDecided-absorbing_right : (operator : Operator) (p : Pair) → p.right ≡ absorbing operator → IsDecided operator p p.right
-IsDecided-absorbing_right operator p e =
-    record { one_of_both = inr refl; value = λ nodes s. subst (λ r. meaning nodes r s ≡ combined operator (meaning nodes p.left s) (meaning nodes r s)) (sym e) (absorbed_right operator nodes s (meaning nodes p.left s)) }
-
 pub IsDecided-neutral_left : (operator : Operator) (p : Pair) → p.left ≡ neutral operator → IsDecided operator p p.right
 IsDecided-neutral_left operator p e =
     record { one_of_both = inr refl; value = λ nodes s. subst (λ r. meaning nodes p.right s ≡ combined operator (meaning nodes r s) (meaning nodes p.right s)) (sym e) (neutral_left operator nodes s (meaning nodes p.right s)) }
 
--- where the reference is neither constant it has a node
-pub two_from_others : (operator : Operator) (r : ℕ) → (r ≡ absorbing operator → ⊥) → (r ≡ neutral operator → ⊥) → 2 ≤ r
-two_from_others And r a n = omega arith
-two_from_others Or r a n = omega arith
+-- a constant that does not decide the result leaves it to the other
+pub neutral-from_other : (operator : Operator) (r : ℕ) → r < 2 → (r ≡ absorbing operator → ⊥) → r ≡ neutral operator
+neutral-from_other And r h a = omega arith
+neutral-from_other Or r h a = omega arith
 
 -- the code's choice of the end of a reference, on one side of a variable that is not below its own
 pub IsEndAt-ends : (nodes : List Node) → IsReduced nodes → (r : ℕ) (n : Node) → IsNodeAt nodes r n → (v : ℕ) → v ≤ n.variable → (side : Bool) (e : ℕ) → e ≡ (if n.variable == v then end_of n side else r) → IsEndAt nodes r v side e

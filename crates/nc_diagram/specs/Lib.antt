@@ -6,3 +6,4 @@ pub mod Operations
 pub mod Counter
 pub mod Recent
 pub mod Search
+pub mod Table

@@ -1,5 +1,5 @@
 -- Combining two references by an operator, node by node.
-use Rattle.std.specs.Prelude.{◌≡◌, ℕ, ◌+◌, ◌^◌, ◌<◌, ◌≤◌, ◌⊎◌, Bool, true, false, ◌&&◌, ◌||◌, ◌==◌, List, ◌++◌, ◌∷◌, [], Option, Some}
+use Rattle.std.specs.Prelude.{◌≡◌, ℕ, ◌+◌, ◌^◌, ◌<◌, ◌≤◌, ◌⊎◌, Bool, true, false, ◌&&◌, ◌||◌, ◌==◌, List, ◌++◌, ◌∷◌, [], min, max}
 use Rattle.nc_diagram.specs.declared.node.Node.{Node}
 use Rattle.nc_diagram.specs.declared.apply.Operator.{Operator}
 use Rattle.nc_diagram.specs.declared.apply.Operator.TheVariants.{And, Or}
@@ -39,6 +39,10 @@ BothBelong nodes p = Belongs nodes p.left × Belongs nodes p.right
 abbrev pub BothNodes : Pair → Type 0
 BothNodes p = (2 ≤ p.left) × (2 ≤ p.right)
 
+-- the pair with the older reference first
+unfoldable pub ordered : Pair → Pair
+ordered p = record { left = min p.left p.right; right = max p.left p.right }
+
 -- the comparison of pairs
 abbrev pub pair_eq : Pair → Pair → Bool
 pair_eq p q = (p.left == q.left) && (p.right == q.right)
@@ -74,9 +78,9 @@ pub record IsAnswer (nodes : List Node) (operator : Operator) (p : Pair) (r : �
   pub belongs : Belongs nodes r
   pub value : Same (meaning nodes r) (joint operator nodes p)
 
--- how a pair is begun: its reference is known, from this operation or a recent one, or its low side is worked out first while a
--- frame waits
-abbrev pub Opens : Operator → List Node → (Pair → Option ℕ) → Pair → List Frame → List Frame → Focus → Type 0
-Opens operator nodes found p old new (Work low) =
+-- how a pair is begun: its reference is known, from this operation or an earlier one, or its low side is worked out first while
+-- a frame waits
+abbrev pub Opens : Operator → List Node → Pair → List Frame → List Frame → Focus → Type 0
+Opens operator nodes p old new (Work low) =
     BothNodes p × ((variable : ℕ) × (high : Pair) × (begun : ℕ) × (new ≡ old ++ Low p variable high begun ∷ []) × AreCofactors nodes p (record { variable = variable; low = low; high = high }))
-Opens operator nodes found p old new (Done r) = (new ≡ old) × (IsDecided operator p r ⊎ ((found p ≡ Some r) ⊎ IsAnswer nodes operator p r))
+Opens operator nodes p old new (Done r) = (new ≡ old) × (IsDecided operator p r ⊎ IsAnswer nodes operator p r)

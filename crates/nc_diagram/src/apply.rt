@@ -1,15 +1,15 @@
 // Conjunction and disjunction: one loop with an explicit stack serves both.
 
-ghost use Rattle.std.specs.Prelude.{◌≡◌, ◌==◌, if◌then◌else◌, IfOk, OnOk, OnErr, IsErrOf, MatchOption};
-ghost use Rattle.indexmap.specs.IndexMap.{get};
+ghost use Rattle.std.specs.Prelude.{◌≡◌, ◌≤◌, ◌==◌, if◌then◌else◌, IfOk, OnOk, OnErr, IsErrOf, MatchOption};
 ghost use Rattle.nc_diagram.specs.Sets.{both, either};
 ghost use Rattle.nc_diagram.specs.Diagrams.{Belongs, Means, Adds, IsCrowded, IsReduced, meaning};
-ghost use Rattle.nc_diagram.specs.Operations.{joint, BothBelong, BothNodes, pair_eq, IsDecided, AreCofactors, Opens, absorbing, neutral};
+ghost use Rattle.nc_diagram.specs.Operations.{joint, BothBelong, BothNodes, ordered, IsDecided, AreCofactors, Opens, absorbing};
+ghost use Rattle.nc_diagram.specs.Table.{AreRight};
 
 use crate::fault::StoreFault;
 use crate::node::{Node, Ref};
 use crate::store::Store;
-use indexmap::IndexMap;
+use crate::table::{Table, home};
 use std::alloc::{AllocError, Global};
 
 /// What is made of two functions.
@@ -59,6 +59,19 @@ pub(crate) enum Focus {
     Done(u32),
 }
 
+impl Pair {
+    // The pair with the older reference first. Both operators have the same function for both.
+    fn ordered(self) -> Pair
+        ensures pair { result ≡ ordered self }
+        ensures order { result.left ≤ result.right }
+    {
+        Pair {
+            left: self.left.min(self.right),
+            right: self.left.max(self.right),
+        }
+    }
+}
+
 impl Operator {
     // The constant that decides the result alone.
     fn absorbing(self) -> u32
@@ -70,29 +83,21 @@ impl Operator {
         }
     }
 
-    // The constant that leaves the result to the other.
-    fn neutral(self) -> u32
-        ensures { result ≡ neutral self }
-    {
-        match self {
-            Operator::And => 1,
-            Operator::Or => 0,
-        }
-    }
-
-    // The result, where one of the two references decides it.
+    // The result, where one of the two references decides it. The older one is on the left.
     fn decided(self, pair: Pair) -> Option<u32>
+        requires { pair.left ≤ pair.right }
         ensures { MatchOption result (BothNodes pair) (IsDecided self pair) }
     {
-        let absorbing = self.absorbing();
-        let neutral = self.neutral();
-        if pair.left == pair.right || pair.left == absorbing || pair.right == neutral {
+        if pair.left == pair.right {
             return Some(pair.left);
         }
-        if pair.right == absorbing || pair.left == neutral {
-            return Some(pair.right);
+        if pair.left >= 2 {
+            return None;
         }
-        None
+        if pair.left == self.absorbing() {
+            return Some(pair.left);
+        }
+        Some(pair.right)
     }
 }
 
@@ -134,27 +139,30 @@ impl Store {
         }
     }
 
-    // Begins a pair: its reference where it is known, from this operation or a recent one, else its
+    // Begins a pair: its reference where it is known, from this operation or an earlier one, else its
     // low side, with a frame that waits for it.
     fn open(
         &mut self,
         operator: Operator,
         pair: Pair,
         frames: &mut Vec<Frame>,
-        done: &IndexMap<Pair, u32>,
+        known: &Table,
     ) -> Result<Focus, AllocError>
-        requires { BothBelong self.old.nodes pair }
-        ensures opens { IfOk result (Opens operator self.old.nodes (get pair_eq done.now) pair
+        requires belong { BothBelong self.old.nodes pair }
+        requires right { AreRight self.old.nodes operator known.now.slots.items }
+        ensures opens { IfOk result (Opens operator self.old.nodes (ordered pair)
             frames.old.items frames.new.items) }
         ensures unchanged { self.new ≡ self.old }
     {
+        let pair = pair.ordered();
         if let Some(place) = operator.decided(pair) {
             return Ok(Focus::Done(place));
         }
-        if let Some(place) = done.get(&pair) {
-            return Ok(Focus::Done(*place));
+        let home = home(pair);
+        if let Some(place) = known.find(pair, home) {
+            return Ok(Focus::Done(place));
         }
-        if let Some(place) = self.recall(operator, pair, done.len()) {
+        if let Some(place) = self.recall(operator, pair, home) {
             return Ok(Focus::Done(place));
         }
         let sides = self.cofactors(pair);
@@ -162,7 +170,7 @@ impl Store {
             pair,
             variable: sides.variable,
             high: sides.high,
-            begun: done.len(),
+            begun: known.done as usize,
         })?;
         Ok(Focus::Work(sides.low))
     }
@@ -232,8 +240,14 @@ impl Store {
     {
         let alloc = self.alloc;
         let mark = self.len();
-        match self.apply(alloc, operator, pair) {
-            Ok(place) => Ok(place),
+        let mut known = self.lend(operator);
+        known.begin(alloc);
+        match self.apply(alloc, operator, pair, &mut known) {
+            Ok(place) => {
+                known.end();
+                self.take_back(operator, known);
+                Ok(place)
+            }
             Err(fault) => {
                 self.roll_back(mark);
                 Err(fault)
@@ -241,22 +255,29 @@ impl Store {
         }
     }
 
-    // Combines a pair, node by node. At a refusal the nodes made so far stay.
-    fn apply(&mut self, alloc: Global, operator: Operator, pair: Pair) -> Result<u32, StoreFault>
+    // Combines a pair, node by node, and notes the answers. At a refusal the nodes made so far stay.
+    fn apply(
+        &mut self,
+        alloc: Global,
+        operator: Operator,
+        pair: Pair,
+        known: &mut Table,
+    ) -> Result<u32, StoreFault>
         requires reduced { IsReduced self.old.nodes }
         requires belong { BothBelong self.old.nodes pair }
+        requires right { AreRight self.old.nodes operator known.old.slots.items }
         ensures means { IfOk result (λ r. Means self.new r
             (joint operator self.old.nodes pair)) }
         ensures adds { Adds (joint operator self.old.nodes pair) self.old self.new }
         ensures full { IsErrOf result StoreFault.Full
             → IsCrowded (joint operator self.old.nodes pair) self.old }
+        ensures right { OnOk result (AreRight self.new.nodes operator known.new.slots.items) }
     {
         let mut frames: Vec<Frame> = Vec::new(alloc);
-        let mut done: IndexMap<Pair, u32> = IndexMap::new(alloc);
         let mut focus = Focus::Work(pair);
         'combine: loop {
             focus = match focus {
-                Focus::Work(pair) => self.open(operator, pair, &mut frames, &done)?,
+                Focus::Work(pair) => self.open(operator, pair, &mut frames, known)?,
                 Focus::Done(place) => match frames.pop() {
                     None => return Ok(place),
                     Some(
@@ -287,8 +308,8 @@ impl Store {
                             Ok(made) => made,
                             Err(fault) => return Err(fault),
                         };
-                        done.insert(pair, made)?;
-                        self.remember(operator, pair, made, begun, done.len());
+                        known.note(pair, made)?;
+                        self.remember(operator, pair, made, begun, known.done as usize);
                         Focus::Done(made)
                     }
                 },

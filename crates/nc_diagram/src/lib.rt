@@ -2,6 +2,13 @@
 //! stands on `indexmap` for its distinct nodes and on `lru` for the answers of recent operations, and
 //! on nothing that knows of networks.
 //!
+//! Each of the two operators has a table of the pairs of references that it combined. A pair of the
+//! call under way is found there for sure; one of an earlier call until its slot is wanted. The answers
+//! for which 64 pairs or more had to be done are kept apart, the 16,384 used last. So a store keeps,
+//! besides its nodes, 65,536 slots for each operator, those answers and 65,536 marks that tell where one
+//! may be looked for, and in a call slots for its pairs, which are given back when it ends. A refusal
+//! empties them all.
+//!
 //! The contracts promise which function each reference means and that it keeps it, that two
 //! references are equal exactly where their functions are, that `eval`, `needs`, `counter` and `split`
 //! answer of that function, that `Full` comes only where more functions than the limit are asked for,
@@ -16,6 +23,7 @@ mod node;
 mod parts;
 mod recent;
 mod store;
+mod table;
 
 pub use fault::StoreFault;
 pub use laws::{law_of_all_but, law_of_fixing};

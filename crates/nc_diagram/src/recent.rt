@@ -1,19 +1,23 @@
-// The answers of recent operations, so that one that comes again needs no work.
+// The answers of recent operations that took much work, so that one that comes again needs none.
 
 ghost use Rattle.std.specs.Prelude.{◌≡◌, ◌⊎◌, ℕ, [], Contains, IfSome};
 ghost use Rattle.nc_diagram.specs.declared.recent.Question.{Question};
 
 use crate::apply::{Operator, Pair};
+use crate::table::home;
 use lru::LruCache;
 use std::alloc::Global;
 use std::marker::Model;
 use std::num::NonZeroUsize;
 
 /// How many answers are kept at most.
-pub(crate) const MOST: usize = 65_536;
+const MOST: usize = 16_384;
 
 /// For how many pairs, at least, an answer is kept: what took fewer is worked out again as soon.
-pub(crate) const LEAST: usize = 8;
+pub(crate) const LEAST: usize = 64;
+
+/// How many marks there are for the pairs whose answers were kept.
+const MARKS: usize = 65_536;
 
 /// An operation on two references.
 #[derive(Clone, Copy, PartialEq, Eq, Hash)]
@@ -64,6 +68,35 @@ fn used(cache: &mut LruCache<Question, u32>, question: Question) -> Option<u32>
         cache.promote(&question);
     }
     found
+}
+
+/// Marks of the pairs whose answers were kept, so that others aren't looked for. Several pairs have one
+/// mark. There are none before the first answer, nor where no memory is found for them.
+#[derive(Drop)]
+pub(crate) struct Marks {
+    marked: Vec<bool>,
+}
+
+impl Marks {
+    // No marks. It takes no memory.
+    pub(crate) fn new(alloc: Global) -> Marks {
+        Marks {
+            marked: Vec::new(alloc),
+        }
+    }
+
+    // Whether the answer of a pair with this home may have been kept.
+    pub(crate) fn has(&self, home: usize) -> bool {
+        let at = home % MARKS;
+        at < self.marked.len() && self.marked[at]
+    }
+
+    // Marks a pair.
+    pub(crate) fn mark(&mut self, pair: Pair) {
+        if self.marked.resize(MARKS, false).is_ok() {
+            self.marked[home(pair) % MARKS] = true;
+        }
+    }
 }
 
 impl Recent {

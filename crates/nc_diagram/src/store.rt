@@ -5,14 +5,17 @@ ghost use Rattle.nc_diagram.specs.Sets.{among, all_but, has, Same};
 ghost use Rattle.nc_diagram.specs.Diagrams.{IsReduced, IsNode, Belongs, Means, Adds, IsCrowded, meaning, level};
 ghost use Rattle.nc_diagram.specs.Places.{IsNodeAt, Makes};
 ghost use Rattle.nc_diagram.specs.Operations.{IsAnswer};
+ghost use Rattle.nc_diagram.specs.Table.{AreRight};
 
 use crate::apply::{Operator, Pair};
 use crate::fault::StoreFault;
 use crate::node::{Node, Ref};
-use crate::recent::{LEAST, MOST, Question, Recent};
+use crate::recent::{LEAST, Marks, Question, Recent};
+use crate::table::Table;
 use indexmap::IndexSet;
 use std::alloc::Global;
 use std::marker::Model;
+use std::mem;
 
 /// Shared decision diagrams with two constants and at most `limit` nodes.
 #[derive(Drop)]
@@ -21,19 +24,22 @@ pub struct Store {
     pub(crate) nodes: IndexSet<Node>,
     pub(crate) limit: u32,
     recent: Recent,
+    marks: Marks,
+    conjunctions: Table,
+    disjunctions: Table,
 }
 
 impl Model for Store {
     ghost use Rattle.std.specs.Prelude.{reverse};
     ghost use Rattle.nc_diagram.specs.Diagrams.{Diagrams, IsStore};
-    ghost use Rattle.nc_diagram.specs.Recent.{AreAnswers};
+    ghost use Rattle.nc_diagram.specs.Recent.{AreKept};
 
     ghost Value = { Diagrams };
 
     ghost view = { λ s. record { nodes = reverse s.nodes.keys; limit = s.limit } };
 
     ghost invariant = { λ s. IsStore (record { nodes = reverse s.nodes.keys; limit = s.limit })
-        × AreAnswers (reverse s.nodes.keys) s.recent };
+        × AreKept (reverse s.nodes.keys) s.recent s.conjunctions.slots.items s.disjunctions.slots.items };
 }
 
 impl Store {
@@ -46,11 +52,16 @@ impl Store {
     {
         let nodes = IndexSet::new(alloc);
         let recent = Recent::new(alloc);
+        let conjunctions = Table::new(alloc);
+        let disjunctions = Table::new(alloc);
         Store {
             alloc,
             nodes,
             limit,
             recent,
+            marks: Marks::new(alloc),
+            conjunctions,
+            disjunctions,
         }
     }
 
@@ -129,30 +140,55 @@ impl Store {
         }
     }
 
-    // Takes all nodes back but the first ones, as many as the mark. Answers of recent operations may
+    // Takes all nodes back but the first ones, as many as the mark. Answers of earlier operations may
     // refer to what goes, so none is kept.
     pub(crate) fn roll_back(&mut self, mark: u32)
         ensures nodes { self.new.nodes ≡ drop (length self.old.nodes - mark) self.old.nodes }
         ensures limit { self.new.limit ≡ self.old.limit }
     {
         self.recent.clear();
+        self.conjunctions = Table::new(self.alloc);
+        self.disjunctions = Table::new(self.alloc);
+        self.marks = Marks::new(self.alloc);
         self.nodes.truncate(mark as usize);
     }
 
-    // The result of an operation on a pair that was done not long ago. It isn't looked for where this
-    // operation has done as many pairs as are kept.
-    pub(crate) fn recall(&mut self, operator: Operator, pair: Pair, done: usize) -> Option<u32>
+    // Takes the answers of an operator out, for a call of it.
+    pub(crate) fn lend(&mut self, operator: Operator) -> Table
+        ensures right { AreRight self.old.nodes operator result.slots.items }
+        ensures unchanged { self.new ≡ self.old }
+    {
+        let none = Table::new(self.alloc);
+        match operator {
+            Operator::And => mem::replace(&mut self.conjunctions, none),
+            Operator::Or => mem::replace(&mut self.disjunctions, none),
+        }
+    }
+
+    // Keeps the answers of an operator for its next call.
+    pub(crate) fn take_back(&mut self, operator: Operator, known: Table)
+        requires { AreRight self.old.nodes operator known.slots.items }
+        ensures { self.new ≡ self.old }
+    {
+        match operator {
+            Operator::And => self.conjunctions = known,
+            Operator::Or => self.disjunctions = known,
+        }
+    }
+
+    // The result of an operation on a pair with this home for which much was done not long ago.
+    pub(crate) fn recall(&mut self, operator: Operator, pair: Pair, home: usize) -> Option<u32>
         ensures answer { IfSome result (IsAnswer self.old.nodes operator pair) }
         ensures unchanged { self.new ≡ self.old }
     {
-        if done >= MOST {
+        if !self.marks.has(home) {
             return None;
         }
         self.recent.find(Question { operator, pair })
     }
 
-    // Keeps the result of an operation on a pair, for when it comes again: where some pairs had to be
-    // done for it, since it was begun, and this operation has done fewer than are kept.
+    // Keeps the result of an operation on a pair, for when it comes again: where many pairs had to be
+    // done for it since it was begun.
     pub(crate) fn remember(
         &mut self,
         operator: Operator,
@@ -164,7 +200,8 @@ impl Store {
         requires { IsAnswer self.old.nodes operator pair place }
         ensures { self.new ≡ self.old }
     {
-        if done < MOST && done.saturating_sub(begun) >= LEAST {
+        if done.saturating_sub(begun) >= LEAST {
+            self.marks.mark(pair);
             self.recent.note(Question { operator, pair }, place);
         }
     }

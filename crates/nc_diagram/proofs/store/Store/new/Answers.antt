@@ -1,7 +1,6 @@
-use Rattle.std.proofs.Common.{arith, reverse, sym, subst}
+use Rattle.std.proofs.Common.{arith, reverse}
 use Rattle.nc_diagram.specs.Diagrams.{IsReduced}
-use Rattle.nc_diagram.specs.Recent.{AreAnswers}
-use Rattle.nc_diagram.proofs.RecentLemmas.{answers-none}
+use Rattle.nc_diagram.proofs.RecentLemmas.{AreKept-none}
 use Rattle.nc_diagram.proofs.store.Store.new.Goals as goal
 
 pub invariant_of-result : goal.invariant_of-result
@@ -9,5 +8,5 @@ unfolding IsReduced
 invariant_of-result c =
     let nodes = reverse c.new-nodes.result.keys in (
       rw c.new-nodes.ensures.empty (record { reduced = tt; within = omega arith; narrow = c.requires }),
-      subst (AreAnswers nodes) (sym c.new-recent.ensures) (answers-none nodes),
+      AreKept-none nodes c.new-recent.result c.new-conjunctions.result.slots.items c.new-disjunctions.result.slots.items c.new-recent.ensures c.new-conjunctions.ensures c.new-disjunctions.ensures,
     )

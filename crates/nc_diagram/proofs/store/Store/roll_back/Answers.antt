@@ -1,8 +1,7 @@
 use Rattle.std.proofs.Common.{◌≡◌, ◌-◌, length, reverse, drop, sym, ap, subst, ◌∙◌}
 use Rattle.std.proofs.lemmas.List.{length-reverse}
 use Rattle.nc_diagram.specs.Diagrams.{Diagrams, IsStore}
-use Rattle.nc_diagram.specs.Recent.{AreAnswers}
-use Rattle.nc_diagram.proofs.RecentLemmas.{answers-none}
+use Rattle.nc_diagram.proofs.RecentLemmas.{AreKept-none}
 use Rattle.nc_diagram.proofs.StoreLemmas.{reverse-take, IsStore-drop}
 use Rattle.nc_diagram.proofs.store.Store.roll_back.Goals as goal
 use Rattle.nc_diagram.proofs.store.Store.roll_back.Goals.{After-truncate}
@@ -19,7 +18,7 @@ invariant_of-self c =
     let after = reverse c.truncate.new.self.keys in (
       subst (λ ns. IsStore (record { nodes = ns; limit = c.self.inside.limit })) (sym (left c))
           (IsStore-drop (length nodes - c.args.mark) nodes c.self.inside.limit c.self.invariant.0),
-      subst (AreAnswers after) (sym c.clear.ensures) (answers-none after),
+      AreKept-none after c.clear.new.self c.new.result.slots.items c.new-2.result.slots.items c.clear.ensures c.new.ensures c.new-2.ensures,
     )
 
 pub returns-clause-nodes : goal.returns-clause-nodes

@@ -3,7 +3,7 @@ use Rattle.std.proofs.lemmas.List.{length-reverse}
 use Rattle.nc_diagram.specs.Diagrams.{Belongs, IsNode, level}
 use Rattle.nc_diagram.specs.Places.{Makes}
 use Rattle.nc_diagram.proofs.GrowthLemmas.{Keeps-makes}
-use Rattle.nc_diagram.proofs.RecentLemmas.{answers-more}
+use Rattle.nc_diagram.proofs.RecentLemmas.{AreKept-more}
 use Rattle.nc_diagram.proofs.StoreLemmas.{IsStore-inserted, Makes-inserted, Makes-there, IsNode-unfound, node_at-position, node_eq, node_laws, node_same}
 use Rattle.nc_diagram.proofs.store.Store.share.Goals as goal
 
@@ -21,7 +21,7 @@ invariant_of-self-then-len-self c =
     c.in_ok-place.ensures.keys c.in_ok-place.place stored.0 stored.1 stored.2 in (
       IsStore-inserted node_eq node_laws node_same keys next c.self.inside.limit n c.self.invariant.0 low high low_later high_later c.requires.ends_differ
           (omega (arith, c.len.ensures.len)) c.in_ok-place.ensures.keys,
-      answers-more (reverse keys) (reverse next) c.self.inside.recent
+      AreKept-more (reverse keys) (reverse next) c.self.inside.recent c.self.inside.conjunctions.slots.items c.self.inside.disjunctions.slots.items
           (Keeps-makes n.variable n.low n.high (record { nodes = reverse keys; limit = c.self.inside.limit }) (record { nodes = reverse next; limit = c.self.inside.limit }) (c.in_ok-place.place + 2) made)
           c.self.invariant.1,
     )

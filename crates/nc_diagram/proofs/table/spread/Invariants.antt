@@ -1,0 +1,9 @@
+use Rattle.std.proofs.Common.{List}
+use Rattle.nc_diagram.specs.declared.node.Node.{Node}
+use Rattle.nc_diagram.specs.declared.apply.Operator.{Operator}
+use Rattle.nc_diagram.specs.Table.{AreRight}
+use Rattle.nc_diagram.proofs.table.spread.Given as goal
+
+abbrev pub invariant-slots : goal.invariant-slots
+invariant-slots l =
+    (nodes : List Node) (operator : Operator) → AreRight nodes operator l.fn.slots.items → AreRight nodes operator l.slots.items
