@@ -1,5 +1,5 @@
 -- What a graph has of its nodes a graph that extends it has too.
-use Rattle.std.proofs.Common.{◌≡◌, ℕ, Bool, true, List, [], length, map, get_or, nat_lt, sym, ap, ◌∙◌, arith}
+use Rattle.std.proofs.Common.{◌≡◌, ℕ, Bool, true, [], length, map, get_or, nat_lt, sym, ap, ◌∙◌, arith}
 use Rattle.std.proofs.lemmas.Bool.{lt-ltb, ltb-true}
 use Rattle.std.proofs.lemmas.List.{get_or-take}
 use Rattle.std.specs.List.{list_any, list_all}

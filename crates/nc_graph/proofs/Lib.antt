@@ -1,5 +1,6 @@
 pub mod ClosureLaws
 pub mod DerivationLaws
+pub mod GatherLemmas
 pub mod ListLemmas
 pub mod Members
 pub mod NodeLaws

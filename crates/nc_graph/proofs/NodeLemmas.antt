@@ -68,8 +68,8 @@ module _ {F : Type 0} where
       let here = subst (λ xs. All (λ p. (nat_lt p (length n.facts) ≡ true) × (p < i)) xs) numbers all k 0 (subst (λ m. k < m) (sym (length-map ps (λ p. p.0))) l) in
       subst (λ v. v < i) (get_or-map (λ p. p.0) ps k d 0 l) here.1
 
-  module _ (n : Nodes F) (is : IsGraph n) (f : F) (kind : NodeKind) (ps : List F) (ids : List NodeId)
-      (shape : HasShape kind ps) (are : AreNodesOf n ids ps) where
+  module _ (n : Nodes F) (is : IsGraph n) (f : F) (kind : NodeKind) (ids : List NodeId)
+      (shape : HasShape kind ids) (within : All (λ p. p.0 < length n.facts) ids) where
     -- the flow of the longer graph at an old node
     old-kind : (i : ℕ) → i < length n.facts → (node_flow (with_node n f kind ids)).kind i ≡ (node_flow n).kind i
     old-kind i h = get_or_append_left n.kinds (kind ∷ []) Every i (omega (arith, is.kinds))
@@ -103,7 +103,7 @@ module _ {F : Type 0} where
           | inr e ↦ subst (λ xs. All (λ p. (nat_lt p (length (n.facts ++ f ∷ [])) ≡ true) × (p < i)) (map (λ p. p.0) xs)) (sym (ap (λ j. get_or (n.parents ++ ids ∷ []) j []) e ∙ new-parents))
               (numbers-all (λ p. (nat_lt p (length (n.facts ++ f ∷ [])) ≡ true) × (p < i)) ids
               (All-weaker (λ p. p.0 < length n.facts) (λ p. (nat_lt p.0 (length (n.facts ++ f ∷ [])) ≡ true) × (p.0 < i))
-              (λ p w. (lt-ltb p.0 (length (n.facts ++ f ∷ [])) (omega arith), omega arith)) ids (nodes_of-within n.facts ids ps are)))
+              (λ p w. (lt-ltb p.0 (length (n.facts ++ f ∷ [])) (omega arith), omega arith)) ids within))
         ]
 
     with_node-flow : IsFlow (node_flow (with_node n f kind ids))
@@ -113,19 +113,15 @@ module _ {F : Type 0} where
       chosen = λ i h k. elim (node_cases i h) [
         | inl a ↦ subst (λ xs. 0 < length (map (λ p. p.0) xs)) (sym (old-parents i a)) (is.flow.chosen i (lt-ltb i (length n.facts) a) (sym (old-kind i a) ∙ k))
         | inr e ↦ subst (λ xs. 0 < length (map (λ p. p.0) xs)) (sym (ap (λ j. get_or (n.parents ++ ids ∷ []) j []) e ∙ new-parents))
-            (let some : 0 < length ps = subst (λ v. HasShape v ps) (sym new-kind ∙ sym (ap (λ j. get_or (n.kinds ++ kind ∷ []) j Every) e) ∙ k) shape in
-            omega (arith, length-map ids (λ p. p.0), nodes_of-length n.facts ids ps are))
+            (let some : 0 < length ids = subst (λ v. HasShape v ids) (sym new-kind ∙ sym (ap (λ j. get_or (n.kinds ++ kind ∷ []) j Every) e) ∙ k) shape in
+            omega (arith, length-map ids (λ p. p.0)))
       ];
       bare = λ i m h k. elim (node_cases i h) [
         | inl a ↦ ap (map (λ p. p.0)) (old-parents i a) ∙ is.flow.bare i m (lt-ltb i (length n.facts) a) (sym (old-kind i a) ∙ k)
         | inr e ↦ ap (map (λ p. p.0)) (ap (λ j. get_or (n.parents ++ ids ∷ []) j []) e ∙ new-parents)
-            ∙ none ids (nodes_of-length n.facts ids ps are ∙ ap length (let no : ps ≡ [] = subst (λ v. HasShape v ps) (sym new-kind ∙ sym (ap (λ j. get_or (n.kinds ++ kind ∷ []) j Every) e) ∙ k) shape in no))
+            ∙ ap (map (λ p. p.0)) (let none : ids ≡ [] = subst (λ v. HasShape v ids) (sym new-kind ∙ sym (ap (λ j. get_or (n.kinds ++ kind ∷ []) j Every) e) ∙ k) shape in none)
       ];
     }
-      where
-        none : (ids : List NodeId) → length ids ≡ 0 → map (λ p. p.0) ids ≡ []
-        none [] e = refl
-        none (p ∷ ps) e = absurd (omega arith)
 
     -- a graph that has room for one more node stays a graph with it
     pub IsGraph-with_node : length n.facts < n.limit → IsGraph (with_node n f kind ids)
@@ -138,8 +134,8 @@ module _ {F : Type 0} where
     }
 
     -- and each node stays of its fact, where the new one is
-    pub Mirrors-with_node : (g : Flow F) → g.holds f ≡ true → kind ≡ g.kind f → ps ≡ g.parents f → Mirrors g n → Mirrors g (with_node n f kind ids)
-    Mirrors-with_node g holds is-kind is-parents m = record { each = λ i h at. elim (slice_get-push_cases n.facts f i h at) [ inl a ↦ old i h a (m.each i h a) | inr b ↦ new i h b.0 b.1 ] }
+    pub Mirrors-with_node : (g : Flow F) → g.holds f ≡ true → kind ≡ g.kind f → AreNodesOf n ids (g.parents f) → Mirrors g n → Mirrors g (with_node n f kind ids)
+    Mirrors-with_node g holds is-kind are m = record { each = λ i h at. elim (slice_get-push_cases n.facts f i h at) [ inl a ↦ old i h a (m.each i h a) | inr b ↦ new i h b.0 b.1 ] }
       where
         old : (i : ℕ) (h : F) → slice_get n.facts i ≡ Some h → IsNodeOf g n i h → IsNodeOf g (with_node n f kind ids) i h
         old i h a w =
@@ -154,7 +150,7 @@ module _ {F : Type 0} where
         new i h e s = subst (λ x. IsNodeOf g (with_node n f kind ids) i x) s (subst (λ j. IsNodeOf g (with_node n f kind ids) j f) (sym e) (record {
           holds = holds;
           kind = new-kind ∙ is-kind;
-          parents = ap (map (λ p. slice_get (n.facts ++ f ∷ []) p.0)) new-parents ∙ nodes_of-more n.facts (f ∷ []) ids ps are ∙ ap (map Some) is-parents;
+          parents = ap (map (λ p. slice_get (n.facts ++ f ∷ []) p.0)) new-parents ∙ nodes_of-more n.facts (f ∷ []) ids (g.parents f) are;
         }))
 
   -- the first nodes of a graph are a graph

@@ -1,48 +1,85 @@
--- A stack of tasks, as the steps that it is.
-use Rattle.std.proofs.Common.{◌≡◌, List, [], ◌∷◌, ◌++◌, length, map, reverse, drop, sym, ap, ◌∙◌, refl, append_assoc}
-use Rattle.std.specs.Prelude.{insert}
-use Rattle.std.proofs.lemmas.List.{reverse-append, map-append, take_at, drop_at}
-use Rattle.nc_graph.specs.declared.walk.Inferred.{Inferred}
-use Rattle.nc_graph.specs.declared.walk.Task.{Task}
-use Rattle.nc_graph.specs.declared.walk.Task.TheVariants.{Visit, Number}
+-- Stacks of facts to be found and of facts that wait, as the jobs that they are, and these as the steps of a walk.
+use Rattle.std.proofs.Common.{◌≡◌, ℕ, ◌<◌, ◌≤◌, List, [], ◌∷◌, ◌++◌, length, map, reverse, take, drop, sym, ap, ◌∙◌, refl, arith}
+use Rattle.std.proofs.lemmas.List.{reverse-append, map-append, length_push, length-append, take-append-le, drop-append-le, take_at, drop_at}
+use Rattle.nc_graph.specs.declared.tasks.Inferred.{Inferred}
 use Rattle.nc_graph.specs.Flow.{Flow}
-use Rattle.nc_graph.specs.Walk.{visit, number, step_of, steps, expanded}
-
-reverse-cons : {X : Type 0} (x : X) (xs : List X) → reverse (x ∷ xs) ≡ reverse xs ++ x ∷ []
-reverse-cons x xs = reverse-append (x ∷ []) xs
+use Rattle.nc_graph.specs.Tasks.{Job, find, close, jobs, AreBegins, opened}
+use Rattle.nc_graph.specs.Walk.{Step, visit, number, expanded}
 
 pub reverse-map : {X Y : Type 0} (f : X → Y) (xs : List X) → reverse (map f xs) ≡ map f (reverse xs)
 reverse-map f [] = refl
 reverse-map f (x ∷ xs) =
-    reverse-cons (f x) (map f xs) ∙ ap (λ ys. ys ++ f x ∷ []) (reverse-map f xs) ∙ sym (map-append f (reverse xs) (x ∷ [])) ∙ ap (map f) (sym (reverse-cons x xs))
-
-insert_at_end : {X : Type 0} (xs ys : List X) (x : X) → insert (xs ++ ys) (length xs) x ≡ xs ++ x ∷ ys
-insert_at_end xs ys x = ap (λ zs. zs ++ x ∷ drop (length xs) (xs ++ ys)) (take_at xs ys (length xs) refl) ∙ ap (λ zs. xs ++ x ∷ zs) (drop_at xs ys (length xs) refl)
+    reverse-append (f x ∷ []) (map f xs) ∙ ap (λ ys. ys ++ f x ∷ []) (reverse-map f xs) ∙ sym (map-append f (reverse xs) (x ∷ [])) ∙ ap (map f) (sym (reverse-append (x ∷ []) xs))
 
 module _ {F : Type 0} where
-  -- the last task is the next step
-  pub steps-push : (ts : List (Task F)) (t : Task F) → steps (ts ++ t ∷ []) ≡ step_of t ∷ steps ts
-  steps-push ts t = ap reverse (map-append step_of ts (t ∷ [])) ∙ reverse-append (map step_of ts) (step_of t ∷ [])
+  -- the last fact is the next job
+  pub AreBegins-pop : (fs rest : List F) (f : F) (from : ℕ) (ts : List (Inferred F)) → fs ≡ rest ++ f ∷ [] → from < length fs → AreBegins (length fs) from ts → AreBegins (length rest) from ts
+  AreBegins-pop fs rest f from [] e l h = h
+  AreBegins-pop fs rest f from (t ∷ ts) e l h = (let a = ap length e in let b = length_push rest f in omega arith, h.1)
 
-  visits-are : (fs : List F) → map step_of (map Visit fs) ≡ map visit fs
-  visits-are [] = refl
-  visits-are (f ∷ fs) = ap (λ st. visit f ∷ st) (visits-are fs)
+  pub jobs-pop : (fs rest : List F) (f : F) (from : ℕ) (ts : List (Inferred F)) → fs ≡ rest ++ f ∷ [] → from < length fs → AreBegins (length fs) from ts → jobs fs from ts ≡ find f ∷ jobs rest from ts
+  jobs-pop fs rest f from [] e l h = ap (λ xs. map find (reverse xs)) e ∙ ap (map find) (reverse-append rest (f ∷ []))
+  jobs-pop fs rest f from (t ∷ ts) e l h =
+      let within : from ≤ length rest = (let a = ap length e in let b = length_push rest f in omega arith) in
+      let dropped : drop from fs ≡ drop from rest ++ f ∷ [] = ap (drop from) e ∙ drop-append-le from rest (f ∷ []) within in
+      let taken : take from fs ≡ take from rest = ap (take from) e ∙ take-append-le from rest (f ∷ []) within in
+      (λ i. map find (reverse (dropped i)) ++ close t.fact t.kind t.parents ∷ jobs (taken i) t.before ts)
+      ∙ ap (λ xs. map find xs ++ close t.fact t.kind t.parents ∷ jobs (take from rest) t.before ts) (reverse-append (drop from rest) (f ∷ []))
 
-  -- facts put on the stack are visited, the last first
-  pub steps-visits : (ts : List (Task F)) (fs : List F) → steps (ts ++ map Visit fs) ≡ map visit (reverse fs) ++ steps ts
-  steps-visits ts fs =
-      ap reverse (map-append step_of ts (map Visit fs)) ∙ reverse-append (map step_of ts) (map step_of (map Visit fs))
-      ∙ ap (λ st. reverse st ++ steps ts) (visits-are fs) ∙ ap (λ st. st ++ steps ts) (reverse-map visit fs)
+  -- the last fact that waits is first, turned around
+  pub newest : (ts rest : List (Inferred F)) (t : Inferred F) → ts ≡ rest ++ t ∷ [] → reverse ts ≡ t ∷ reverse rest
+  newest ts rest t e = ap reverse e ∙ reverse-append rest (t ∷ [])
 
-  -- a numbering put below them comes after them
-  pub steps-insert : (g : Flow F) (f : F) (t : Inferred F) (ts new : List (Task F)) → t.fact ≡ f → t.kind ≡ g.kind f → t.parents.items ≡ g.parents f
-      → new ≡ insert (ts ++ map Visit t.parents.items) (length ts) (Number t) → steps new ≡ expanded g f (steps ts)
-  steps-insert g f t ts new is kind parents e =
-      ap steps (e ∙ insert_at_end ts (map Visit t.parents.items) (Number t) ∙ sym (append_assoc ts (Number t ∷ []) (map Visit t.parents.items)))
-      ∙ steps-visits (ts ++ Number t ∷ []) t.parents.items
-      ∙ ap (λ st. map visit (reverse t.parents.items) ++ st) (steps-push ts (Number t))
-      ∙ (λ i. map visit (reverse (parents i)) ++ number (is i) (kind i) (parents i) ∷ steps ts)
+  -- more facts are to be finded
+  pub AreBegins-more : (fs ps all : List F) (from : ℕ) (ts : List (Inferred F)) → all ≡ fs ++ ps → AreBegins (length fs) from ts → AreBegins (length all) from ts
+  AreBegins-more fs ps all from [] e h = h
+  AreBegins-more fs ps all from (t ∷ ts) e h = (let a = ap length e in let b = length-append fs ps in let c = h.0 in omega arith, h.1)
 
-  -- the last task, by what it is
-  pub steps-pop : (ts rest : List (Task F)) (t u : Task F) → ts ≡ rest ++ t ∷ [] → t ≡ u → steps ts ≡ step_of u ∷ steps rest
-  steps-pop ts rest t u e s = ap steps (e ∙ ap (λ v. rest ++ v ∷ []) s) ∙ steps-push rest u
+  -- a fact whose parents begin behind all facts that were to be finded
+  pub AreBegins-push : (fs ps all : List F) (t : Inferred F) (ts : List (Inferred F)) → all ≡ fs ++ ps → AreBegins (length fs) t.before ts → AreBegins (length all) (length fs) (t ∷ ts)
+  AreBegins-push fs ps all t ts e h = (let a = ap length e in let b = length-append fs ps in omega arith, h)
+
+  pub jobs-push : (g : Flow F) (f : F) (fs all : List F) (t : Inferred F) (ts : List (Inferred F)) → all ≡ fs ++ g.parents f → t.fact ≡ f → t.kind ≡ g.kind f → t.parents ≡ length (g.parents f)
+      → jobs all (length fs) (t ∷ ts) ≡ opened g f (jobs fs t.before ts)
+  jobs-push g f fs all t ts e is kind parents =
+      let ps = g.parents f in
+      let dropped : drop (length fs) all ≡ ps = ap (drop (length fs)) e ∙ drop_at fs ps (length fs) refl in
+      let taken : take (length fs) all ≡ fs = ap (take (length fs)) e ∙ take_at fs ps (length fs) refl in
+      λ i. map find (reverse (dropped i)) ++ close (is i) (kind i) (parents i) ∷ jobs (taken i) t.before ts
+
+  module _ (g : Flow F) where
+    -- the step that a job is, where the parents are those that g has
+    abbrev pub step_of : Job F → Step F
+    step_of (find f) = visit f
+    step_of (close f k c) = number f k (g.parents f)
+
+    abbrev pub steps : List (Job F) → List (Step F)
+    steps js = map step_of js
+
+    steps-finds : (qs : List F) (js : List (Job F)) → steps (map find qs ++ js) ≡ map visit qs ++ steps js
+    steps-finds [] js = refl
+    steps-finds (q ∷ qs) js = ap (λ st. visit q ∷ st) (steps-finds qs js)
+
+    pub steps-opened : (f : F) (js : List (Job F)) → steps (opened g f js) ≡ expanded g f (steps js)
+    steps-opened f js = steps-finds (reverse (g.parents f)) (close f (g.kind f) (length (g.parents f)) ∷ js)
+
+    pub steps-found : (qs : List F) → steps (map find qs) ≡ map visit qs
+    steps-found [] = refl
+    steps-found (q ∷ qs) = ap (λ st. visit q ∷ st) (steps-found qs)
+
+    -- what is to be numbered has as many parents as g has
+    abbrev pub AreCounted : List (Job F) → Type 0
+    AreCounted [] = Unit {0}
+    AreCounted (find f ∷ js) = AreCounted js
+    AreCounted (close f k c ∷ js) = (c ≡ length (g.parents f)) × AreCounted js
+
+    counted-finds : (qs : List F) (js : List (Job F)) → AreCounted js → AreCounted (map find qs ++ js)
+    counted-finds [] js a = a
+    counted-finds (q ∷ qs) js a = counted-finds qs js a
+
+    pub counted-opened : (f : F) (js : List (Job F)) → AreCounted js → AreCounted (opened g f js)
+    counted-opened f js a = counted-finds (reverse (g.parents f)) (close f (g.kind f) (length (g.parents f)) ∷ js) (refl, a)
+
+    pub counted-found : (qs : List F) → AreCounted (map find qs)
+    counted-found [] = tt
+    counted-found (q ∷ qs) = counted-found qs

@@ -1,13 +1,12 @@
 -- What a walk through a flow graph keeps, step by step.
-use Rattle.std.proofs.Common.{◌≡◌, ℕ, suc, zero, ◌<◌, ◌≤◌, inl, inr, Bool, true, false, List, [], ◌∷◌, ◌++◌, length, map, reverse, take, get_or, Some, slice_get, Contains, sym, ap, ◌∙◌, subst, refl, arith}
+use Rattle.std.proofs.Common.{◌≡◌, ℕ, suc, zero, ◌<◌, ◌≤◌, inl, inr, Bool, true, false, List, [], ◌∷◌, ◌++◌, length, map, reverse, take, get_or, Some, slice_get, Contains, sym, ap, ◌∙◌, subst, refl, arith, append_assoc}
 use Rattle.std.proofs.lemmas.Bool.{false≢true}
-use Rattle.std.proofs.lemmas.List.{length-take, reverse-append}
-use Rattle.std.proofs.lemmas.List.Elements.{All-from_recursion}
+use Rattle.std.proofs.lemmas.List.{length-take, reverse-append, append-nil}
 use Rattle.std.proofs.lemmas.Option.{slice_get-get_or}
 use Rattle.std.specs.List.{list_any, All, AllByRecursion, IsDistinct}
 use Rattle.nc_graph.specs.declared.node.NodeId.{NodeId}
 use Rattle.nc_graph.specs.Flow.{Flow, IsFlow}
-use Rattle.nc_graph.specs.Closure.{Reaches, itself, by_parent, IsReachedFrom, IsClosure}
+use Rattle.nc_graph.specs.Closure.{Reaches, itself, by_parent, IsReachedFrom}
 use Rattle.nc_graph.specs.Nodes.{Nodes, Mirrors}
 use Rattle.nc_graph.specs.Walk.{Step, visit, number}
 use Rattle.nc_graph.proofs.Members.{In, any_in, in_any, get_in, in_left, in_right, in_parts, of_all}
@@ -106,6 +105,16 @@ module _ {F : Type 0} where
   Waits-visits roots rest (q ∷ qs) d w =
       Waits-visits roots rest qs (q ∷ d) (λ d' old new. w d' (λ x i. old x (inr i)) (λ x i. elim i [ inl e ↦ old x (inl e) | inr i' ↦ new x i' ]))
 
+  -- the facts whose nodes are kept, the newest last: each numbering takes its parents, the first one last, and puts the fact in their place, and at the end the roots are left
+  abbrev pub Gathers : List F → List F → List (Step F) → Type 0
+  Gathers roots kept [] = kept ≡ reverse roots
+  Gathers roots kept (visit f ∷ st) = Gathers roots (kept ++ f ∷ []) st
+  Gathers roots kept (number f k ps ∷ st) = (others : List F) × (kept ≡ others ++ reverse ps) × Gathers roots (others ++ f ∷ []) st
+
+  pub Gathers-visits : (roots : List F) (rest : List (Step F)) (qs kept : List F) → Gathers roots (kept ++ qs) rest → Gathers roots kept (map visit qs ++ rest)
+  Gathers-visits roots rest [] kept w = subst (λ xs. Gathers roots xs rest) (append-nil kept) w
+  Gathers-visits roots rest (q ∷ qs) kept w = Gathers-visits roots rest qs (kept ++ q ∷ []) (subst (λ xs. Gathers roots xs rest) (sym (append_assoc kept (q ∷ []) qs)) w)
+
   pub open-visits : (qs : List F) (rest : List (Step F)) → open_facts (map visit qs ++ rest) ≡ open_facts rest
   open-visits [] rest = refl
   open-visits (q ∷ qs) rest = open-visits qs rest
@@ -157,7 +166,7 @@ module _ {F : Type 0} (g : Flow F) where
 
 -- a parent of a node's fact is a node's fact
 module _ {F : Type 0} (g : Flow F) (n : Nodes F) where
-  fact_of_node : (ids : List NodeId) (ps : List F) → map (λ p. slice_get n.facts p.0) ids ≡ map Some ps → (x : F) → In x ps → In x n.facts
+  pub fact_of_node : (ids : List NodeId) (ps : List F) → map (λ p. slice_get n.facts p.0) ids ≡ map Some ps → (x : F) → In x ps → In x n.facts
   fact_of_node [] [] e x i = absurd i
   fact_of_node [] (p ∷ ps) e x i = absurd (cc)
   fact_of_node (d ∷ ds) [] e x i = absurd i
@@ -193,11 +202,3 @@ absent-in same alike xs x h i = false≢true (sym h ∙ in_any (same x) xs x i (
 pub roots-hold : {F : Type 0} (g : Flow F) (old : Nodes F) (roots : List F) → All (λ f. g.holds f ≡ true) roots → Mirrors g old → (x : F) → In x (old.facts ++ roots) → g.holds x ≡ true
 roots-hold g old roots all m x i =
     elim (in_parts old.facts roots x i) [ inl j ↦ Mirrors-holds g old m x j | inr j ↦ of_all (λ f. g.holds f ≡ true) roots x all j ]
-
--- the facts that a closure is of are in it
-pub All-placed : {F : Type 0} (g : Flow F) (before roots xs : List F) → IsClosure g (before ++ roots) xs → All (Contains xs) roots
-All-placed g before roots xs c = All-from_recursion (Contains xs) roots (each roots (λ x i. (c.exact x).1 (reached-itself g (before ++ roots) x (in_right before roots x i))))
-  where
-    each : (ys : List _) → ((y : _) → In y ys → Contains xs y) → AllByRecursion (Contains xs) ys
-    each [] h = tt
-    each (y ∷ ys) h = (h y (inl refl), each ys (λ z i. h z (inr i)))

@@ -1,6 +1,6 @@
 -- The state of a walk, and that each step keeps it.
-use Rattle.std.proofs.Common.{◌≡◌, ℕ, ◌+◌, ◌-◌, ◌^◌, ◌<◌, ◌≤◌, inl, inr, Bool, true, false, List, [], ◌∷◌, ◌++◌, length, map, reverse, take, Contains, sym, ap, ◌∙◌, subst, refl, arith, append_assoc}
-use Rattle.std.proofs.lemmas.List.{length-append, take-append-le, length_push, take_all}
+use Rattle.std.proofs.Common.{◌≡◌, ℕ, ◌+◌, ◌-◌, ◌^◌, ◌<◌, ◌≤◌, inl, inr, Bool, true, false, List, [], ◌∷◌, ◌++◌, length, map, reverse, take, Some, slice_get, sym, ap, ◌∙◌, subst, refl, arith, append_assoc}
+use Rattle.std.proofs.lemmas.List.{length-append, take-append-le, length_push, take_all, append-nil, nil_from_length}
 use Rattle.std.proofs.lemmas.List.Elements.{All-from_recursion}
 use Rattle.std.specs.List.{list_any, All, AllByRecursion, IsDistinct}
 use Rattle.nc_graph.specs.declared.node.NodeKind.{NodeKind}
@@ -8,21 +8,25 @@ use Rattle.nc_graph.specs.declared.node.NodeKind.TheVariants.{Leaf, Every, Any}
 use Rattle.nc_graph.specs.declared.node.NodeId.{NodeId}
 use Rattle.nc_graph.specs.Flow.{Flow, IsFlow, raised}
 use Rattle.nc_graph.specs.Closure.{IsReachedFrom, IsClosure, ReachesMoreThan}
-use Rattle.nc_graph.specs.Nodes.{Nodes, IsGraph, Mirrors, HasShape, with_node, AddsNode, Extends}
+use Rattle.nc_graph.specs.Nodes.{Nodes, IsGraph, Mirrors, HasShape, AreNodesOf, with_node, Extends}
+use Rattle.nc_graph.specs.Tasks.{last_of, before_last}
 use Rattle.nc_graph.specs.Walk.{Step, visit, number, expanded}
 use Rattle.nc_graph.proofs.Members.{In, in_left, in_right, in_parts}
 use Rattle.nc_graph.proofs.DerivationLaws.{parent_lower}
-use Rattle.nc_graph.proofs.NodeLemmas.{IsGraph-with_node, Mirrors-with_node}
-use Rattle.nc_graph.proofs.WalkLemmas.{Contains-in, in-Contains, Apart, Apart-push, Apart-distinct, distinct-Apart, absent-from_in, in-reverse, reverse-in, open_facts, fact_of, Waits, Waits-more, Waits-visits, open-visits, Ranked, Sound, reached-parent, reached-itself, reached-holds, reached-closed, Mirrors-closed, prefix-length, prefix-in}
+use Rattle.nc_graph.proofs.NodeLemmas.{nodes_of-length, nodes_of-within, IsGraph-with_node, Mirrors-with_node}
+use Rattle.nc_graph.proofs.GatherLemmas.{Are-more, Are-turned, parents_enough, last-are, before-are, placed-are}
+use Rattle.nc_graph.proofs.WalkLemmas.{Contains-in, in-Contains, Apart, Apart-push, Apart-distinct, distinct-Apart, absent-from_in, in-reverse, reverse-in, open_facts, fact_of, open-visits, Gathers, Gathers-visits, Ranked, Sound, reached-parent, reached-itself, reached-holds, reached-closed, Mirrors-closed, fact_of_node, prefix-length, prefix-in}
 
--- what holds between two steps of a walk from the roots, which began at the graph `old` with `before` facts inferred: the graph is n, the steps are st, `found` facts are numbered or inferred, and `count` were inferred
-pub record Walk {F : Type 0} (g : Flow F) (old : Nodes F) (roots : List F) (before : ℕ) (n : Nodes F) (st : List (Step F)) (found count : ℕ) : Type 0 where
+-- what holds between two steps of a walk from the roots, which began at the graph `old` with `before` facts inferred: the graph is n, the nodes that are kept are ids, the steps are st, `found` facts are numbered or inferred, and `count` were inferred
+pub record Walk {F : Type 0} (g : Flow F) (old : Nodes F) (roots : List F) (before : ℕ) (n : Nodes F) (ids : List NodeId) (st : List (Step F)) (found count : ℕ) : Type 0 where
   pub graph : IsGraph n
   pub mirrors : Mirrors g n
   pub extends : Extends old n
   pub reached : (f : F) → In f n.facts → IsReachedFrom g (old.facts ++ roots) f
   pub sound : Sound g (old.facts ++ roots) st
-  pub waits : Waits roots n.facts st
+  pub kept : List F
+  pub are : AreNodesOf n ids kept
+  pub gathers : Gathers roots kept st
   pub ranked : Ranked g st
   pub apart : Apart (open_facts st ++ n.facts)
   pub all_found : found ≡ length (open_facts st) + length n.facts
@@ -35,15 +39,18 @@ module _ {F : Type 0} (g : Flow F) (law : IsFlow g) (old : Nodes F) (roots : Lis
   pub step-holds : (s : Step F) (st : List (Step F)) → Sound g (old.facts ++ roots) (s ∷ st) → g.holds (fact_of s) ≡ true
   step-holds s st w = reached-holds g law (old.facts ++ roots) roots-hold (fact_of s) w.0
 
-  -- a fact that has a node is left
-  pub skip : (f : F) (st : List (Step F)) (n : Nodes F) (found count : ℕ) → Walk g old roots before n (visit f ∷ st) found count → In f n.facts → Walk g old roots before n st found count
-  skip f st n found count w i = record {
+  -- the node of a fact that has one is kept
+  pub skip : (f : F) (st : List (Step F)) (n : Nodes F) (ids : List NodeId) (found count : ℕ) → Walk g old roots before n ids (visit f ∷ st) found count → (p : NodeId) → slice_get n.facts p.0 ≡ Some f
+      → Walk g old roots before n (ids ++ p ∷ []) st found count
+  skip f st n ids found count w p at = record {
     graph = w.graph;
     mirrors = w.mirrors;
     extends = w.extends;
     reached = w.reached;
     sound = w.sound.2;
-    waits = Waits-more roots st (f ∷ n.facts) n.facts (λ x j. elim j [ inl e ↦ subst (λ y. In y n.facts) e i | inr j' ↦ j' ]) w.waits;
+    kept = w.kept ++ f ∷ [];
+    are = Are-more n.facts f ids w.kept p w.are at;
+    gathers = w.gathers;
     ranked = w.ranked.1;
     apart = w.apart;
     all_found = w.all_found;
@@ -52,8 +59,8 @@ module _ {F : Type 0} (g : Flow F) (law : IsFlow g) (old : Nodes F) (roots : Lis
   }
 
   -- a fact that is visited and has no node is in no numbering either
-  pub fresh : (f : F) (st : List (Step F)) (n : Nodes F) (found count : ℕ) → Walk g old roots before n (visit f ∷ st) found count → (In f n.facts → ⊥) → In f (open_facts st ++ n.facts) → ⊥
-  fresh f st n found count w absent i =
+  pub fresh : (f : F) (st : List (Step F)) (n : Nodes F) (ids : List NodeId) (found count : ℕ) → Walk g old roots before n ids (visit f ∷ st) found count → (In f n.facts → ⊥) → In f (open_facts st ++ n.facts) → ⊥
+  fresh f st n ids found count w absent i =
       elim (in_parts (open_facts st) n.facts f i) [ inl j ↦ absurd (let low = w.ranked.0 f j in omega arith) | inr j ↦ absent j ]
 
   sound-visits : (from : List F) (rest : List (Step F)) (qs : List F) → ((q : F) → In q qs → IsReachedFrom g from q) → Sound g from rest → Sound g from (map visit qs ++ rest)
@@ -66,9 +73,9 @@ module _ {F : Type 0} (g : Flow F) (law : IsFlow g) (old : Nodes F) (roots : Lis
       (λ h i. low q (inl refl) h (subst (In h) (open-visits qs rest) i), ranked-visits rest qs (λ x i. low x (inr i)) r)
 
   -- a fact is inferred
-  pub infers : (f : F) (st : List (Step F)) (n : Nodes F) (found count : ℕ) → Walk g old roots before n (visit f ∷ st) found count → (In f n.facts → ⊥) → found < n.limit
-      → Walk g old roots before n (expanded g f st) (found + 1) (raised count 1)
-  infers f st n found count w absent room =
+  pub infers : (f : F) (st : List (Step F)) (n : Nodes F) (ids : List NodeId) (found count : ℕ) → Walk g old roots before n ids (visit f ∷ st) found count → (In f n.facts → ⊥) → found < n.limit
+      → Walk g old roots before n ids (expanded g f st) (found + 1) (raised count 1)
+  infers f st n ids found count w absent room =
       let ps = g.parents f in
       let holds = step-holds (visit f) st w.sound in
       let rest : List (Step F) = number f (g.kind f) ps ∷ st in
@@ -79,43 +86,49 @@ module _ {F : Type 0} (g : Flow F) (law : IsFlow g) (old : Nodes F) (roots : Lis
         extends = w.extends;
         reached = w.reached;
         sound = sound-visits (old.facts ++ roots) rest (reverse ps) (λ q i. reached-parent g (old.facts ++ roots) f q w.sound.0 (in-reverse ps q i)) (w.sound.0, (refl, refl), w.sound.2);
-        waits = Waits-visits roots rest (reverse ps) n.facts (λ d sub new. (λ x i. new x (reverse-in ps x i), Waits-more roots st (f ∷ n.facts) (f ∷ d) (λ x j. elim j [ inl e ↦ inl e | inr j' ↦ inr (sub x j') ]) w.waits));
+        kept = w.kept;
+        are = w.are;
+        gathers = Gathers-visits roots rest (reverse ps) w.kept (w.kept, refl, w.gathers);
         ranked = ranked-visits rest (reverse ps)
             (λ q i h j. let low = parent_lower g law f q holds (in-reverse ps q i) in elim j [ inl e ↦ subst (λ y. g.rank q < g.rank y) e low | inr j' ↦ let up = w.ranked.0 h j' in omega arith ])
             (w.ranked.0, w.ranked.1);
-        apart = subst (λ fs. Apart (fs ++ n.facts)) (sym opened) (fresh f st n found count w absent, w.apart);
+        apart = subst (λ fs. Apart (fs ++ n.facts)) (sym opened) (fresh f st n ids found count w absent, w.apart);
         all_found = (let a = w.all_found in let b = ap length opened in omega arith);
         room = omega arith;
         counted = (let a = w.counted in let b = w.all_found in let c = prefix-length old.facts n.facts w.extends.facts in omega arith);
       }
 
-  -- what `place` asks of a fact that is to be numbered
-  pub record IsPlaceable (eq : F → F → Bool) (n : Nodes F) (f : F) (k : NodeKind) (ps : List F) : Type 0 where
-    pub shape : HasShape k ps
-    pub placed : All (Contains n.facts) ps
+  -- what numbering asks of a fact
+  pub record IsPlaceable (eq : F → F → Bool) (n : Nodes F) (ids : List NodeId) (f : F) (k : NodeKind) (c : ℕ) : Type 0 where
+    pub enough : c ≤ length ids
+    pub shape : HasShape k (last_of c ids)
+    pub within : All (λ p. p.0 < length n.facts) (last_of c ids)
     pub new : list_any (eq f) n.facts ≡ false
     pub room : length n.facts < n.limit
 
-  has_shape : (f : F) → g.holds f ≡ true → HasShape (g.kind f) (g.parents f)
-  has_shape f h =
-      elim (g.kind f) as (λ k. g.kind f ≡ k → HasShape k (g.parents f))
-      [ Leaf e ↦ λ q. law.bare f e h q | Every ↦ λ q. tt | Any ↦ λ q. law.chosen f h q ] refl
+  -- nodes have the shape that their facts have
+  has_shape : (n : Nodes F) (ids : List NodeId) (f : F) (k : NodeKind) → g.holds f ≡ true → k ≡ g.kind f → AreNodesOf n ids (g.parents f) → HasShape k ids
+  has_shape n ids f k h is are =
+      let many = nodes_of-length n.facts ids (g.parents f) are in
+      elim k as (λ v. v ≡ g.kind f → HasShape v ids)
+      [ Leaf e ↦ λ q. nil_from_length ids (many ∙ ap length (law.bare f e h (sym q))) | Every ↦ λ q. tt | Any ↦ λ q. let some = law.chosen f h (sym q) in omega arith ] is
 
-  all-contained : (xs ps : List F) → ((x : F) → In x ps → In x xs) → All (Contains xs) ps
-  all-contained xs ps sub = All-from_recursion (Contains xs) ps (each ps sub)
-    where
-      each : (ps : List F) → ((x : F) → In x ps → In x xs) → AllByRecursion (Contains xs) ps
-      each [] sub = tt
-      each (q ∷ qs) sub = (in-Contains xs q (sub q (inl refl)), each qs (λ x i. sub x (inr i)))
+  -- the nodes of the parents of a fact that is to be numbered
+  parents-are : (f : F) (k : NodeKind) (ps : List F) (c : ℕ) → c ≡ length ps → (st : List (Step F)) (n : Nodes F) (ids : List NodeId) (found count : ℕ)
+      → Walk g old roots before n ids (number f k ps ∷ st) found count → AreNodesOf n (last_of c ids) (g.parents f)
+  parents-are f k ps c same st n ids found count w =
+      let r = w.gathers in
+      subst (AreNodesOf n (last_of c ids)) w.sound.1.1 (last-are n.facts ids r.0 ps c (w.are ∙ ap (map Some) r.1) same)
 
-  pub placeable : (eq : F → F → Bool) → ((x y : F) → eq x y ≡ true → x ≡ y) → (f : F) (k : NodeKind) (ps : List F) (st : List (Step F)) (n : Nodes F) (found count : ℕ)
-      → Walk g old roots before n (number f k ps ∷ st) found count → IsPlaceable eq n f k ps
-  placeable eq exact f k ps st n found count w =
-      let holds = step-holds (number f k ps) st w.sound in
-      let is = w.sound.1 in
+  pub placeable : (eq : F → F → Bool) → ((x y : F) → eq x y ≡ true → x ≡ y) → (f : F) (k : NodeKind) (ps : List F) (c : ℕ) → c ≡ length ps → (st : List (Step F)) (n : Nodes F) (ids : List NodeId) (found count : ℕ)
+      → Walk g old roots before n ids (number f k ps ∷ st) found count → IsPlaceable eq n ids f k c
+  placeable eq exact f k ps c same st n ids found count w =
+      let r = w.gathers in
+      let are = parents-are f k ps c same st n ids found count w in
       record {
-        shape = subst (λ v. HasShape v ps) (sym is.0) (subst (HasShape (g.kind f)) (sym is.1) (has_shape f holds));
-        placed = all-contained n.facts ps w.waits.0;
+        enough = parents_enough n.facts ids r.0 ps c (w.are ∙ ap (map Some) r.1) same;
+        shape = has_shape n (last_of c ids) f k (step-holds (number f k ps) st w.sound) w.sound.1.0 are;
+        within = nodes_of-within n.facts (last_of c ids) (g.parents f) are;
         new = absent-from_in eq exact n.facts f (λ i. w.apart.0 (in_right (open_facts st) n.facts f i));
         room = (let a = w.all_found in let r = w.room in omega arith);
       }
@@ -131,16 +144,19 @@ module _ {F : Type 0} (g : Flow F) (law : IsFlow g) (old : Nodes F) (roots : Lis
       }
 
   -- a fact is numbered
-  pub numbers : (f : F) (k : NodeKind) (ps : List F) (st : List (Step F)) (n m : Nodes F) (found count : ℕ)
-      → Walk g old roots before n (number f k ps ∷ st) found count → AddsNode n m f k ps → Walk g old roots before m st found count
-  numbers f k ps st n m found count w a = subst (λ v. Walk g old roots before v st found count) (sym a.1) (record {
-    graph = IsGraph-with_node n w.graph f k ps a.0 shape a.2 (let x = w.all_found in let r = w.room in omega arith);
-    mirrors = Mirrors-with_node n w.graph f k ps a.0 shape a.2 g holds w.sound.1.0 w.sound.1.1 w.mirrors;
-    extends = extends-more n f k a.0 w.graph w.extends;
+  pub numbers : (f : F) (k : NodeKind) (ps : List F) (c : ℕ) → c ≡ length ps → (st : List (Step F)) (n m : Nodes F) (ids new : List NodeId) (found count : ℕ)
+      → Walk g old roots before n ids (number f k ps ∷ st) found count → m ≡ with_node n f k (last_of c ids) → new ≡ before_last c ids ++ record { 0 = length n.facts } ∷ []
+      → Walk g old roots before m new st found count
+  numbers f k ps c same st n m ids new found count w made left = subst (λ v. Walk g old roots before v new st found count) (sym made) (record {
+    graph = IsGraph-with_node n w.graph f k (last_of c ids) shape within (let x = w.all_found in let r = w.room in omega arith);
+    mirrors = Mirrors-with_node n w.graph f k (last_of c ids) shape within g holds w.sound.1.0 parents w.mirrors;
+    extends = extends-more n f k (last_of c ids) w.graph w.extends;
     reached = λ x i. elim (in_parts n.facts (f ∷ []) x i) [ inl j ↦ w.reached x j | inr j ↦ elim j [ inl e ↦ subst (IsReachedFrom g (old.facts ++ roots)) e w.sound.0 | inr z ↦ absurd z ] ];
     sound = w.sound.2;
-    waits = Waits-more roots st (f ∷ n.facts) (n.facts ++ f ∷ [])
-        (λ x i. elim i [ inl e ↦ in_right n.facts (f ∷ []) x (inl e) | inr j ↦ in_left n.facts (f ∷ []) x j ]) w.waits.1;
+    kept = w.gathers.0 ++ f ∷ [];
+    are = ap (map (λ p. slice_get (n.facts ++ f ∷ []) p.0)) left ∙ placed-are n.facts f (before_last c ids) w.gathers.0
+        (before-are n.facts ids w.gathers.0 ps c (w.are ∙ ap (map Some) w.gathers.1) same);
+    gathers = w.gathers.2;
     ranked = w.ranked.1;
     apart = subst Apart (append_assoc (open_facts st) n.facts (f ∷ [])) (Apart-push (open_facts st ++ n.facts) f w.apart.0 w.apart.1);
     all_found = (let x = w.all_found in let l = length_push n.facts f in omega arith);
@@ -151,19 +167,27 @@ module _ {F : Type 0} (g : Flow F) (law : IsFlow g) (old : Nodes F) (roots : Lis
       holds : g.holds f ≡ true
       holds = step-holds (number f k ps) st w.sound
 
-      shape : HasShape k ps
-      shape = subst (λ v. HasShape v ps) (sym w.sound.1.0) (subst (HasShape (g.kind f)) (sym w.sound.1.1) (has_shape f holds))
+      parents : AreNodesOf n (last_of c ids) (g.parents f)
+      parents = parents-are f k ps c same st n ids found count w
+
+      shape : HasShape k (last_of c ids)
+      shape = has_shape n (last_of c ids) f k holds w.sound.1.0 parents
+
+      within : All (λ p. p.0 < length n.facts) (last_of c ids)
+      within = nodes_of-within n.facts (last_of c ids) (g.parents f) parents
 
   -- the walk begins with the roots to be visited
-  pub begins : (eq : F → F → Bool) → ((x : F) → eq x x ≡ true) → (st : List (Step F)) → st ≡ map visit (reverse roots) ++ [] → IsGraph old → IsDistinct eq old.facts → Mirrors g old → before < 2 ^ 64
-      → Walk g old roots before old st (length old.facts) before
-  begins eq alike st e is distinct m small = subst (λ s. Walk g old roots before old s (length old.facts) before) (sym e) (record {
+  pub begins : (eq : F → F → Bool) → ((x : F) → eq x x ≡ true) → (st : List (Step F)) → st ≡ map visit (reverse roots) → IsGraph old → IsDistinct eq old.facts → Mirrors g old → before < 2 ^ 64
+      → Walk g old roots before old [] st (length old.facts) before
+  begins eq alike st e is distinct m small = subst (λ s. Walk g old roots before old [] s (length old.facts) before) (append-nil (map visit (reverse roots)) ∙ sym e) (record {
     graph = is;
     mirrors = m;
     extends = record { facts = take_all-own old.facts; kinds = take_all (length old.facts) old.kinds (let a = is.kinds in omega arith); parents = take_all (length old.facts) old.parents (let a = is.parents in omega arith); limit = refl };
     reached = λ f i. reached-itself g (old.facts ++ roots) f (in_left old.facts roots f i);
     sound = sound-visits (old.facts ++ roots) [] (reverse roots) (λ q i. reached-itself g (old.facts ++ roots) q (in_right old.facts roots q (in-reverse roots q i))) tt;
-    waits = Waits-visits roots [] (reverse roots) old.facts (λ d sub new x i. new x (reverse-in roots x i));
+    kept = [];
+    are = refl;
+    gathers = Gathers-visits roots [] (reverse roots) [] refl;
     ranked = ranked-visits [] (reverse roots) (λ q i h j. absurd j) tt;
     apart = subst (λ fs. Apart (fs ++ old.facts)) (sym (open-visits (reverse roots) [])) (distinct-Apart eq alike old.facts distinct);
     all_found = (let a = ap length (open-visits (reverse roots) []) in omega arith);
@@ -175,11 +199,11 @@ module _ {F : Type 0} (g : Flow F) (law : IsFlow g) (old : Nodes F) (roots : Lis
       take_all-own xs = take_all (length xs) xs (omega arith)
 
   -- where one more is to be inferred and there is no room, more are reached than fit
-  pub exceeds : (f : F) (st : List (Step F)) (n : Nodes F) (found count : ℕ) → Walk g old roots before n (visit f ∷ st) found count → (In f n.facts → ⊥) → n.limit ≤ found
+  pub exceeds : (f : F) (st : List (Step F)) (n : Nodes F) (ids : List NodeId) (found count : ℕ) → Walk g old roots before n ids (visit f ∷ st) found count → (In f n.facts → ⊥) → n.limit ≤ found
       → ReachesMoreThan g old.limit (old.facts ++ roots)
-  exceeds f st n found count w absent full = record {
+  exceeds f st n ids found count w absent full = record {
     some = f ∷ open_facts st ++ n.facts;
-    distinct = Apart-distinct g.same (λ x y. (law.same x y).0) (f ∷ open_facts st ++ n.facts) (fresh f st n found count w absent, w.apart);
+    distinct = Apart-distinct g.same (λ x y. (law.same x y).0) (f ∷ open_facts st ++ n.facts) (fresh f st n ids found count w absent, w.apart);
     reached = All-from_recursion (IsReachedFrom g (old.facts ++ roots)) (f ∷ open_facts st ++ n.facts)
         (w.sound.0, of-in (open_facts st ++ n.facts) (λ x i. elim (in_parts (open_facts st) n.facts x i) [ inl j ↦ open-reached st w.sound.2 x j | inr j ↦ w.reached x j ]));
     more = (let a = w.all_found in let b = length-append (open_facts st) n.facts in let c = w.extends.limit in omega arith);
@@ -195,15 +219,19 @@ module _ {F : Type 0} (g : Flow F) (law : IsFlow g) (old : Nodes F) (roots : Lis
       open-reached (number h k ps ∷ st) s x i = elim i [ inl e ↦ subst (IsReachedFrom g (old.facts ++ roots)) e s.0 | inr j ↦ open-reached st s.2 x j ]
 
   -- where nothing is left to do, the graph has the closure
-  pub ends : (n : Nodes F) (found count : ℕ) → Walk g old roots before n [] found count → IsClosure g (old.facts ++ roots) n.facts
-  ends n found count w = record {
+  pub ends : (n : Nodes F) (ids : List NodeId) (found count : ℕ) → Walk g old roots before n ids [] found count → IsClosure g (old.facts ++ roots) n.facts
+  ends n ids found count w = record {
     distinct = Apart-distinct g.same (λ x y. (law.same x y).0) n.facts w.apart;
     exact = λ h. (λ c. w.reached h (Contains-in n.facts h c), λ r. in-Contains n.facts h (reached-closed g law (old.facts ++ roots) n.facts had (Mirrors-closed g n w.mirrors) h r));
   }
     where
       had : (x : F) → In x (old.facts ++ roots) → In x n.facts
-      had x i = elim (in_parts old.facts roots x i) [ inl j ↦ prefix-in (length old.facts) n.facts x (subst (In x) (sym w.extends.facts) j) | inr j ↦ w.waits x j ]
+      had x i = elim (in_parts old.facts roots x i) [ inl j ↦ prefix-in (length old.facts) n.facts x (subst (In x) (sym w.extends.facts) j) | inr j ↦ fact_of_node g n ids w.kept w.are x (subst (In x) (sym w.gathers) (reverse-in roots x j)) ]
 
   -- the facts inferred are the new nodes, then
-  pub counts : (n : Nodes F) (found count : ℕ) → Walk g old roots before n [] found count → count ≡ raised before (length n.facts - length old.facts)
-  counts n found count w = let a = w.counted in let b = w.all_found in omega arith
+  pub counts : (n : Nodes F) (ids : List NodeId) (found count : ℕ) → Walk g old roots before n ids [] found count → count ≡ raised before (length n.facts - length old.facts)
+  counts n ids found count w = let a = w.counted in let b = w.all_found in omega arith
+
+  -- and the nodes that are kept are those of the roots, the last first
+  pub answers : (n : Nodes F) (ids : List NodeId) (found count : ℕ) → Walk g old roots before n ids [] found count → AreNodesOf n (reverse ids) roots
+  answers n ids found count w = Are-turned n.facts ids roots (w.are ∙ ap (map Some) w.gathers)

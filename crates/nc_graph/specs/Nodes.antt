@@ -71,10 +71,6 @@ module _ {F : Type 0} where
     limit = n.limit;
   }
 
-  -- new is old with one more node, of a fact of that kind, whose parents are the nodes of ps
-  abbrev pub AddsNode : Nodes F → Nodes F → F → NodeKind → List F → Type 0
-  AddsNode old new f k ps = (ids : List NodeId) × (new ≡ with_node old f k ids) × AreNodesOf old ids ps
-
   -- the nodes with numbers below len
   abbrev pub first_nodes : ℕ → Nodes F → Nodes F
   first_nodes len n = record {

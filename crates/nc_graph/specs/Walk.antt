@@ -1,8 +1,6 @@
 -- What a walk through a flow graph has still to do.
 use Rattle.std.specs.Prelude.{List, ◌∷◌, ◌++◌, map, reverse}
 use Rattle.nc_graph.specs.declared.node.NodeKind.{NodeKind}
-use Rattle.nc_graph.specs.declared.walk.Task.{Task}
-use Rattle.nc_graph.specs.declared.walk.Task.TheVariants.{Visit, Number}
 use Rattle.nc_graph.specs.Flow.{Flow}
 
 -- a fact to be found or inferred, or one that was inferred with its kind and parents and is to be numbered
@@ -11,15 +9,6 @@ pub data Step (F : Type 0) : Type 0 where
   number : F → NodeKind → List F → Step F
 
 module _ {F : Type 0} where
-  -- the step that a task is
-  abbrev pub step_of : Task F → Step F
-  step_of (Visit f) = visit f
-  step_of (Number t) = number t.fact t.kind t.parents.items
-
-  -- the steps of a stack of tasks, the next one first
-  abbrev pub steps : List (Task F) → List (Step F)
-  steps ts = reverse (map step_of ts)
-
   -- the steps after a fact is inferred: its parents are visited, and then it is numbered
   abbrev pub expanded : Flow F → F → List (Step F) → List (Step F)
   expanded g f st = map visit (reverse (g.parents f)) ++ number f (g.kind f) (g.parents f) ∷ st

@@ -1,9 +1,9 @@
 //! A graph of facts: each has a node, whose parents have lower numbers.
-ghost use Rattle.std.specs.Prelude.{◌≡◌, ◌↔◌, ℕ, ◌+◌, ◌-◌, ◌<◌, ◌≤◌, ◌++◌, true, false, [], length, slice_get, All, Contains, IfOk, OnOk, OnErr, IsErrOf};
+ghost use Rattle.std.specs.Prelude.{◌≡◌, ◌↔◌, ℕ, ◌+◌, ◌-◌, ◌<◌, ◌≤◌, ◌++◌, true, false, [], length, slice_get, All, IfOk, OnOk, OnErr, IsErrOf, MatchOption};
 ghost use Rattle.std.specs.List.{list_any, IsDistinct};
 ghost use Rattle.nc_graph.specs.Closure.{IsClosure, ReachesMoreThan};
 ghost use Rattle.nc_graph.specs.Flow.{Flow, raised};
-ghost use Rattle.nc_graph.specs.Nodes.{no_nodes, first_nodes, IsGraph, Mirrors, Extends, HasShape, AreNodesOf, AddsNode};
+ghost use Rattle.nc_graph.specs.Nodes.{no_nodes, first_nodes, IsGraph, Mirrors, Extends, HasShape, AreNodesOf, with_node};
 
 use crate::fault::GraphFault;
 use crate::inference::Inference;
@@ -147,43 +147,13 @@ impl<F: Copy + Eq + Hash> Graph<F> {
         ensures unchanged { OnErr result (self.new ≡ self.old) }
     {
         let before = self.facts.len();
-        match self.grow(rules, facts) {
+        match walk(self.alloc, self, rules, facts) {
             Ok(nodes) => Ok(nodes),
             Err(fault) => {
                 self.cut(before);
                 Err(fault)
             }
         }
-    }
-
-    // Adds facts, and at a refusal leaves those that were numbered by then.
-    fn grow<I: Inference<Fact = F>>(
-        &mut self,
-        rules: &mut I,
-        facts: &[F],
-    ) -> Result<Vec<NodeId>, GraphFault>
-        requires holds { All (λ f. (I.flow rules.old).holds f ≡ true) facts.now }
-        requires mirrors { Mirrors (I.flow rules.old) self.old }
-        ensures flow { I.flow rules.new ≡ I.flow rules.old }
-        ensures basis { I.basis rules.new ≡ I.basis rules.old }
-        ensures extends { Extends self.old self.new }
-        ensures mirrors { OnOk result (Mirrors (I.flow rules.old) self.new) }
-        ensures closure { OnOk result
-            (IsClosure (I.flow rules.old) (self.old.facts ++ facts.now) self.new.facts) }
-        ensures nodes { IfOk result (λ nodes. AreNodesOf self.new nodes.items facts.now) }
-        ensures asked { OnOk result (I.asked rules.new
-            ≡ raised (I.asked rules.old) (length self.new.facts - length self.old.facts)) }
-        ensures full { IsErrOf result GraphFault.Full
-            → ReachesMoreThan (I.flow rules.old) self.old.limit (self.old.facts ++ facts.now) }
-        ensures graph { OnOk result (IsGraph self.new) }
-        ensures asked_full { IsErrOf result GraphFault.Full → I.asked rules.new
-            ≡ raised (I.asked rules.old) (self.old.limit - length self.old.facts) }
-        ensures asked_least { I.asked rules.old ≤ I.asked rules.new }
-        ensures asked_most { I.asked rules.new ≤ raised (I.asked rules.old) (self.old.limit + 1) }
-    {
-        walk(self.alloc, self, rules, facts)?;
-        let nodes = self.nodes_of(facts)?;
-        Ok(nodes)
     }
 
     // The most nodes that there may be.
@@ -193,55 +163,40 @@ impl<F: Copy + Eq + Hash> Graph<F> {
         self.limit
     }
 
-    // Whether a fact has a node.
-    pub(crate) fn has(&self, fact: &F) -> bool
-        ensures { result ≡ list_any (F.eq fact.now) self.now.facts }
-    {
-        self.facts.contains(fact)
-    }
-
-    // The node of a fact that has one.
-    fn node_of(&self, fact: &F) -> NodeId
+    // The node of a fact, if it has one.
+    pub(crate) fn find(&self, fact: &F) -> Option<NodeId>
         requires exact { (x y : F) → F.eq x y ≡ true → x ≡ y }
-        requires placed { Contains self.now.facts fact.now }
-        ensures { slice_get self.now.facts result.0 ≡ Some fact.now }
+        ensures { MatchOption result (list_any (F.eq fact.now) self.now.facts ≡ false)
+            (λ node. slice_get self.now.facts node.0 ≡ Some fact.now) }
     {
         match self.facts.get_index_of(fact) {
-            Some(number) => NodeId(number as u32),
-            None => unreachable!(),
+            Some(number) => Some(NodeId(number as u32)),
+            None => None,
         }
-    }
-
-    // The nodes of facts that have one, in order.
-    pub(crate) fn nodes_of(&self, facts: &[F]) -> Result<Vec<NodeId>, AllocError>
-        requires exact { (x y : F) → F.eq x y ≡ true → x ≡ y }
-        requires placed { All (Contains self.now.facts) facts.now }
-        ensures { IfOk result (λ nodes. AreNodesOf self.now nodes.items facts.now) }
-    {
-        let mut nodes = Vec::with_capacity(self.alloc, facts.len())?;
-        for fact in facts {
-            nodes.push(self.node_of(fact))?;
-        }
-        Ok(nodes)
     }
 
     // Gives a fact the next number.
-    pub(crate) fn place(&mut self, fact: F, kind: NodeKind, parents: &[F]) -> Result<(), AllocError>
-        requires exact { (x y : F) → F.eq x y ≡ true → x ≡ y }
+    pub(crate) fn place(
+        &mut self,
+        fact: F,
+        kind: NodeKind,
+        parents: &[NodeId],
+    ) -> Result<NodeId, AllocError>
         requires shape { HasShape kind parents.now }
-        requires placed { All (Contains self.old.facts) parents.now }
+        requires within { All (λ p. p.0 < length self.old.facts) parents.now }
         requires new { list_any (F.eq fact) self.old.facts ≡ false }
         requires room { length self.old.facts < self.old.limit }
-        ensures ok { OnOk result (AddsNode self.old self.new fact kind parents.now) }
+        ensures node { IfOk result (λ node. node ≡ record { 0 = length self.old.facts }) }
+        ensures ok { OnOk result (self.new ≡ with_node self.old fact kind parents.now) }
         ensures err { OnErr result (self.new ≡ self.old) }
     {
-        let nodes = self.nodes_of(parents)?;
+        let number = self.facts.len() as u32;
         self.kinds.reserve(1)?;
         self.facts.reserve(1)?;
-        self.parents.push(&nodes)?;
+        self.parents.push(parents)?;
         self.facts.insert_full(fact).unwrap();
         self.kinds.push(kind).unwrap();
-        Ok(())
+        Ok(NodeId(number))
     }
 
     // Keeps the nodes with numbers below `len`.

@@ -9,6 +9,13 @@
 //! handed in so far, each fact inferred once and under the number that it keeps, with the kind and
 //! the parents that the rules give; that it is full exactly where the closure has more facts than
 //! the limit; and that a refusal leaves it as it was.
+//!
+//! Kept of each fact is itself, its kind and the nodes of its parents, in vectors that grow with the
+//! facts, which the limit bounds, and with their parents. While facts are added, each parent is
+//! looked up once. The facts still to be found, those that wait for their parents, and the nodes
+//! found for them lie on three stacks: these grow with the facts handed in and with the parents of
+//! those that wait at once, of which each has a lower rank than the one before. They are let go of
+//! when all are added.
 #![tactic(auto)]
 
 pub mod fault;
@@ -17,4 +24,5 @@ pub mod inference;
 pub mod laws;
 pub mod lists;
 pub mod node;
+mod tasks;
 mod walk;

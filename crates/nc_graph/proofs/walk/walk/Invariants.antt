@@ -1,5 +1,5 @@
 use Rattle.std.proofs.Common.{◌≡◌}
-use Rattle.nc_graph.specs.Walk.{steps}
+use Rattle.nc_graph.proofs.StackLemmas.{steps, AreCounted}
 use Rattle.nc_graph.proofs.WalkSteps.{Walk}
 use Rattle.nc_graph.proofs.Weights.{weight}
 use Rattle.nc_graph.proofs.walk.walk.Given as goal
@@ -10,8 +10,9 @@ invariant-walking g l =
     record {
       same : g.I.Inference.flow l.rules ≡ flow;
       basis : g.I.Inference.basis l.rules ≡ g.I.Inference.basis l.fn.rules;
-      walk : Walk flow l.fn.graph l.fn.facts (g.I.Inference.asked l.fn.rules) l.graph (steps l.tasks.items) l.found (g.I.Inference.asked l.rules);
+      counts : AreCounted flow l.tasks;
+      walk : Walk flow l.fn.graph l.fn.facts (g.I.Inference.asked l.fn.rules) l.graph l.nodes.items (steps flow l.tasks) l.found (g.I.Inference.asked l.rules);
     }
 
 abbrev pub decreases-walking : goal.decreases-walking
-decreases-walking g l = weight (g.I.Inference.flow l.fn.rules) (steps l.tasks.items)
+decreases-walking g l = weight (g.I.Inference.flow l.fn.rules) (steps (g.I.Inference.flow l.fn.rules) l.tasks)

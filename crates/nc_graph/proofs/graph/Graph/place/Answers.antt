@@ -1,8 +1,8 @@
 use Rattle.std.proofs.Common.{◌≡◌, ◌<◌, [], ◌∷◌, ◌++◌, length, cond, sym, ap, ◌∙◌, subst, arith}
-use Rattle.std.specs.List.{list_any}
+use Rattle.std.specs.List.{list_any, All}
 use Rattle.indexmap.specs.IndexSet.{insert_key}
 use Rattle.std.proofs.lemmas.Grind.{common_steps}
-use Rattle.nc_graph.specs.Nodes.{IsGraph, AreNodesOf}
+use Rattle.nc_graph.specs.Nodes.{IsGraph}
 use Rattle.nc_graph.proofs.NodeLemmas.{IsGraph-with_node, same_nodes}
 use Rattle.nc_graph.proofs.graph.Graph.place.Goals as goal
 
@@ -12,8 +12,8 @@ invariant_of-self-2 g c =
     let inserted : c.insert_full.new.self.keys ≡ insert_key g.F.PartialEq.eq c.self.inside.facts.keys c.args.fact = grind (arith, common_steps) in
     let keys = inserted ∙ ap (λ b. cond b c.self.inside.facts.keys (c.self.inside.facts.keys ++ c.args.fact ∷ [])) new in
     let kinds : c.push-2.new.self.items ≡ c.self.inside.kinds.items ++ c.args.kind ∷ [] = grind (arith, common_steps) in
-    let parents : c.push.new.self ≡ c.self.inside.parents ++ c.in_ok-nodes.nodes.items ∷ [] = grind (arith, common_steps) in
+    let parents : c.push.new.self ≡ c.self.inside.parents ++ c.args.parents.now ∷ [] = grind (arith, common_steps) in
     subst IsGraph (sym (same_nodes c.self.inside.limit keys kinds parents))
-    (IsGraph-with_node _ c.self.invariant c.args.fact c.args.kind c.args.parents.now c.in_ok-nodes.nodes.items c.requires.shape
-    (subst (λ n. AreNodesOf n c.in_ok-nodes.nodes.items c.args.parents.now) (sym c.self.view_is) c.in_ok-nodes.ensures)
+    (IsGraph-with_node _ c.self.invariant c.args.fact c.args.kind c.args.parents.now c.requires.shape
+    (subst (λ n. All (λ p. p.0 < length n.facts) c.args.parents.now) (sym c.self.view_is) c.requires.within)
     (subst (λ n. length n.facts < n.limit) (sym c.self.view_is) c.requires.room))
