@@ -1,5 +1,5 @@
 -- The deciding clause, found by going over the clauses once.
-use Rattle.std.proofs.Common.{◌≡◌, ℕ, zero, suc, ◌+◌, ◌-◌, ◌<◌, ◌≤◌, Bool, true, false, cond, nat_lt, ◌&&◌, List, [], ◌∷◌, length, map, get_or, drop, filter, Option, Some, None, refl, sym, ap, subst, ◌∙◌, arith}
+use Rattle.std.proofs.Common.{◌≡◌, ℕ, zero, suc, ◌+◌, ◌-◌, ◌<◌, ◌≤◌, Bool, true, false, cond, nat_lt, ◌&&◌, List, [], ◌∷◌, length, map, get_or, drop, filter, Option, Some, None, IfSome, refl, sym, ap, subst, ◌∙◌, arith}
 use Rattle.std.specs.Prelude.{slice_get}
 use Rattle.std.specs.List.{position_from}
 use Rattle.std.specs.Option.{option_map_or}
@@ -11,7 +11,9 @@ use Rattle.nc_types.specs.Config.{ClauseView}
 use Rattle.nc_types.proofs.Sameness.{same_bytes_is}
 use Rattle.nc_tables.specs.Policy.{Placed, placed_from, least}
 use Rattle.nc_policy.specs.Views.{is_lower}
+use Rattle.nc_policy.proofs.Spots.{not_before}
 use Rattle.nc_policy.specs.Indexes.{place_from}
+pub use Rattle.nc_policy.specs.Walks.{of_map, rest_of}
 
 -- of two clauses the second, if its number is lower
 abbrev pub lower_of : Option Placed → Option Placed → Option Placed
@@ -68,10 +70,6 @@ joined test best k = on (is_lower k.clause best) (test k)
     on false true = refl
     on false false = refl
 
--- the clauses from the next one of a map on
-abbrev pub rest_of : (Placed → Bool) → List ClauseView → Option ℕ → Option Placed
-rest_of test all next = option_map_or (λ (place : ℕ). least (filter test (placed_from place (drop place all)))) next None
-
 module _ (test : Placed → Bool) (all : List ClauseView) (place : ℕ) (k : ClauseView) (at : slice_get all place ≡ Some k) where
   abbrev pub here : Placed
   here = record { place = place; clause = k }
@@ -92,9 +90,6 @@ module _ (test : Placed → Bool) (all : List ClauseView) (place : ℕ) (k : Cla
       ∙ ap (λ (o : Option Placed). lower_of o (least (filter test (placed_from (place + 1) (drop (place + 1) all))))) (joined test best here)
 
 -- ---- from one clause of a map to the next
-
-abbrev pub of_map : List ℕ → (Placed → Bool) → Placed → Bool
-of_map name matches k = bytes_eq name k.clause.map_name && matches k
 
 -- the clauses before the next one of the map are passed over
 skip : (name : List ℕ) (matches : Placed → Bool) (all : List ClauseView) (from : ℕ) (ks : List ClauseView) → ks ≡ drop from all
@@ -143,3 +138,30 @@ fewer n place next later is lt behind = subst (λ (o : Option ℕ). option_map_o
 -- the place that is found of a name has it
 pub named_at : (q : List ℕ) (names : List (List ℕ)) (from j : ℕ) → place_from q from names ≡ Some j → slice_get names j ≡ Some q
 named_at q names from j is = found_at q names from (drop from names) refl j is
+
+-- a clause that doesn't match is passed over
+pub passed_over : (name : List ℕ) (matches : Placed → Bool) (all : List ClauseView) (place : ℕ) (k : ClauseView) → slice_get all place ≡ Some k → matches (record { place = place; clause = k }) ≡ false → (later : Option ℕ)
+    → later ≡ place_from name (place + 1) (map (λ k. k.map_name) all) → rest_of (of_map name matches) all later ≡ rest_of (of_map name matches) all (Some place)
+passed_over name matches all place k at fails later is =
+    let this : Placed = record { place = place; clause = k } in
+    let test = of_map name matches in
+    let behind = least (filter test (placed_from (place + 1) (drop (place + 1) all))) in
+    ap (rest_of test all) is ∙ skip_from name matches all (place + 1)
+    ∙ sym (ap (λ (b : Bool). lower_of (cond b (Some this) None) behind) (none (bytes_eq name k.map_name) (matches this) fails))
+    ∙ sym (one_more test all place k at None)
+  where
+    none : (a b : Bool) → b ≡ false → (a && b) ≡ false
+    none true b e = e
+    none false b e = refl
+
+-- the place of the first of a name from a place on, if there is one: it has the name, and isn't before
+pub named_if : (q : List ℕ) (names : List (List ℕ)) (from : ℕ) (o : Option ℕ) → o ≡ place_from q from names → IfSome o (λ k. slice_get names k ≡ Some q)
+named_if q names from None e = tt
+named_if q names from (Some k) e = named_at q names from k (sym e)
+
+pub behind_if : (q : List ℕ) (names : List (List ℕ)) (from : ℕ) (o : Option ℕ) → o ≡ place_from q from names → IfSome o (λ k. from ≤ k)
+behind_if q names from None e = tt
+behind_if q names from (Some k) e = not_before (bytes_eq q) from (drop from names) k (sym e)
+
+pub at_some : (P : ℕ → Type 0) (o : Option ℕ) → IfSome o P → (k : ℕ) → o ≡ Some k → P k
+at_some P o is k e = subst (λ (o : Option ℕ). IfSome o P) e is

@@ -6,3 +6,5 @@ pub mod Spots
 pub mod Naming
 pub mod Tables
 pub mod SpotOrder
+pub mod Keeping
+pub mod Outside

@@ -3,11 +3,19 @@ use Rattle.std.specs.Prelude.{◌≡◌, ℕ, ◌+◌, ◌<◌, Bool, true, fals
 use Rattle.std.specs.List.{position_from}
 use Rattle.std.specs.Map.{lookup}
 use Rattle.std.specs.Str.{bytes_eq}
+use Rattle.std.specs.Option.{ForSome}
 use Rattle.nc_types.specs.Cidr.{Cidr, IsCidr, same_prefix}
 use Rattle.nc_types.specs.Config.{ConfigView, PrefixListView}
 use Rattle.nc_types.specs.declared.config.ListEntry.{ListEntry}
 use Rattle.nc_tables.specs.Policy.{is_of}
 use Rattle.nc_policy.specs.Statements.{aggregates_in, networks_in}
+use Rattle.nc_policy.specs.Kept.{AreKept}
+use Rattle.nc_policy.specs.Spans.{AreSpans}
+use Rattle.nc_policy.specs.Guards.{AreGuards}
+use Rattle.nc_policy.specs.declared.guards.Guard.{Guard}
+use Rattle.nc_policy.specs.declared.spans.Span.{Span}
+use Rattle.nc_policy.specs.declared.kept.Asking.{Asking}
+use Rattle.nc_policy.specs.declared.kept.Decided.{Decided}
 
 -- ---- entries by prefix and length
 
@@ -84,14 +92,17 @@ pub record RouterTables : Type 0 where
   pub lists : NameTable
   pub community_lists : NameTable
   pub maps : NameTable
-  pub entries : List EntryTable
+  pub entries : List (Option EntryTable)
   pub networks : List (Cidr × ℕ)
   pub aggregates : List (Cidr × ℕ)
+  pub spans : List Span
+  pub guards : List Guard
+  pub kept : List (Asking × Option Decided)
 
--- each of these prefix lists has its table
-pub record AreEntryTables (lists : List PrefixListView) (tables : List EntryTable) : Type 0 where
+-- each of these prefix lists has its table, or none
+pub record AreEntryTables (lists : List PrefixListView) (tables : List (Option EntryTable)) : Type 0 where
   pub count : length tables ≡ length lists
-  pub each : (k : ℕ) (l : PrefixListView) (t : EntryTable) → slice_get lists k ≡ Some l → slice_get tables k ≡ Some t → IsEntryTable l.entries t
+  pub each : (k : ℕ) (l : PrefixListView) (t : Option EntryTable) → slice_get lists k ≡ Some l → slice_get tables k ≡ Some t → ForSome t (IsEntryTable l.entries)
 
 pub record AreTablesOf (c : ConfigView) (t : RouterTables) : Type 0 where
   pub lists : IsNameTable (map (λ l. l.name) c.lists) t.lists
@@ -100,6 +111,9 @@ pub record AreTablesOf (c : ConfigView) (t : RouterTables) : Type 0 where
   pub entries : AreEntryTables c.lists t.entries
   pub networks : IsPrefixTable (map (λ n. n.prefix) (networks_in c)) t.networks
   pub aggregates : IsPrefixTable (map (λ a. a.prefix) (aggregates_in c)) t.aggregates
+  pub spans : AreSpans c t.spans
+  pub guards : AreGuards c t.guards
+  pub kept : AreKept c t.kept
 
 -- ---- the tables of a network
 

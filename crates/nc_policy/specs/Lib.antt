@@ -4,3 +4,7 @@ pub mod Seen
 pub mod Passing
 pub mod Statements
 pub mod Placing
+pub mod Kept
+pub mod Spans
+pub mod Guards
+pub mod Walks

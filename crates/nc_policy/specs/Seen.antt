@@ -1,6 +1,7 @@
 -- What the code keeps as tables.
 use Rattle.std.specs.Prelude.{ℕ, List, map, Option}
 use Rattle.std.specs.Global.{Vec}
+use Rattle.std.specs.Option.{option_map}
 use Rattle.std.specs.HashMap.{HashMap, get_by}
 use Rattle.std.specs.Str.{bytes_eq}
 use Rattle.nc_types.specs.Cidr.{Cidr}
@@ -14,6 +15,9 @@ use Rattle.nc_policy.specs.declared.spot_table.Placed.{Placed}
 use Rattle.nc_policy.specs.declared.index.ListIndex.{ListIndex}
 use Rattle.nc_policy.specs.declared.names.NameIndex.{NameIndex}
 use Rattle.nc_policy.specs.declared.router_index.RouterIndex.{RouterIndex}
+use Rattle.nc_policy.specs.declared.kept.Asking.{Asking}
+use Rattle.nc_policy.specs.declared.kept.Decided.{Decided}
+use Rattle.nc_policy.specs.declared.kept.Kept.{Kept}
 
 -- ---- entries by prefix and length
 
@@ -54,6 +58,11 @@ prefix_table x = x.first.entries
 abbrev pub IsPrefixIndex : List Cidr → PrefixIndex → Type 0
 IsPrefixIndex prefixes index = IsPrefixTable prefixes (prefix_table index)
 
+-- ---- what is kept of maps
+
+abbrev pub kept_table : Kept → List (Asking × Option Decided)
+kept_table x = x.decided.entries
+
 -- ---- the tables of a router
 
 abbrev pub router_tables : RouterIndex → RouterTables
@@ -62,9 +71,12 @@ router_tables x =
       lists = name_table x.names;
       community_lists = name_table x.community_names;
       maps = name_table x.maps;
-      entries = map entry_table x.lists.items;
+      entries = map (option_map entry_table) x.lists.items;
       networks = prefix_table x.networks;
       aggregates = prefix_table x.aggregates;
+      spans = x.spans.items;
+      guards = x.guards.items;
+      kept = kept_table x.kept;
     }
 
 abbrev pub IsIndexed : ConfigView → RouterIndex → Type 0

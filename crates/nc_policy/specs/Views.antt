@@ -1,5 +1,5 @@
 -- A candidate and a verdict of the code as those of the definition.
-use Rattle.std.specs.Prelude.{◌≡◌, ℕ, ◌<◌, Bool, true, nat_lt, List, [], length, map, Option, Some, position}
+use Rattle.std.specs.Prelude.{◌≡◌, ℕ, ◌<◌, Bool, true, nat_lt, List, [], length, map, Option, Some, position, slice_get}
 use Rattle.std.specs.Option.{option_map_or}
 use Rattle.std.specs.Str.{bytes_eq}
 use Rattle.nc_types.specs.Cidr.{Cidr}
@@ -40,6 +40,7 @@ candidate_view k = record { place = k.place; clause = clause_view k.clause.now }
 -- a clause of a router that matches a route, and the entries by which it does
 pub record IsCandidate (c : ConfigView) (r : Route) (k : Candidate) : Type 0 where
   pub within : k.place < length c.clauses
+  pub own : slice_get c.clauses k.place ≡ Some (clause_view k.clause.now)
   pub names : Some k.names ≡ policy.names_of c r (clause_view k.clause.now)
 
 -- a clause has a lower number than another one, or there is no other

@@ -1,16 +1,19 @@
 //! Which clause of a route map decides, and by which entries it matches.
 
-ghost use Rattle.std.specs.Prelude.{◌≡◌, ◌<◌, ◌+◌, ◌&&◌, length, map, slice_get};
-ghost use Rattle.std.specs.Prelude.{IfSome, Some, if◌then◌else◌};
+ghost use Rattle.std.specs.Prelude.{ℕ, List, ◌≡◌, ◌<◌, ◌≤◌, ◌+◌, ◌&&◌, length, map, slice_get};
+ghost use Rattle.std.specs.Prelude.{true, IfSome, None, Some, if◌then◌else◌};
 ghost use Rattle.std.specs.Option.{option_map};
-ghost use Rattle.nc_types.specs.Config.{ClauseView, config_view, clause_view};
+ghost use Rattle.nc_types.specs.Config.{ClauseView, ConfigView, config_view, clause_view};
 ghost use Rattle.nc_types.specs.WellFormed.{IsWellFormed};
 ghost use Rattle.nc_tables.specs.Policy.{prefix_place, community_place, first_place, met};
 ghost use Rattle.nc_tables.specs.Policy.{names_of, is_matching, deciding};
 ghost use Rattle.nc_policy.specs.Views.{asked, candidate_view, is_lower, map_names, IsCandidate};
 ghost use Rattle.nc_policy.specs.Indexes.{place_from};
+ghost use Rattle.nc_policy.specs.Kept.{IsDecided};
+ghost use Rattle.nc_policy.specs.Walks.{of_map, rest_of};
 ghost use Rattle.nc_policy.specs.Seen.{IsIndexed};
 
+use crate::kept::{Decided, candidate_of};
 use crate::lists::{community_place, prefix_place};
 use crate::router_index::RouterIndex;
 use nc_community::Held;
@@ -131,6 +134,20 @@ fn is_lower(clause: &Clause, best: Option<Candidate<'_>>) -> bool
     clause.number < best.clause.number
 }
 
+// Whether communities have none without which a clause matches no route, as far as the router's table
+// says so.
+fn is_unheld(index: Option<&RouterIndex>, place: usize, held: &Held) -> bool
+    ensures { (config : ConfigView) (k : ClauseView)
+        → IfSome index.entry (λ x. IsIndexed config x.now)
+        → slice_get config.clauses place ≡ Some k → result ≡ true
+        → met (community_place config held.now) k.community_lists ≡ None }
+{
+    match index {
+        Some(index) => index.is_unheld(place, held),
+        None => false,
+    }
+}
+
 // The better one of the clause at a place and the best one so far: the clause, where it has a lower
 // number and matches. Its lists are asked last.
 fn better<'a>(
@@ -154,7 +171,7 @@ fn better<'a>(
     ensures candidate { IfSome result (IsCandidate (config_view config.now) (asked prefix held.now)) }
 {
     let clause = &config.clauses[place];
-    if !is_lower(clause, best) {
+    if !is_lower(clause, best) || is_unheld(index, place, held) {
         return best;
     }
     match names_of(config, index, prefix, held, clause) {
@@ -208,8 +225,102 @@ fn clause_behind(
     }
 }
 
-/// The clause of a map with the least number that matches a route of a prefix with communities. The lists of a clause whose number isn't
-/// lower than that of a matching one before it aren't asked.
+// What is kept of a map and a prefix, if the router has tables.
+fn decided(
+    config: &RouterConfig,
+    index: Option<&RouterIndex>,
+    map: &[u8],
+    first: Option<usize>,
+    prefix: Prefix,
+) -> Option<Option<Decided>>
+    requires indexed { IfSome index (λ x. IsIndexed (config_view config.now) x.now) }
+    requires first { first ≡ place_from map.now 0 (map_names (config_view config.now)) }
+    ensures { IfSome result (λ d. (held : List ℕ)
+        → IsDecided (config_view config.now) map.now (asked prefix held) d) }
+{
+    let index = index?;
+    let first = first?;
+    if !index.kept.has(first) {
+        return None;
+    }
+    index.kept.get(first, prefix)
+}
+
+// Whether a prefix lies outside of what the prefix lists of a clause permit, as far as the router's
+// table says so.
+fn is_missed(index: Option<&RouterIndex>, place: usize, prefix: Prefix) -> bool
+    ensures { (config : ConfigView) (k : ClauseView)
+        → IfSome index.entry (λ x. IsIndexed config x.now)
+        → slice_get config.clauses place ≡ Some k → result ≡ true
+        → met (prefix_place config prefix) k.lists ≡ None }
+{
+    match index {
+        Some(index) => index.misses(place, prefix),
+        None => false,
+    }
+}
+
+// The next clause of a map, from one of it on, whose prefix lists may permit a prefix, as far as the
+// router's table says so.
+fn possible_from(
+    config: &RouterConfig,
+    index: Option<&RouterIndex>,
+    map: &[u8],
+    prefix: Prefix,
+    from: Option<usize>,
+) -> Option<usize>
+    requires indexed { IfSome index (λ x. IsIndexed (config_view config.now) x.now) }
+    requires named { IfSome from
+        (λ k. slice_get (map_names (config_view config.now)) k ≡ Some map.now) }
+    ensures named { IfSome result
+        (λ k. slice_get (map_names (config_view config.now)) k ≡ Some map.now) }
+    ensures rest { (held : List ℕ) → rest_of (of_map map.now
+        (λ k. is_matching (config_view config.now) (asked prefix held) k.clause))
+        (config_view config.now).clauses result
+        ≡ rest_of (of_map map.now
+        (λ k. is_matching (config_view config.now) (asked prefix held) k.clause))
+        (config_view config.now).clauses from }
+    ensures behind { (least : ℕ) → IfSome from (λ k. least ≤ k) → IfSome result (λ k. least ≤ k) }
+{
+    let mut next = from;
+    'clauses: while let Some(place) = next {
+        if !is_missed(index, place, prefix) {
+            return next;
+        }
+        next = clause_behind(config, index, map, place);
+    }
+    next
+}
+
+// The clause of a map with the least number that matches a route of a prefix with communities. The
+// lists of a clause whose number isn't lower than that of a matching one before it aren't asked.
+pub(crate) fn scanned<'a>(
+    config: &'a RouterConfig,
+    index: Option<&RouterIndex>,
+    map: &[u8],
+    first: Option<usize>,
+    prefix: Prefix,
+    held: &Held,
+) -> Option<Candidate<'a>>
+    requires indexed { IfSome index (λ x. IsIndexed (config_view config.now) x.now) }
+    requires first { first ≡ place_from map.now 0 (map_names (config_view config.now)) }
+    requires formed { IsWellFormed (config_view config.now) }
+    ensures deciding { option_map candidate_view result
+        ≡ deciding (config_view config.now) map.now (asked prefix held.now) }
+    ensures candidate { IfSome result (IsCandidate (config_view config.now) (asked prefix held.now)) }
+{
+    let mut best = None;
+    let mut next = possible_from(config, index, map, prefix, first);
+    'clauses: while let Some(place) = next {
+        best = better(config, index, prefix, held, place, best);
+        let behind = clause_behind(config, index, map, place);
+        next = possible_from(config, index, map, prefix, behind);
+    }
+    best
+}
+
+/// The clause of a map with the least number that matches a route of a prefix with communities: the
+/// one that is kept, if the router's table has one, else found by going over the clauses.
 pub(crate) fn deciding<'a>(
     config: &'a RouterConfig,
     index: Option<&RouterIndex>,
@@ -223,11 +334,9 @@ pub(crate) fn deciding<'a>(
         ≡ deciding (config_view config.now) map.now (asked prefix held.now) }
     ensures candidate { IfSome result (IsCandidate (config_view config.now) (asked prefix held.now)) }
 {
-    let mut best = None;
-    let mut next = first_clause(config, index, map);
-    'clauses: while let Some(place) = next {
-        best = better(config, index, prefix, held, place, best);
-        next = clause_behind(config, index, map, place);
+    let first = first_clause(config, index, map);
+    match decided(config, index, map, first, prefix) {
+        Some(decided) => candidate_of(config, decided),
+        None => scanned(config, index, map, first, prefix, held),
     }
-    best
 }

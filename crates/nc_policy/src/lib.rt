@@ -1,13 +1,20 @@
 //! What a route map makes of a route.
 //!
-//! The clauses of a map are gone over once; only a clause that can still decide has its lists
-//! asked, and a match carries the entries by which it came, so that no list is asked again.
-//! [`apply`] scans clauses and lists. [`Policies`] has tables of them, made once for a network: the
-//! clauses of a map are found one behind the other, a list by its name at one look-up, and the
-//! entry of a prefix list that decides at one binary search for each length of its entries'
-//! prefixes, at most 33. [`pass`] tells the same without making the route, without a set of
-//! communities and without memory: which clause let it pass, and by which entries. The tables find
-//! the network and the aggregate of a prefix too.
+//! [`apply`] scans clauses and lists: the clauses of a map are gone over once, only one that can
+//! still decide has its lists asked, and a match carries the entries by which it came, so that no
+//! list is asked again. [`Policies`] has tables, made once for a network. By them the clauses of a
+//! map are found one behind the other, and one is passed over without a list where the prefix lies
+//! outside of all that its prefix lists permit, or the route has none of the communities with which
+//! entries of its community lists begin. A list is found by its name at one look-up, and in one of
+//! more than a few entries that a clause names the entry that decides at one binary search for each
+//! length of its entries' prefixes, at most 33.
+//!
+//! What the maps of neighbor statements decide on the prefixes of the network's networks and
+//! aggregates is worked out once and kept, for maps that ask for no communities. That takes memory
+//! for each of a router's maps in use times the prefixes, and for no more than 1,048,576 decisions
+//! of a router; what isn't kept is found by going over the clauses. [`pass`] tells the same without
+//! making the route, without a set of communities and without memory: which clause let it pass, and
+//! by which entries. The tables find the network and the aggregate of a prefix too.
 //!
 //! The crate stands on `nc_types` for the configuration of a router, on `nc_tables` for routes and
 //! for the definition of what a map makes of one, and on `nc_community` for sets of communities.
@@ -15,7 +22,9 @@
 #![tactic(auto)]
 
 mod clauses;
+mod guards;
 mod index;
+mod kept;
 mod lists;
 mod names;
 mod passing;
@@ -23,6 +32,7 @@ mod policies;
 mod route_map;
 mod router_index;
 mod setting;
+mod spans;
 mod spot_table;
 mod statements;
 

@@ -18,16 +18,18 @@ ghost use Rattle.nc_policy.specs.Views.{verdict_view};
 use crate::passing::{Passing, pass_map};
 use crate::route_map::{Verdict, judge};
 use crate::router_index::RouterIndex;
+use crate::statements::{aggregates_in, networks_in};
 use nc_community::Held;
 use nc_tables::Route;
-use nc_types::{Network, Prefix, Reference, RouterId};
+use nc_types::{Network, Prefix, Reference, RouterConfig, RouterId};
 use std::alloc::{AllocError, Global};
 use std::marker::Model;
 
 /// The tables of the maps and lists of a network's routers, and of their networks and aggregates.
 /// They are made once, and by them the clauses of a map are found one behind the other, a list by
-/// its name and a network or an aggregate by its prefix at one look-up, and what a prefix list says
-/// of a prefix at one binary search for each length that prefixes of its entries have.
+/// its name and a network or an aggregate by its prefix at one look-up, and what a longer prefix list
+/// says of a prefix at one binary search for each length that prefixes of its entries have. What maps
+/// of neighbor statements that ask for no communities decide on the network's prefixes is kept.
 #[derive(Drop)]
 pub struct Policies {
     routers: Vec<RouterIndex>,
@@ -43,6 +45,23 @@ impl Model for Policies {
     ghost view = { λ p. map router_tables p.routers.items };
 }
 
+// The prefixes of the networks and aggregates of routers, each once: no other prefix begins
+// anywhere.
+fn prefixes_in(alloc: Global, configs: &[RouterConfig]) -> Result<Vec<Prefix>, AllocError> {
+    let mut prefixes = Vec::new(alloc);
+    'routers: for config in configs {
+        prefixes.extend(networks_in(config).iter().map(|network| network.prefix))?;
+        prefixes.extend(
+            aggregates_in(config)
+                .iter()
+                .map(|aggregate| aggregate.prefix),
+        )?;
+    }
+    prefixes.sort()?;
+    prefixes.dedup();
+    Ok(prefixes)
+}
+
 impl Policies {
     /// The tables of a network.
     ///
@@ -53,9 +72,10 @@ impl Policies {
         ensures { IfOk result (ArePolicies network.now) }
     {
         let configs = network.routers();
+        let prefixes = prefixes_in(alloc, configs)?;
         let mut routers = Vec::with_capacity(alloc, configs.len())?;
         'routers: for config in configs {
-            routers.push(RouterIndex::new(alloc, config)?)?;
+            routers.push(RouterIndex::new(alloc, config, &prefixes)?)?;
         }
         Ok(Policies { routers })
     }

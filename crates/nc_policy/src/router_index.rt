@@ -1,18 +1,25 @@
 //! The tables of one router: of its lists and maps, and of its networks and aggregates.
 
-ghost use Rattle.std.specs.Prelude.{◌≡◌, map, IfOk, IfSome, Some, slice_get};
-ghost use Rattle.nc_types.specs.Config.{ConfigView, PrefixListView, config_view, list_view};
+ghost use Rattle.std.specs.Prelude.{◌≡◌, map, true, IfOk, IfSome, None, Some, slice_get};
+ghost use Rattle.std.specs.Option.{option_map};
+ghost use Rattle.nc_types.specs.Config.{ClauseView, ConfigView, PrefixListView, config_view, list_view};
+ghost use Rattle.nc_tables.specs.Policy.{community_place, met, prefix_place};
+ghost use Rattle.nc_types.specs.WellFormed.{IsWellFormed};
 ghost use Rattle.nc_policy.specs.Indexes.{AreEntryTables};
 ghost use Rattle.nc_policy.specs.Seen.{entry_table, IsIndexed, IsIndexOf};
 
+use crate::guards::{Guard, clause_guards};
 use crate::index::ListIndex;
+use crate::kept::{Kept, kept_of};
 use crate::names::NameIndex;
+use crate::spans::{Span, clause_spans};
 use crate::statements::{PrefixIndex, aggregates_in, networks_in};
-use nc_types::{PrefixList, RouterConfig};
+use nc_community::Held;
+use nc_types::{Prefix, PrefixList, Reference, RouterConfig};
 use std::alloc::{AllocError, Global};
 
-/// The tables of a router's lists and maps: their places by name, and of each prefix list what it
-/// says; and those of its networks and aggregates, their places by prefix.
+/// The tables of a router's lists and maps: their places by name, and of each longer prefix list that
+/// a clause asks what it says; and those of its networks and aggregates, their places by prefix.
 #[derive(Drop)]
 pub(crate) struct RouterIndex {
     pub(crate) names: NameIndex,
@@ -20,30 +27,84 @@ pub(crate) struct RouterIndex {
     pub(crate) maps: NameIndex,
     pub(crate) networks: PrefixIndex,
     pub(crate) aggregates: PrefixIndex,
-    pub(crate) lists: Vec<ListIndex>,
+    pub(crate) lists: Vec<Option<ListIndex>>,
+    pub(crate) spans: Vec<Span>,
+    pub(crate) guards: Vec<Guard>,
+    pub(crate) kept: Kept,
 }
 
-// The tables of prefix lists, in their order.
-fn list_indexes(alloc: Global, lists: &[PrefixList]) -> Result<Vec<ListIndex>, AllocError>
+// Up to how many entries a list is gone through without a table.
+const FEW_ENTRIES: usize = 8;
+
+// Of which prefix lists clauses ask, by their places.
+fn asked_lists(
+    alloc: Global,
+    config: &RouterConfig,
+    names: &NameIndex,
+) -> Result<Vec<bool>, AllocError> {
+    let mut asked = vec![in alloc; false; config.lists.len()]?;
+    'clauses: for clause in &config.clauses {
+        mark(&mut asked, names, &clause.lists);
+    }
+    Ok(asked)
+}
+
+// Marks the lists that references name.
+fn mark(asked: &mut [bool], names: &NameIndex, references: &[Reference]) {
+    'references: for reference in references {
+        let Some(place) = names.place(reference.name.bytes()) else {
+            continue;
+        };
+        if place < asked.len() {
+            asked[place] = true;
+        }
+    }
+}
+
+// The table of a prefix list, if a clause asks it and it has more than a few entries.
+fn list_index(
+    alloc: Global,
+    list: &PrefixList,
+    is_asked: bool,
+) -> Result<Option<ListIndex>, AllocError>
+    ensures { IfOk result (λ index. IfSome index (IsIndexOf list.now.entries.items)) }
+{
+    if !is_asked || list.entries.len() <= FEW_ENTRIES {
+        return Ok(None);
+    }
+    let index = ListIndex::new(alloc, &list.entries)?;
+    Ok(Some(index))
+}
+
+// The tables of prefix lists, in their order; none of a list that isn't asked.
+fn list_indexes(
+    alloc: Global,
+    lists: &[PrefixList],
+    asked: &[bool],
+) -> Result<Vec<Option<ListIndex>>, AllocError>
     ensures { IfOk result (λ indexes.
-        AreEntryTables (map list_view lists.now) (map entry_table indexes.items)) }
+        AreEntryTables (map list_view lists.now) (map (option_map entry_table) indexes.items)) }
 {
     let mut indexes = Vec::with_capacity(alloc, lists.len())?;
-    'lists: for list in lists {
-        indexes.push(ListIndex::new(alloc, &list.entries)?)?;
+    'lists: for (place, list) in lists.iter().enumerate() {
+        let is_asked = asked.get(place).copied().unwrap_or(false);
+        indexes.push(list_index(alloc, list, is_asked)?)?;
     }
     Ok(indexes)
 }
 
 impl RouterIndex {
-    /// The tables of a router.
-    pub(crate) fn new(alloc: Global, config: &RouterConfig) -> Result<RouterIndex, AllocError>
+    // The tables of a router, with nothing kept of its maps.
+    fn bare(alloc: Global, config: &RouterConfig) -> Result<RouterIndex, AllocError>
         ensures { IfOk result (IsIndexed (config_view config.now)) }
     {
         let names = NameIndex::new(alloc, &config.lists)?;
         let community_names = NameIndex::new(alloc, &config.community_lists)?;
         let maps = NameIndex::new(alloc, &config.clauses)?;
-        let lists = list_indexes(alloc, &config.lists)?;
+        let asked = asked_lists(alloc, config, &names)?;
+        let lists = list_indexes(alloc, &config.lists, &asked)?;
+        let spans = clause_spans(alloc, config, &names)?;
+        let guards = clause_guards(alloc, config, &community_names)?;
         let networks = PrefixIndex::new(alloc, networks_in(config))?;
         let aggregates = PrefixIndex::new(alloc, aggregates_in(config))?;
         Ok(RouterIndex {
@@ -53,16 +114,61 @@ impl RouterIndex {
             networks,
             aggregates,
             lists,
+            spans,
+            guards,
+            kept: Kept::new(alloc),
         })
     }
 
-    /// The table of the prefix list at a place.
+    /// The tables of a router. What its maps decide on these prefixes is kept.
+    pub(crate) fn new(
+        alloc: Global,
+        config: &RouterConfig,
+        prefixes: &[Prefix],
+    ) -> Result<RouterIndex, AllocError>
+        requires { IsWellFormed (config_view config.now) }
+        ensures { IfOk result (IsIndexed (config_view config.now)) }
+    {
+        let mut tables = RouterIndex::bare(alloc, config)?;
+        tables.kept = kept_of(alloc, config, &tables, prefixes)?;
+        Ok(tables)
+    }
+
+    /// The table of the prefix list at a place, if it has one.
     pub(crate) fn list(&self, place: usize) -> Option<&ListIndex>
         ensures { (config : ConfigView) (list : PrefixListView) → IsIndexed config self.now
             → slice_get config.lists place ≡ Some list
             → IfSome result (λ index. IsIndexOf list.entries index.now) }
     {
-        let index = self.lists.get(place)?;
-        Some(index)
+        match self.lists.get(place) {
+            Some(Some(index)) => Some(index),
+            _ => None,
+        }
+    }
+
+    /// Whether a prefix lies outside of what the prefix lists of the clause at a place permit. Where
+    /// it does, the clause matches no route of it.
+    pub(crate) fn misses(&self, place: usize, prefix: Prefix) -> bool
+        ensures { (config : ConfigView) (k : ClauseView) → IsIndexed config self.now
+            → slice_get config.clauses place ≡ Some k → result ≡ true
+            → met (prefix_place config prefix) k.lists ≡ None }
+    {
+        match self.spans.get(place) {
+            Some(span) => span.misses(prefix.addr()),
+            None => false,
+        }
+    }
+
+    /// Whether communities have none without which the clause at a place matches no route. Takes no
+    /// memory.
+    pub(crate) fn is_unheld(&self, place: usize, held: &Held) -> bool
+        ensures { (config : ConfigView) (k : ClauseView) → IsIndexed config self.now
+            → slice_get config.clauses place ≡ Some k → result ≡ true
+            → met (community_place config held.now) k.community_lists ≡ None }
+    {
+        match self.guards.get(place) {
+            Some(guard) => guard.is_unheld(held),
+            None => false,
+        }
     }
 }

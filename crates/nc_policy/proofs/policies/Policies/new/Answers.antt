@@ -5,6 +5,8 @@ use Rattle.nc_types.specs.Config.{ConfigView, config_view}
 use Rattle.nc_policy.specs.declared.router_index.RouterIndex.{RouterIndex}
 use Rattle.nc_policy.specs.Indexes.{AreTablesOf}
 use Rattle.nc_policy.specs.Seen.{router_tables, IsIndexed}
+use Rattle.nc_types.specs.WellFormed.{IsWellFormed}
+use Rattle.nc_types.proofs.Members.{all_in, in_by_get}
 use Rattle.nc_policy.proofs.Permitting.{seen_at}
 use Rattle.nc_policy.proofs.Tables.{pushed, each_seen}
 use Rattle.nc_policy.proofs.policies.Policies.new.Goals as goal
@@ -31,3 +33,12 @@ returns c =
       count = length-map c.routers.routers.items router_tables ∙ c.routers.invariant.count ∙ all ∙ sym (length-map configs config_view) ∙ ap (length {A = ConfigView}) c.routers-configs.ensures.routers;
       each = each_seen AreTablesOf router_tables c.args.network.now c.routers.routers.items (subst (λ (cs : List ConfigView). (k : ℕ) (r : ConfigView) (x : RouterIndex) → slice_get cs k ≡ Some r → slice_get c.routers.routers.items k ≡ Some x → IsIndexed r x) c.routers-configs.ensures.routers c.routers.invariant.each);
     }
+
+pub new-requires : goal.new-requires
+new-requires c =
+    let configs = c.routers-configs.result.now in
+    let config = config_view c.config-item.result in
+    let place = c.routers.config-index in
+    let within : place < length configs = omega arith in
+    let at = seen_at config_view configs configs place c.config-item.result refl within c.config-item.is in
+    all_in IsWellFormed c.args.network.now c.routers-configs.ensures.valid.each config (in_by_get c.args.network.now place config (sym (ap (λ (cs : List ConfigView). slice_get cs place) c.routers-configs.ensures.routers) ∙ at))

@@ -1,12 +1,14 @@
 use Rattle.std.proofs.Common.{List, map, subst}
-use Rattle.nc_types.specs.Config.{PrefixListView, CommunityListView, ClauseView, list_view, community_list_view, clause_view}
+use Rattle.std.specs.Option.{option_map}
+use Rattle.nc_types.specs.Config.{PrefixListView, CommunityListView, ClauseView, list_view, community_list_view, clause_view, config_view}
 use Rattle.nc_types.specs.declared.config.NetworkStatement.{NetworkStatement}
 use Rattle.nc_types.specs.declared.config.AggregateStatement.{AggregateStatement}
 use Rattle.nc_types.specs.declared.config.PrefixList.{PrefixList}
 use Rattle.nc_policy.specs.Indexes.{AreEntryTables}
-use Rattle.nc_policy.specs.Seen.{entry_table, IsPrefixIndex}
+use Rattle.nc_policy.specs.Seen.{entry_table, kept_table, IsPrefixIndex}
+use Rattle.nc_policy.proofs.Keeping.{nothing_kept}
 use Rattle.nc_policy.proofs.Naming.{names_seen}
-use Rattle.nc_policy.proofs.router_index.RouterIndex.new.Goals as goal
+use Rattle.nc_policy.proofs.router_index.RouterIndex.bare.Goals as goal
 
 pub returns : goal.returns
 returns c =
@@ -17,7 +19,18 @@ returns c =
           names_seen (λ (l : CommunityListView). l.name) community_list_view c.deref-2.result.now config.community_lists.items c.deref-2.ensures.value c.in_ok-community_names.community_names
           c.in_ok-community_names.ensures;
       maps = names_seen (λ (k : ClauseView). k.map_name) clause_view c.deref-3.result.now config.clauses.items c.deref-3.ensures.value c.in_ok-maps.maps c.in_ok-maps.ensures;
-      entries = subst (λ (ls : List PrefixList). AreEntryTables (map list_view ls) (map entry_table c.in_ok-lists.lists.items)) c.deref-4.ensures.value c.in_ok-lists.ensures;
+      entries = subst (λ (ls : List PrefixList). AreEntryTables (map list_view ls) (map (option_map entry_table) c.in_ok-lists.lists.items)) c.deref-4.ensures.value c.in_ok-lists.ensures;
       networks = subst (λ (ns : List NetworkStatement). IsPrefixIndex (map (λ n. n.prefix) ns) c.in_ok-networks.networks) c.networks_in.ensures c.in_ok-networks.ensures;
       aggregates = subst (λ (gs : List AggregateStatement). IsPrefixIndex (map (λ a. a.prefix) gs) c.in_ok-aggregates.aggregates) c.aggregates_in.ensures c.in_ok-aggregates.ensures;
+      spans = c.in_ok-spans.ensures;
+      guards = c.in_ok-guards.ensures;
+      kept = nothing_kept (config_view config) (kept_table c.new-6.result) c.new-6.ensures;
     }
+
+pub clause_spans-requires : goal.clause_spans-requires
+clause_spans-requires c = names_seen (λ (l : PrefixListView). l.name) list_view c.deref.result.now c.args.config.now.lists.items c.deref.ensures.value c.in_ok-names.names c.in_ok-names.ensures
+
+pub clause_guards-requires : goal.clause_guards-requires
+clause_guards-requires c =
+    names_seen (λ (l : CommunityListView). l.name) community_list_view c.deref-2.result.now c.args.config.now.community_lists.items c.deref-2.ensures.value c.in_ok-community_names.community_names
+    c.in_ok-community_names.ensures

@@ -5,7 +5,7 @@ use Rattle.nc_types.specs.Config.{config_view, clause_view}
 use Rattle.nc_tables.specs.Policy.{Placed, is_matching, deciding}
 use Rattle.nc_policy.specs.Views.{asked, candidate_view, map_names, IsCandidate}
 use Rattle.nc_policy.proofs.Deciding.{lower_of, rest_of, of_map}
-use Rattle.nc_policy.proofs.clauses.deciding.Given as goal
+use Rattle.nc_policy.proofs.clauses.scanned.Given as goal
 
 -- the best clause so far and the clauses from the next one on give the deciding one
 abbrev pub invariant-clauses : goal.invariant-clauses
