@@ -1,41 +1,64 @@
-//! The ways of packets for one address, which are found once for all facts of it.
+//! The ways of packets for one address, which are found once for all facts and tests of it.
 
-ghost use Rattle.std.specs.Prelude.{◌≡◌, IfOk};
-ghost use Rattle.std.specs.Option.{ForSome};
+ghost use Rattle.std.specs.Prelude.{◌≡◌, IfOk, OnOk};
+ghost use Rattle.nc_tables.specs.State.{IsState};
+ghost use Rattle.nc_trace.specs.Traced.{IsIncluded};
 ghost use Rattle.nc_rules.specs.Known.{IsKnown};
 
 use nc_tables::Stable;
 use nc_trace::TracedTo;
-use nc_types::Addr;
+use nc_types::{Addr, RouterId};
 use std::alloc::{AllocError, Global};
 
-/// The ways of all routers for an address.
+/// The ways for an address, from those routers from which they were asked for.
 #[derive(Drop)]
 pub(crate) struct Known {
     pub(crate) addr: Addr,
     pub(crate) traced: TracedTo,
 }
 
-/// The ways for an address: those that are known, if they are for it, or else they are found.
-///
-/// # Errors
-///
-/// Memory that runs out.
-pub(crate) fn known_to(
-    alloc: Global,
-    state: &Stable,
-    known: Option<Known>,
-    addr: Addr,
-) -> Result<Known, AllocError>
-    requires { ForSome known (IsKnown state.now) }
-    ensures known { IfOk result (IsKnown state.now) }
-    ensures addr { IfOk result (λ k. k.addr ≡ addr) }
-{
-    if let Some(ways) = known {
-        if ways.addr == addr {
-            return Ok(ways);
+impl Known {
+    /// None yet. Takes no memory.
+    pub(crate) fn new(alloc: Global, state: &Stable) -> Known
+        ensures { IsKnown state.now result }
+    {
+        let _state = state.network();
+        Known {
+            addr: Addr(0),
+            traced: TracedTo::new(alloc),
         }
     }
-    let traced = TracedTo::new(alloc, state, addr)?;
-    Ok(Known { addr, traced })
+
+    // Turns to an address: the ways for another one are let go of.
+    fn turn_to(&mut self, state: &Stable, addr: Addr)
+        requires { IsKnown state.now self.old }
+        ensures known { IsKnown state.now self.new }
+        ensures addr { self.new.addr ≡ addr }
+    {
+        let _state = state.network();
+        if self.addr != addr {
+            self.traced.clear();
+            self.addr = addr;
+        }
+    }
+
+    /// Knows the ways from a router for an address; those for another one are let go of.
+    ///
+    /// # Errors
+    ///
+    /// Memory that runs out.
+    pub(crate) fn include(
+        &mut self,
+        state: &Stable,
+        router: RouterId,
+        addr: Addr,
+    ) -> Result<(), AllocError>
+        requires { IsKnown state.now self.old }
+        ensures known { IsKnown state.now self.new }
+        ensures addr { self.new.addr ≡ addr }
+        ensures included { OnOk result (IsIncluded state.now self.new.traced router.0) }
+    {
+        self.turn_to(state, addr);
+        self.traced.include(state, self.addr, router)
+    }
 }

@@ -1,20 +1,21 @@
-ghost use Rattle.std.specs.Prelude.{◌≡◌, ◌<◌, ◌^◌, IfOk};
-ghost use Rattle.std.specs.Option.{ForSome};
+ghost use Rattle.std.specs.Prelude.{◌≡◌, ◌<◌, ◌^◌, All, IfOk, true};
 ghost use Rattle.nc_tables.specs.State.{StateView, IsState};
 ghost use Rattle.nc_policy.specs.Indexes.{ArePolicies};
 ghost use Rattle.nc_underlay.specs.Kept.{AreKept};
 ghost use Rattle.nc_graph.specs.Flow.{IsFlow};
+ghost use Rattle.nc_fact.specs.Tested.{tested_facts};
 ghost use Rattle.nc_rules.specs.Known.{IsKnown};
 ghost use Rattle.nc_rules.specs.Rules.{flow_of};
 
-use crate::known::{Known, known_to};
-use nc_fact::Fact;
+use crate::known::Known;
+use nc_fact::{Fact, facts_of, packet_of};
 use nc_graph::inference::Inference;
 use nc_graph::node::NodeKind;
 use nc_policy::Policies;
-use nc_rules_route::{path_address, path_parents, route_parents, rules_are_lawful};
+use nc_rules_route::{path_parents, path_start, route_parents, rules_are_lawful};
 use nc_stable::SettledNetwork;
 use nc_tables::Stable;
+use nc_types::TestCommand;
 use nc_underlay::DistancesByAddr;
 use std::alloc::{AllocError, Global};
 
@@ -28,20 +29,20 @@ pub fn rules_make_a_flow()
 
 /// The rules of a network: its state and the tables of its maps, both of which they own as settling
 /// made them, and how many facts were asked for. Nothing gives the state back, so whatever is
-/// inferred of it is counted here. They keep the ways of packets for one address, that of the fact of
-/// such a way that was inferred last, and over how few hops each neighbor address is reached of which a
+/// inferred of it is counted here. They keep the ways of packets for one address, that of the test or
+/// the fact of such a way that was asked for last, and over how few hops each neighbor address is reached of which a
 /// fact was inferred; at first there are none.
 #[derive(Drop)]
 pub struct Rules {
     alloc: Global,
     state: Stable,
     policies: Policies,
-    known: Option<Known>,
+    known: Known,
     distances: DistancesByAddr,
     asked: u64,
     ghost lawful: { IsFlow (flow_of state) },
     ghost tables: { ArePolicies state.routers policies },
-    ghost right: { ForSome known (IsKnown state) },
+    ghost right: { IsKnown state known },
     ghost kept: { AreKept state.routers state.base distances },
     ghost counted: { asked < 2 ^ 64 },
 }
@@ -58,11 +59,12 @@ impl Rules {
         rules_make_a_flow();
         let SettledNetwork { state, policies } = settled;
         let _valid = state.network();
+        let known = Known::new(alloc, &state);
         Rules {
             alloc,
             state,
             policies,
-            known: None,
+            known,
             distances: DistancesByAddr::new(alloc),
             asked: 0,
         }
@@ -80,6 +82,31 @@ impl Rules {
         ensures { ArePolicies (state_of self.now).routers result.now }
     {
         &self.policies
+    }
+
+    /// The facts that a test tests, in order: those that it names and that hold. Nothing is counted.
+    ///
+    /// # Errors
+    ///
+    /// Memory that runs out.
+    #[tactic(auto, unfolding(crate::specs::Rules::flow_of))]
+    pub fn facts_of(&mut self, test: &TestCommand) -> Result<Vec<Fact>, AllocError>
+        ensures facts { IfOk result (λ facts. facts.items ≡ tested_facts (state_of self.old) test.now) }
+        ensures hold { IfOk result (λ facts.
+            All (λ f. (flow_of (state_of self.old)).holds f ≡ true) facts.items) }
+        ensures state { state_of self.new ≡ state_of self.old }
+        ensures asked { asked_of self.new ≡ asked_of self.old }
+    {
+        if let Some((router, addr)) = packet_of(&self.state, test) {
+            self.known.include(&self.state, router, addr)?;
+        }
+        facts_of(
+            self.alloc,
+            &self.state,
+            &self.policies,
+            &self.known.traced,
+            test,
+        )
     }
 
     /// How many facts were asked for so far, up to the largest `u64`, at which the count stays.
@@ -108,12 +135,10 @@ impl Inference for Rules {
     #[tactic(auto, unfolding(crate::specs::Rules::flow_of))]
     fn infer(&mut self, fact: &Fact, into: &mut Vec<Fact>) -> Result<NodeKind, AllocError> {
         self.asked = self.asked.saturating_add(1);
-        let kind = match path_address(fact) {
-            Some(addr) => {
-                let known = known_to(self.alloc, &self.state, self.known.take(), addr)?;
-                let kind = path_parents(&self.state, &known.traced, fact, into);
-                self.known = Some(known);
-                kind?
+        let kind = match path_start(fact) {
+            Some((router, addr)) => {
+                self.known.include(&self.state, router, addr)?;
+                path_parents(&self.state, &self.known.traced, fact, into)?
             }
             None => {
                 let distances = &mut self.distances;

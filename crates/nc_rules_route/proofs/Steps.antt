@@ -12,11 +12,11 @@ use Rattle.nc_trace.specs.declared.alternative.Alternative.{Alternative}
 use Rattle.nc_trace.specs.Views.{alternative_view}
 use Rattle.nc_fact.specs.declared.fact.Fact.{Fact}
 use Rattle.nc_fact.specs.declared.fact.Fact.TheVariants.{Connected, Step, Trace, AllStep, AllTrace}
-use Rattle.nc_rules_route.specs.Parents.{path_address, step_fact, ways_out, steps_of, own_or}
+use Rattle.nc_rules_route.specs.Parents.{path_start, step_fact, ways_out, steps_of, own_or}
 use Rattle.nc_rules_route.proofs.Ranges.{made_between, each_kept}
 
--- no other fact has an address to which packets go
-pub no_other : (P : Addr → Type 0) (f : Fact) → MatchOption (path_address f) ⊥ P
+-- no other fact is of the way of a packet
+pub no_other : (P : RouterId × Addr → Type 0) (f : Fact) → MatchOption (path_start f) ⊥ P
     → ((router : RouterId) (addr : Addr) (way hops : ℕ) → f ≡ Step router addr way hops → ⊥) → ((router : RouterId) (addr : Addr) (hops : ℕ) → f ≡ Trace router addr hops → ⊥)
     → ((router : RouterId) (addr : Addr) (way hops : ℕ) → f ≡ AllStep router addr way hops → ⊥) → ((router : RouterId) (addr : Addr) (hops : ℕ) → f ≡ AllTrace router addr hops → ⊥) → ⊥
 no_other P (Step router addr way hops) has step trace all_step all_trace = step router addr way hops refl

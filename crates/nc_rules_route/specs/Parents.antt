@@ -56,13 +56,13 @@ kind (AllTrace router addr hops) = Every
 
 -- ---- ways of packets over main tables
 
--- the address of such a way; other facts have none
-abbrev pub path_address : Fact → Option Addr
-path_address (Step router addr way hops) = Some addr
-path_address (Trace router addr hops) = Some addr
-path_address (AllStep router addr way hops) = Some addr
-path_address (AllTrace router addr hops) = Some addr
-path_address f = None
+-- the router from which such a way leads on, and the address; other facts have none
+abbrev pub path_start : Fact → Option (RouterId × Addr)
+path_start (Step router addr way hops) = Some (router, addr)
+path_start (Trace router addr hops) = Some (router, addr)
+path_start (AllStep router addr way hops) = Some (router, addr)
+path_start (AllTrace router addr hops) = Some (router, addr)
+path_start f = None
 
 -- that a packet arrives by every way, or by some
 abbrev pub trace_fact : Bool → RouterId → Addr → ℕ → Fact

@@ -5,7 +5,7 @@
 //! `nc_trace` for the ways of packets, and on `nc_graph` for the ways in which a fact
 //! may follow from others. Its contract promises that [`route_parents`] and, for the facts of packets' ways,
 //! [`path_parents`] give of each fact that holds exactly the parents and the kind that the rules define; that
-//! [`path_address`] tells these facts from the others; and that the rules make a flow
+//! [`path_start`] tells these facts from the others, and from which router and for which address each is; and that the rules make a flow
 //! graph: each parent holds and has a lower rank, and what follows from any of its parents has one.
 #![tactic(auto)]
 
@@ -22,4 +22,4 @@ mod rows;
 mod sessions;
 
 pub use laws::rules_are_lawful;
-pub use parents::{path_address, path_parents, route_parents};
+pub use parents::{path_parents, path_start, route_parents};

@@ -1,11 +1,11 @@
 //! From which facts a fact about routes follows, and how.
 
 ghost use Rattle.std.specs.Prelude.{◌≡◌, ◌++◌, ◌≤◌, true, None, length, take, is_ok, IfOk, MatchOption, OnOk, if◌then◌else◌};
-ghost use Rattle.nc_trace.specs.Traced.{IsTracedTo};
+ghost use Rattle.nc_trace.specs.Traced.{IsIncluded, IsTracedTo};
 ghost use Rattle.nc_underlay.specs.Kept.{AreKept};
 ghost use Rattle.nc_policy.specs.Indexes.{ArePolicies};
 ghost use Rattle.nc_fact.specs.Facts.{holds};
-ghost use Rattle.nc_rules_route.specs.Parents.{kind, parents, path_address};
+ghost use Rattle.nc_rules_route.specs.Parents.{kind, parents, path_start};
 
 use crate::begun::{push_aggregate, push_contrib, push_origin};
 use crate::messages::{push_chosen, push_entry, push_message};
@@ -19,7 +19,7 @@ use nc_graph::node::NodeKind;
 use nc_policy::Policies;
 use nc_tables::Stable;
 use nc_trace::TracedTo;
-use nc_types::Addr;
+use nc_types::{Addr, RouterId};
 use nc_underlay::DistancesByAddr;
 use std::alloc::AllocError;
 
@@ -50,13 +50,14 @@ fn kind_of(fact: &Fact) -> NodeKind
     }
 }
 
-/// The address of a packet of whose way over main tables a fact is; `None` of any other fact.
-pub fn path_address(fact: &Fact) -> Option<Addr>
-    ensures { result ≡ path_address fact.now }
+/// The router from which a packet goes on, of whose way over main tables a fact is, and its address; `None` of any
+/// other fact.
+pub fn path_start(fact: &Fact) -> Option<(RouterId, Addr)>
+    ensures { result ≡ path_start fact.now }
 {
     match *fact {
-        Fact::Step(_, addr, _, _) | Fact::AllStep(_, addr, _, _) => Some(addr),
-        Fact::Trace(_, addr, _) | Fact::AllTrace(_, addr, _) => Some(addr),
+        Fact::Step(router, addr, _, _) | Fact::AllStep(router, addr, _, _) => Some((router, addr)),
+        Fact::Trace(router, addr, _) | Fact::AllTrace(router, addr, _) => Some((router, addr)),
         _ => None,
     }
 }
@@ -73,7 +74,7 @@ fn push_parents(
     requires policies { ArePolicies state.now.routers policies.now }
     requires distances { AreKept state.now.routers state.now.base distances.old }
     requires holds { holds state.now fact.now ≡ true }
-    requires other { path_address fact.now ≡ None }
+    requires other { path_start fact.now ≡ None }
     ensures distances { AreKept state.now.routers state.now.base distances.new }
     ensures ok { OnOk result (into.new.items ≡ into.old.items ++ parents state.now fact.now) }
     ensures kept { take (length into.old.items) into.new.items ≡ into.old.items }
@@ -106,7 +107,7 @@ fn push_parents(
     }
 }
 
-// Appends the parents of a fact of the way of a packet for an address to which all ways are known.
+// Appends the parents of a fact of the way of a packet whose router is included in the ways for its address.
 #[tactic(auto, unfolding(crate::specs::Parents::parents))]
 fn push_path_parents(
     state: &Stable,
@@ -114,8 +115,8 @@ fn push_path_parents(
     fact: &Fact,
     into: &mut Vec<Fact>,
 ) -> Result<(), AllocError>
-    requires traced { MatchOption (path_address fact.now) ⊥
-        (λ addr. IsTracedTo state.now addr.0 traced.now) }
+    requires traced { MatchOption (path_start fact.now) ⊥ (λ start.
+        IsTracedTo state.now start.1.0 traced.now × IsIncluded state.now traced.now start.0.0) }
     ensures ok { OnOk result (into.new.items ≡ into.old.items ++ parents state.now fact.now) }
     ensures kept { take (length into.old.items) into.new.items ≡ into.old.items }
 {
@@ -174,7 +175,7 @@ pub fn route_parents(
     requires policies { ArePolicies state.now.routers policies.now }
     requires distances { AreKept state.now.routers state.now.base distances.old }
     requires holds { holds state.now fact.now ≡ true }
-    requires other { path_address fact.now ≡ None }
+    requires other { path_start fact.now ≡ None }
     ensures distances { AreKept state.now.routers state.now.base distances.new }
     ensures kind { IfOk result (λ k. k ≡ kind fact.now) }
     ensures parents { into.new.items
@@ -185,8 +186,7 @@ pub fn route_parents(
     kind_behind(fact, before, pushed, into)
 }
 
-/// The same of a fact of the way of a packet over main tables, for an address to which the ways of all routers are
-/// known.
+/// The same of a fact of the way of a packet over main tables, whose router is included in the ways for its address.
 ///
 /// # Errors
 ///
@@ -197,8 +197,8 @@ pub fn path_parents(
     fact: &Fact,
     into: &mut Vec<Fact>,
 ) -> Result<NodeKind, AllocError>
-    requires traced { MatchOption (path_address fact.now) ⊥
-        (λ addr. IsTracedTo state.now addr.0 traced.now) }
+    requires traced { MatchOption (path_start fact.now) ⊥ (λ start.
+        IsTracedTo state.now start.1.0 traced.now × IsIncluded state.now traced.now start.0.0) }
     ensures kind { IfOk result (λ k. k ≡ kind fact.now) }
     ensures parents { into.new.items
         ≡ (if is_ok result then into.old.items ++ parents state.now fact.now else into.old.items) }

@@ -1,10 +1,8 @@
 //! What the ways of packets over main tables follow from.
 
-ghost use Rattle.std.specs.Prelude.{◌≡◌, ◌++◌, [], ◌∷◌, ℕ, length, map, take, slice_get, IfOk, OnOk};
+ghost use Rattle.std.specs.Prelude.{◌≡◌, ◌++◌, [], ◌∷◌, length, map, take, slice_get, IfOk, OnOk};
 ghost use Rattle.std.specs.Option.{option_map_or};
-ghost use Rattle.nc_tables.specs.Forwarding.{step_at};
-ghost use Rattle.nc_tables.specs.State.{StateView};
-ghost use Rattle.nc_trace.specs.Traced.{IsTracedTo};
+ghost use Rattle.nc_trace.specs.Traced.{IsIncluded, IsTracedTo};
 ghost use Rattle.nc_trace.specs.Views.{alternative_view, outcome_view};
 ghost use Rattle.nc_fact.specs.declared.fact.Fact.TheVariants as fact;
 ghost use Rattle.nc_rules_route.specs.Parents.{trace_fact, onward, way_parents, parents};
@@ -12,7 +10,7 @@ ghost use Rattle.nc_rules_route.specs.Parents.{trace_fact, onward, way_parents, 
 use nc_fact::Fact;
 use nc_tables::Stable;
 use nc_trace::{Alternative, Outcome, TracedTo};
-use nc_types::{Addr, HOP_LIMIT, RouterId};
+use nc_types::{Addr, RouterId};
 use nc_underlay::own_interface;
 use std::alloc::AllocError;
 
@@ -98,20 +96,6 @@ pub(crate) fn push_step(
     }
 }
 
-// Whether a packet arrives by the alternative at a place, and from there by some way.
-fn passes(traced: &TracedTo, router: RouterId, place: usize, hops: u8) -> bool
-    ensures { (s : StateView) (addr : ℕ) → IsTracedTo s addr traced.now
-        → result ≡ step_at s.routers s.base s.bgp s.main router.0 addr place hops }
-{
-    if HOP_LIMIT < hops {
-        return false;
-    }
-    match traced.ways(router).get(place) {
-        Some(way) => traced.leads_on(way.outcome, hops),
-        None => false,
-    }
-}
-
 // The number of a place. Where it is none of 32 bits, the list before it is larger than memory can be.
 fn number(place: usize) -> Result<u32, AllocError>
     ensures { IfOk result (λ number. number ≡ place) }
@@ -133,7 +117,8 @@ pub(crate) fn push_trace(
     hops: u8,
     into: &mut Vec<Fact>,
 ) -> Result<(), AllocError>
-    requires { IsTracedTo state.now addr.0 traced.now }
+    requires traced { IsTracedTo state.now addr.0 traced.now }
+    requires included { IsIncluded state.now traced.now router.0 }
     ensures ok { OnOk result (into.new.items
         ≡ into.old.items ++ parents state.now (fact.Trace router addr hops)) }
     ensures kept { take (length into.old.items) into.new.items ≡ into.old.items }
@@ -144,7 +129,7 @@ pub(crate) fn push_trace(
     }
     let count = traced.ways(router).len();
     'ways: for place in 0..count {
-        if passes(traced, router, place, hops) {
+        if traced.arrives_by(router, place, hops) {
             into.push(Fact::Step(router, addr, number(place)?, hops))?;
         }
     }
@@ -162,7 +147,8 @@ pub(crate) fn push_all_trace(
     hops: u8,
     into: &mut Vec<Fact>,
 ) -> Result<(), AllocError>
-    requires { IsTracedTo state.now addr.0 traced.now }
+    requires traced { IsTracedTo state.now addr.0 traced.now }
+    requires included { IsIncluded state.now traced.now router.0 }
     ensures ok { OnOk result (into.new.items
         ≡ into.old.items ++ parents state.now (fact.AllTrace router addr hops)) }
     ensures kept { take (length into.old.items) into.new.items ≡ into.old.items }

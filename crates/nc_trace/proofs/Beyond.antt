@@ -12,7 +12,7 @@ use Rattle.nc_tables.specs.Forwarding.{Alternative, nowhere, arrives_by, ways_of
 use Rattle.nc_tables.specs.Longest.{longest}
 use Rattle.nc_tables.specs.State.{StateView, IsState}
 use Rattle.nc_tables.proofs.State.{main_count}
-use Rattle.nc_trace.specs.Traced.{ways_pass, arrives_within}
+use Rattle.nc_trace.specs.Traced.{ways_pass, arrives_within, IsNone}
 use Rattle.nc_trace.specs.Levels.{passes}
 
 -- a number that no configuration has is no router's
@@ -53,3 +53,6 @@ module _ (s : StateView) (is : IsState s) (router : ℕ) (beyond : length s.rout
   pub not_arrived : (every : Bool) (addr hops : ℕ) → arrives_within s every hops router addr ≡ false
   not_arrived every addr zero = no_hop s every addr router ∙ not_passed every addr nowhere
   not_arrived every addr (suc hops) = one_hop s every addr hops router ∙ not_passed every addr (λ next. arrives_within s every hops next addr)
+
+  pub none_there : (addr : ℕ) → IsNone s addr router
+  none_there addr = record { ways = no_ways addr; over = λ every hops. not_arrived every addr hops }

@@ -1,14 +1,83 @@
--- Whether a packet arrives over so many hops is made of one step for each hop.
-use Rattle.std.proofs.Common.{ℕ, Bool}
+-- Whether a packet arrives over so many hops from a router that is asked about is made of one step for each hop.
+use Rattle.std.proofs.Common.{◌≡◌, ℕ, suc, ◌≤◌, Bool, true, false, ◌&&◌, ◌||◌, nat_lt, List, [], ◌∷◌, length, Option, None, Some, refl, sym, ap, ◌∙◌, arith, inl, inr}
+use Rattle.std.specs.List.{All, list_any, list_all, slice_index_or}
+use Rattle.std.specs.Option.{ForSome}
+use Rattle.std.proofs.lemmas.Bool.{and_parts, and_from}
+use Rattle.nc_tables.specs.Forwarding.{Outcome, Deliver, Go, Lost, Alternative, arrives_by}
+use Rattle.nc_tables.specs.Reach.{owns}
 use Rattle.nc_tables.specs.State.{StateView}
 use Rattle.nc_underlay.proofs.Fewest.{IsStepped}
-use Rattle.nc_trace.specs.Levels.{passes, over}
+use Rattle.nc_trace.specs.Found.{FoundWays, covers, GoesTo, IsCoveredOrNone, IsFoundTo, ways_out}
+use Rattle.nc_trace.specs.Traced.{ways_pass, arrives_within, IsNone}
+use Rattle.nc_trace.specs.Levels.{is_asked, passes, step, over}
+use Rattle.nc_trace.proofs.Finding.{goes_more, leads_by}
 use Rattle.nc_trace.proofs.Passing.{passes_more}
 use Rattle.nc_trace.proofs.Beyond.{no_hop, one_hop}
 
-pub stepped : (s : StateView) (every : Bool) (addr : ℕ) → IsStepped (over s every addr) (passes s every addr)
-stepped s every addr = record {
-  none = λ router. no_hop s every addr router;
-  more = λ hops router. one_hop s every addr hops router;
-  wider = λ f g weaker router e. passes_more f g weaker s every addr router e;
-}
+-- ---- tests that agree where packets go on
+
+module _ (f g : ℕ → Bool) where
+  abbrev Agree : Outcome → Type 0
+  Agree o = GoesTo (λ (r : ℕ). f r ≡ g r) o
+
+  pub arrives_same : (o : Outcome) → Agree o → arrives_by f o ≡ arrives_by g o
+  arrives_same Deliver same = refl
+  arrives_same (Go next) same = same
+  arrives_same Lost same = refl
+
+  some_same : (ways : List Alternative) → All (λ (way : Alternative). Agree way.outcome) ways → list_any (λ way. arrives_by f way.outcome) ways ≡ list_any (λ way. arrives_by g way.outcome) ways
+  some_same [] all = refl
+  some_same (way ∷ ways) all =
+      ap (λ (b : Bool). b || list_any (λ (w : Alternative). arrives_by f w.outcome) ways) (arrives_same way.outcome (all 0 way (omega arith)))
+      ∙ ap (λ (b : Bool). arrives_by g way.outcome || b) (some_same ways (λ k d lt. all (suc k) d (omega (arith, lt))))
+
+  each_same : (ways : List Alternative) → All (λ (way : Alternative). Agree way.outcome) ways → list_all (λ way. arrives_by f way.outcome) ways ≡ list_all (λ way. arrives_by g way.outcome) ways
+  each_same [] all = refl
+  each_same (way ∷ ways) all =
+      ap (λ (b : Bool). b && list_all (λ (w : Alternative). arrives_by f w.outcome) ways) (arrives_same way.outcome (all 0 way (omega arith)))
+      ∙ ap (λ (b : Bool). arrives_by g way.outcome && b) (each_same ways (λ k d lt. all (suc k) d (omega (arith, lt))))
+
+  pass_same : (every : Bool) (ways : List Alternative) → All (λ (way : Alternative). Agree way.outcome) ways → ways_pass every (λ way. arrives_by f way.outcome) ways ≡ ways_pass every (λ way. arrives_by g way.outcome) ways
+  pass_same true ways all = ap (λ (b : Bool). nat_lt 0 (length ways) && b) (each_same ways all)
+  pass_same false ways all = some_same ways all
+
+pub and_false : (b : Bool) → (b && false) ≡ false
+and_false true = refl
+and_false false = refl
+
+module _ (s : StateView) (every : Bool) (addr : ℕ) (none : (router : ℕ) → length s.routers ≤ router → IsNone s addr router) where
+  module _ (found : FoundWays) (is : IsFoundTo s addr found) where
+    -- where the ways that were found lead, and from where no packet arrives
+    pub told : (hops router : ℕ) → IsCoveredOrNone (length s.routers) found router → arrives_within s every hops router addr ≡ over s every addr (Some found) hops router
+    told hops router there = elim there [
+      | inl e ↦ sym (ap (λ (b : Bool). b && arrives_within s every hops router addr) e)
+      | inr past ↦
+          let no = (none router past).over every hops in
+          no ∙ sym (ap (λ (b : Bool). covers found router && b) no ∙ and_false (covers found router))
+    ]
+
+    by_found : (hops router : ℕ) (asked : Bool) → covers found router ≡ asked
+        → (asked && passes s every addr (λ next. arrives_within s every hops next addr) router) ≡ (asked && passes s every addr (over s every addr (Some found) hops) router)
+    by_found hops router false e = refl
+    by_found hops router true e =
+        ap (λ (b : Bool). owns s.routers router addr || b)
+        (pass_same (λ (next : ℕ). arrives_within s every hops next addr) (over s every addr (Some found) hops) every (ways_out s addr router)
+        (λ k d lt. goes_more (IsCoveredOrNone (length s.routers) found) _ (told hops) (slice_index_or (ways_out s addr router) k d).outcome (leads_by s addr found is.closed router e k d lt)))
+
+  alike : (found : Option FoundWays) → ForSome found (IsFoundTo s addr) → (hops router : ℕ)
+      → (is_asked found router && passes s every addr (λ next. arrives_within s every hops next addr) router) ≡ step s every addr found (over s every addr found hops) router
+  alike None is hops router = refl
+  alike (Some found) is hops router = by_found found (is found refl) hops router (covers found router) refl
+
+  pub stepped : (found : Option FoundWays) → ForSome found (IsFoundTo s addr) → IsStepped (over s every addr found) (step s every addr found)
+  stepped found is = record {
+    none = λ router. ap (λ (b : Bool). is_asked found router && b) (no_hop s every addr router);
+    more = λ hops router. ap (λ (b : Bool). is_asked found router && b) (one_hop s every addr hops router) ∙ alike found is hops router;
+    wider = λ f g weaker router e.
+        let both = and_parts (is_asked found router) (passes s every addr f router) e in
+        and_from (is_asked found router) (passes s every addr g router) both.0 (passes_more f g weaker s every addr router both.1);
+  }
+
+  -- from a router that doesn't exist no packet arrives
+  pub not_over : (found : Option FoundWays) (hops router : ℕ) → length s.routers ≤ router → over s every addr found hops router ≡ false
+  not_over found hops router past = ap (λ (b : Bool). is_asked found router && b) ((none router past).over every hops) ∙ and_false (is_asked found router)

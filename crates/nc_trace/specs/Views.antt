@@ -1,6 +1,4 @@
 -- What the definitions of forwarding see of a way.
-use Rattle.std.specs.Prelude.{List, map}
-use Rattle.std.specs.Global.{Vec}
 use Rattle.nc_tables.specs.Forwarding as defined
 use Rattle.nc_trace.specs.declared.alternative.Outcome.{Outcome}
 use Rattle.nc_trace.specs.declared.alternative.Outcome.TheVariants.{Deliver, Go, Lost}
@@ -13,7 +11,3 @@ outcome_view Lost = defined.Lost
 
 abbrev pub alternative_view : Alternative → defined.Alternative
 alternative_view way = record { main = way.main; base = way.base; outcome = outcome_view way.outcome }
-
--- the ways of each router
-abbrev pub ways_view : List (Vec Alternative) → List (List defined.Alternative)
-ways_view routers = map (λ ways. map alternative_view ways.items) routers

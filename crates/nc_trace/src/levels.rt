@@ -1,19 +1,22 @@
-//! Over how few hops a packet arrives from each router, by levels: those from which it does with no hop left, with
+//! Over how few hops a packet arrives from routers, by levels: those from which it does with no hop left, with
 //! one, and so on, until a level has no router more, or no hop is left to try.
 
-ghost use Rattle.std.specs.Prelude.{◌≡◌, ◌+◌, ◌≤◌, ◌<◌, ◌&&◌, false, nat_lt, length};
+ghost use Rattle.std.specs.Prelude.{◌≡◌, ◌+◌, ◌≤◌, ◌<◌, ◌&&◌, ◌==◌, true, false, ℕ, nat_lt, length};
+ghost use Rattle.std.specs.Option.{option_map, option_map_or, ForSome};
 ghost use Rattle.nc_types.specs.declared.TheConstants.{HOP_LIMIT, ROUTER_LIMIT};
-ghost use Rattle.nc_tables.specs.Forwarding.{alternatives, arrives_by, some_way, each_way};
-ghost use Rattle.nc_trace.specs.Views.{outcome_view, ways_view};
+ghost use Rattle.nc_tables.specs.Forwarding.{arrives_by, some_way, each_way};
+ghost use Rattle.nc_trace.specs.Views.{outcome_view};
 ghost use Rattle.nc_underlay.specs.Distances.{fewest_of, is_earlier};
-ghost use Rattle.nc_trace.specs.Traced.{arrives_within, AreFewest, AreKept};
-ghost use Rattle.nc_trace.specs.Levels.{AreMarked, AreRight, passes};
+ghost use Rattle.nc_trace.specs.Asked.{found_in, IsAsked};
+ghost use Rattle.nc_trace.specs.Found.{IsFoundTo, ways_out};
+ghost use Rattle.nc_tables.specs.Reach.{owns};
+ghost use Rattle.nc_trace.specs.Levels.{AreFewest, AreMarked, AreRight, is_asked, over, passes, step};
 
-use crate::alternative::{Alternative, Outcome};
+use crate::alternative::Outcome;
+use crate::found::Found;
 use crate::ways::Ways;
 use nc_tables::Stable;
 use nc_types::{Addr, HOP_LIMIT, ROUTER_LIMIT, RouterId};
-use nc_underlay::reaches;
 
 /// The number of a router from which no packet arrives.
 pub(crate) const NEVER: u8 = HOP_LIMIT + 1;
@@ -63,39 +66,61 @@ fn each_passes(ways: Ways, fewest: &[u8; ROUTER_LIMIT], hops: u8) -> bool
     some
 }
 
-/// What is asked of the routers of a state: whether a packet for an address arrives by each way, or by some. The
-/// ways of the first routers may be known already.
+/// What is asked of the routers of a state: whether a packet for an address arrives by each way, or by some. Where
+/// ways were found before, those routers alone are asked about.
 #[derive(Clone, Copy)]
 pub(crate) struct Question<'a> {
     pub(crate) state: &'a Stable,
     pub(crate) addr: Addr,
+    pub(crate) owner: Option<RouterId>,
     pub(crate) every: bool,
-    pub(crate) kept: &'a [Vec<Alternative>],
+    pub(crate) found: Option<&'a Found>,
 }
 
-// The ways of a router, found before or not.
+// Whether a router is asked about.
+fn is_asked(asked: Question, router: RouterId) -> bool
+    ensures { result ≡ is_asked (found_in asked.entry) router.0 }
+{
+    match asked.found {
+        Some(found) => found.covers(router),
+        None => true,
+    }
+}
+
+// Whether a router owns the address.
+fn is_owner(asked: Question, router: RouterId) -> bool
+    ensures { result ≡ option_map_or (λ o. o.0 == router.0) asked.entry.owner false }
+{
+    match asked.owner {
+        Some(owner) => owner == router,
+        None => false,
+    }
+}
+
+// The ways of a router that is asked about, found before or not.
 fn ways_of<'a>(asked: Question<'a>, router: RouterId) -> Ways<'a>
     requires router { router.0 < length asked.state.now.routers }
-    requires kept { AreKept asked.state.now asked.addr.0 (ways_view asked.kept.now) }
-    ensures { result ≡ alternatives asked.entry.state.now.routers asked.entry.state.now.base asked.entry.state.now.bgp
-        asked.entry.state.now.main router.0 asked.entry.addr.0 }
+    requires asked { IsAsked asked }
+    requires this { is_asked (found_in asked) router.0 ≡ true }
+    ensures { result ≡ ways_out asked.entry.state.now asked.entry.addr.0 router.0 }
 {
-    match asked.kept.get(router.0 as usize) {
-        Some(ways) => Ways::kept(asked.state, router, asked.addr, ways),
+    match asked.found {
+        Some(found) => Ways::kept(asked.state, router, asked.addr, found.ways(router)),
         None => Ways::new(asked.state, router, asked.addr),
     }
 }
 
-// Whether a router owns the address, or its ways, some or each, lead to where a packet arrives over fewer hops.
+// Whether a router that is asked about owns the address, or its ways, some or each, lead to where a packet arrives
+// over fewer hops.
 fn passes(asked: Question, router: RouterId, fewest: &[u8; ROUTER_LIMIT], hops: u8) -> bool
     requires router { router.0 < length asked.state.now.routers }
-    requires kept { AreKept asked.state.now asked.addr.0 (ways_view asked.kept.now) }
+    requires asked { IsAsked asked }
+    requires this { is_asked (found_in asked) router.0 ≡ true }
     requires hops { hops ≤ HOP_LIMIT }
     ensures { result ≡ passes asked.entry.state.now asked.entry.every asked.entry.addr.0
         (is_earlier fewest.now hops) router.0 }
 {
-    let state = asked.state;
-    if reaches(state.network(), state.base(), router, asked.addr, 0) {
+    if is_owner(asked, router) {
         return true;
     }
     let ways = ways_of(asked, router);
@@ -106,28 +131,43 @@ fn passes(asked: Question, router: RouterId, fewest: &[u8; ROUTER_LIMIT], hops: 
     }
 }
 
-// Whether a packet arrives from a router over so many hops, and the router has no lower number.
-fn is_new(asked: Question, router: RouterId, fewest: &[u8; ROUTER_LIMIT], hops: u8) -> bool
+// Whether a router is asked about and passes.
+fn steps(asked: Question, router: RouterId, fewest: &[u8; ROUTER_LIMIT], hops: u8) -> bool
     requires router { router.0 < length asked.state.now.routers }
-    requires few { length asked.state.now.routers ≤ ROUTER_LIMIT }
-    requires kept { AreKept asked.state.now asked.addr.0 (ways_view asked.kept.now) }
+    requires asked { IsAsked asked }
     requires hops { hops ≤ HOP_LIMIT }
-    requires known { AreRight asked.state.now asked.every asked.addr.0 hops fewest.now }
-    ensures { result ≡ (nat_lt hops (fewest_of fewest.now router.0)
-        && arrives_within asked.entry.state.now asked.entry.every hops router.0 asked.entry.addr.0) }
+    ensures { result ≡ step asked.entry.state.now asked.entry.every asked.entry.addr.0 (found_in asked.entry)
+        (is_earlier fewest.now hops) router.0 }
 {
-    if fewest[router.0 as usize] <= hops {
+    if !is_asked(asked, router) {
         return false;
     }
     passes(asked, router, fewest, hops)
 }
 
+// Whether a router is asked about, a packet arrives from it over so many hops, and it has no lower number.
+fn is_new(asked: Question, router: RouterId, fewest: &[u8; ROUTER_LIMIT], hops: u8) -> bool
+    requires router { router.0 < length asked.state.now.routers }
+    requires few { length asked.state.now.routers ≤ ROUTER_LIMIT }
+    requires asked { IsAsked asked }
+    requires hops { hops ≤ HOP_LIMIT }
+    requires known { AreRight asked.state.now asked.every asked.addr.0 (found_in asked) hops fewest.now }
+    ensures { result ≡ (nat_lt hops (fewest_of fewest.now router.0)
+        && over asked.entry.state.now asked.entry.every asked.entry.addr.0 (found_in asked.entry) hops router.0) }
+{
+    if fewest[router.0 as usize] <= hops {
+        return false;
+    }
+    steps(asked, router, fewest, hops)
+}
+
 // Gives this number to the routers of the level that have none yet; whether there are such.
 fn mark_level(asked: Question, hops: u8, fewest: &mut [u8; ROUTER_LIMIT]) -> bool
-    requires kept { AreKept asked.state.now asked.addr.0 (ways_view asked.kept.now) }
+    requires asked { IsAsked asked }
     requires hops { hops ≤ HOP_LIMIT }
-    requires before { AreMarked asked.state.now asked.every asked.addr.0 hops fewest.old }
-    ensures marked { AreMarked asked.entry.state.now asked.entry.every asked.entry.addr.0 (hops + 1) fewest.new }
+    requires before { AreMarked asked.state.now asked.every asked.addr.0 (found_in asked) hops fewest.old }
+    ensures marked { AreMarked asked.entry.state.now asked.entry.every asked.entry.addr.0 (found_in asked.entry)
+        (hops + 1) fewest.new }
     ensures same { result ≡ false → fewest.new ≡ fewest.old }
 {
     let count = asked.state.network().routers().len();
@@ -141,10 +181,46 @@ fn mark_level(asked: Question, hops: u8, fewest: &mut [u8; ROUTER_LIMIT]) -> boo
     more
 }
 
-/// For each router the fewest hops over which a packet arrives.
+// The router that owns an address.
+fn owner_of(state: &Stable, addr: Addr) -> Option<RouterId>
+    ensures { (router : ℕ) → option_map_or (λ o. o.0 == router) result false
+        ≡ owns state.now.routers router addr.0 }
+{
+    let network = state.network();
+    let _valid = network.routers();
+    let (owner, _) = network.owner_of(addr)?;
+    Some(owner)
+}
+
+/// What is asked of an address, of all routers, or of those whose ways were found. The owner of the address is looked
+/// up here, once.
+pub(crate) fn asked_of<'a>(
+    state: &'a Stable,
+    addr: Addr,
+    every: bool,
+    found: Option<&'a Found>,
+) -> Question<'a>
+    requires { ForSome (option_map (λ found. found.now) found) (IsFoundTo state.now addr.0) }
+    ensures asked { IsAsked result }
+    ensures state { result.state.now ≡ state.now }
+    ensures addr { result.addr ≡ addr }
+    ensures every { result.every ≡ every }
+    ensures found { found_in result ≡ option_map (λ found. found.now) found.entry }
+{
+    let _valid = state.network();
+    Question {
+        state,
+        addr,
+        owner: owner_of(state, addr),
+        every,
+        found,
+    }
+}
+
+/// For each router that is asked about the fewest hops over which a packet arrives.
 pub(crate) fn fewest_hops(asked: Question) -> [u8; ROUTER_LIMIT]
-    requires { AreKept asked.state.now asked.addr.0 (ways_view asked.kept.now) }
-    ensures { AreFewest asked.entry.state.now asked.entry.every asked.entry.addr.0 result }
+    requires { IsAsked asked }
+    ensures { AreFewest asked.entry.state.now asked.entry.every asked.entry.addr.0 (found_in asked.entry) result }
 {
     let mut fewest = [NEVER; ROUTER_LIMIT];
     let mut hops = 0;

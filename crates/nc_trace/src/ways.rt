@@ -1,9 +1,9 @@
 //! The ways out of a router for an address, one after the other.
 
-ghost use Rattle.std.specs.Prelude.{◌≡◌, ◌<◌, ◌∷◌, [], IfOk, MatchOption, ℕ, length, map, slice_get, slice_index_or};
+ghost use Rattle.std.specs.Prelude.{◌≡◌, ◌<◌, ◌∷◌, [], IfOk, MatchOption, length, map, slice_get};
 ghost use Rattle.std.specs.Option.{option_map};
 ghost use Rattle.nc_tables.specs.Forwarding.{alternatives};
-ghost use Rattle.nc_trace.specs.Views.{alternative_view, ways_view};
+ghost use Rattle.nc_trace.specs.Views.{alternative_view};
 
 use crate::alternative::Alternative;
 use crate::left::{Left, first_left, next_way, nothing_left};
@@ -127,21 +127,4 @@ pub fn alternative_at(
         }
     }
     ways.next()
-}
-
-/// The lists of all routers, by their numbers.
-pub(crate) fn all_alternatives(
-    alloc: Global,
-    state: &Stable,
-    addr: Addr,
-) -> Result<Vec<Vec<Alternative>>, AllocError>
-    ensures { IfOk result (λ made. (router : ℕ) → slice_index_or (ways_view made.items) router []
-        ≡ alternatives state.now.routers state.now.base state.now.bgp state.now.main router addr.0) }
-{
-    let mut made = Vec::new(alloc);
-    let count = state.network().routers().len();
-    'routers: for router in 0..count {
-        made.push(alternatives(alloc, state, RouterId(router as u32), addr)?)?;
-    }
-    Ok(made)
 }

@@ -26,4 +26,4 @@ returns-clause-ok c =
     let none : own_place s.routers router.0 addr.0 ≡ None = ap (λ (cs : List ConfigView). own_place cs router.0 addr.0) (sym c.network.ensures.network) ∙ sym c.in_default.ensures in
     c.ways.invariant
     ∙ ap (λ (fs : List Fact). c.args.into.now.items ++ fs)
-    (all_between s router addr true c.args.hops c.ways-count.result.now c.ways.place (c.ways-count.ensures s addr.0 c.requires) last ∙ sym (without_own s router addr (steps_of s true router addr c.args.hops) none))
+    (all_between s router addr true c.args.hops c.ways-count.result.now c.ways.place (c.ways-count.ensures s addr.0 c.requires.traced c.requires.included) last ∙ sym (without_own s router addr (steps_of s true router addr c.args.hops) none))

@@ -8,7 +8,7 @@ use Rattle.nc_rules_route.specs.Parents.{steps_of, parents}
 use Rattle.nc_rules_route.proofs.Ranges.{made_between, kept_more, taken, passed_over}
 use Rattle.nc_rules_route.proofs.Steps.{all_between, without_own}
 use Rattle.nc_rules_route.proofs.paths.push_trace.Goals as goal
-use Rattle.nc_rules_route.proofs.paths.push_trace.Goals.{then-passes+in_ok-number+in_ok-push-2, else-passes}
+use Rattle.nc_rules_route.proofs.paths.push_trace.Goals.{then-arrives_by+in_ok-number+in_ok-push-2, else-arrives_by}
 
 pub ways-preserved : goal.ways-preserved
 unfolding holds
@@ -20,12 +20,12 @@ ways-preserved c =
     let more = kept_more step all (holds s) 0 place (omega arith) in
     let before = filter (holds s) (made_between step all 0 place) in
     let after = filter (holds s) (made_between step all 0 (place + 1)) in
-    let passing : c.passes.result ≡ holds s (step place) = c.passes.ensures s c.args.addr.0 c.requires in
-    elim c.if-passes.branch [
-      | then-passes+in_ok-number+in_ok-push-2 w ↦
+    let passing : c.arrives_by.result ≡ holds s (step place) = c.arrives_by.ensures s c.args.addr.0 c.requires.traced c.requires.included in
+    elim c.if-arrives_by.branch [
+      | then-arrives_by+in_ok-number+in_ok-push-2 w ↦
           ap (λ v. v.items) w.into-is ∙ w.in_ok-push-2.ensures.items ∙ ap (λ (n : ℕ). c.ways.into.items ++ step n ∷ []) w.in_ok-number.ensures
-          ∙ taken c.args.into.now.items c.ways.into.items before after (step place) (holds s (step place)) c.ways.invariant more (sym passing ∙ w.if-passes.true)
-      | else-passes w ↦ ap (λ v. v.items) w.into-is ∙ passed_over c.args.into.now.items c.ways.into.items before after (step place) (holds s (step place)) c.ways.invariant more (sym passing ∙ w.if-passes.false)
+          ∙ taken c.args.into.now.items c.ways.into.items before after (step place) (holds s (step place)) c.ways.invariant more (sym passing ∙ w.if-arrives_by.true)
+      | else-arrives_by w ↦ ap (λ v. v.items) w.into-is ∙ passed_over c.args.into.now.items c.ways.into.items before after (step place) (holds s (step place)) c.ways.invariant more (sym passing ∙ w.if-arrives_by.false)
     ]
 
 pub returns-clause-ok : goal.returns-clause-ok
@@ -37,5 +37,5 @@ returns-clause-ok c =
     let last : c.ways.place ≡ length c.ways-count.result.now = omega (arith, c.ways-test.false, c.ways.auto.place-end) in
     let none : own_place s.routers router.0 addr.0 ≡ None = ap (λ (cs : List ConfigView). own_place cs router.0 addr.0) (sym c.network.ensures.network) ∙ sym c.in_default.ensures in
     c.ways.invariant
-    ∙ ap (λ (fs : List Fact). c.args.into.now.items ++ filter (holds s) fs) (all_between s router addr false c.args.hops c.ways-count.result.now c.ways.place (c.ways-count.ensures s addr.0 c.requires) last)
+    ∙ ap (λ (fs : List Fact). c.args.into.now.items ++ filter (holds s) fs) (all_between s router addr false c.args.hops c.ways-count.result.now c.ways.place (c.ways-count.ensures s addr.0 c.requires.traced c.requires.included) last)
     ∙ ap (λ (fs : List Fact). c.args.into.now.items ++ fs) (sym (without_own s router addr (filter (holds s) (steps_of s false router addr c.args.hops)) none))

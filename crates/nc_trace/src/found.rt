@@ -1,0 +1,221 @@
+//! The ways of routers for one address, from one router on: those of each router to which they lead are found too.
+
+ghost use Rattle.std.specs.Prelude.{◌≡◌, ◌-◌, ◌<◌, ◌≤◌, ◌≢◌, ◌++◌, ◌⊎◌, ◌∷◌, [], ℕ, Some, None, true, is_some, length, take, drop, map, slice_get, All, IfOk, OnOk};
+ghost use Rattle.std.specs.Option.{unwrap_or};
+ghost use Rattle.nc_tables.specs.Forwarding.{alternatives};
+ghost use Rattle.nc_trace.specs.Found.{IsWithin, found_at, covers, GoesTo, IsListed, IsListedOrNone, IsCoveredOrNone, IsCoveredOrListed, IsFoundTo, AreWays, LeadTo, ways_out};
+ghost use Rattle.nc_trace.specs.Views.{alternative_view, outcome_view};
+
+use crate::alternative::{Alternative, Outcome};
+use crate::span::Span;
+use crate::ways::Ways;
+use nc_tables::Stable;
+use nc_types::{Addr, ROUTER_LIMIT, RouterId};
+use std::alloc::{AllocError, Global};
+use std::marker::Model;
+
+// Lists the router to which a packet goes on, if it is one of so many.
+fn list_next(count: usize, outcome: Outcome, list: &mut Vec<RouterId>) -> Result<(), AllocError>
+    ensures kept { (place : ℕ) (router : RouterId) → slice_get list.old.items place ≡ Some router
+        → slice_get list.new.items place ≡ Some router }
+    ensures listed { OnOk result (GoesTo (IsListedOrNone count list.new.items) (outcome_view outcome)) }
+{
+    if let Outcome::Go(next, _) = outcome {
+        if (next.0 as usize) < count {
+            list.push(next)?;
+        }
+    }
+    Ok(())
+}
+
+// Appends the ways out of a router, and lists the routers to which they lead.
+fn push_ways(
+    state: &Stable,
+    router: RouterId,
+    addr: Addr,
+    ways: &mut Vec<Alternative>,
+    list: &mut Vec<RouterId>,
+) -> Result<(), AllocError>
+    requires { router.0 < length state.now.routers }
+    ensures before { take (length ways.old.items) ways.new.items ≡ ways.old.items }
+    ensures ways { OnOk result (map alternative_view ways.new.items
+        ≡ map alternative_view ways.old.items ++ ways_out state.now addr.0 router.0) }
+    ensures kept { (place : ℕ) (router : RouterId) → slice_get list.old.items place ≡ Some router
+        → slice_get list.new.items place ≡ Some router }
+    ensures listed { OnOk result (All
+        (λ way. GoesTo (IsListedOrNone (length state.now.routers) list.new.items) way.outcome)
+        (ways_out state.now addr.0 router.0)) }
+{
+    let count = state.network().routers().len();
+    let mut left = Ways::new(state, router, addr);
+    'ways: while let Some(way) = left.next() {
+        ways.push(way)?;
+        list_next(count, way.outcome, list)?;
+    }
+    Ok(())
+}
+
+// The ways that stand in a span.
+fn part(ways: &[Alternative], span: Span) -> &[Alternative]
+    requires { IsWithin (length ways.now) span }
+    ensures { result.now ≡ take (span.to - span.from) (drop span.from ways.now) }
+{
+    &ways[span.from..span.to]
+}
+
+/// The ways of some routers for one address.
+#[derive(Drop)]
+pub(crate) struct Found {
+    spans: [Option<Span>; ROUTER_LIMIT],
+    ways: Vec<Alternative>,
+}
+
+impl Model for Found {
+    ghost use Rattle.nc_trace.specs.Found.{FoundWays, found_view, AreWithin};
+
+    ghost Value = { FoundWays };
+
+    ghost view = { λ f. found_view f.spans f.ways.items };
+
+    ghost invariant = { λ f. AreWithin f.spans f.ways.items };
+}
+
+impl Found {
+    /// None were found yet. Takes no memory.
+    pub(crate) fn new(alloc: Global) -> Found
+        ensures { (router : ℕ) → found_at result router ≡ None }
+    {
+        Found {
+            spans: [None; ROUTER_LIMIT],
+            ways: Vec::new(alloc),
+        }
+    }
+
+    /// Forgets all of them.
+    pub(crate) fn clear(&mut self)
+        ensures { (router : ℕ) → found_at self.new router ≡ None }
+    {
+        self.spans = [None; ROUTER_LIMIT];
+        self.ways.clear();
+    }
+
+    /// Whether those of a router were found.
+    pub(crate) fn covers(&self, router: RouterId) -> bool
+        ensures { result ≡ covers self.now router.0 }
+    {
+        match self.spans.get(router.0 as usize) {
+            Some(span) => span.is_some(),
+            None => false,
+        }
+    }
+
+    /// Those of a router; none where they weren't found.
+    pub(crate) fn ways(&self, router: RouterId) -> &[Alternative]
+        ensures { map alternative_view result.now ≡ unwrap_or (found_at self.now router.0) [] }
+    {
+        match self.spans.get(router.0 as usize) {
+            Some(Some(span)) => part(&self.ways, *span),
+            _ => &[],
+        }
+    }
+
+    // Finds those of one router, and lists the routers to which they lead.
+    fn find(
+        &mut self,
+        state: &Stable,
+        router: RouterId,
+        addr: Addr,
+        list: &mut Vec<RouterId>,
+    ) -> Result<(), AllocError>
+        requires { router.0 < length state.now.routers }
+        ensures found { OnOk result (found_at self.new router.0 ≡ Some (ways_out state.now addr.0 router.0)) }
+        ensures others { OnOk result ((other : ℕ) → other ≢ router.0 → found_at self.new other ≡ found_at self.old other) }
+        ensures kept { (place : ℕ) (router : RouterId) → slice_get list.old.items place ≡ Some router
+            → slice_get list.new.items place ≡ Some router }
+        ensures listed { OnOk result (All
+            (λ way. GoesTo (IsListedOrNone (length state.now.routers) list.new.items) way.outcome)
+            (ways_out state.now addr.0 router.0)) }
+    {
+        let _routers = state.network().routers();
+        let from = self.ways.len();
+        push_ways(state, router, addr, &mut self.ways, list)?;
+        let to = self.ways.len();
+        self.spans[router.0 as usize] = Some(Span { from, to });
+        Ok(())
+    }
+
+    // Finds those of a listed router, unless they were found or there is no such router.
+    fn find_next(
+        &mut self,
+        state: &Stable,
+        router: RouterId,
+        addr: Addr,
+        list: &mut Vec<RouterId>,
+    ) -> Result<(), AllocError>
+        requires ways { AreWays state.now addr.0 self.old }
+        requires leads { LeadTo state.now addr.0
+            (IsCoveredOrListed (length state.now.routers) list.old.items self.old) self.old }
+        ensures ways { OnOk result (AreWays state.now addr.0 self.new) }
+        ensures leads { OnOk result (LeadTo state.now addr.0
+            (IsCoveredOrListed (length state.now.routers) list.new.items self.new) self.new) }
+        ensures more { OnOk result ((other : ℕ) → covers self.old other ≡ true
+            → covers self.new other ≡ true) }
+        ensures done { OnOk result
+            (IsCoveredOrNone (length state.now.routers) self.new router.0) }
+        ensures kept { (place : ℕ) (other : RouterId) → slice_get list.old.items place ≡ Some other
+            → slice_get list.new.items place ≡ Some other }
+    {
+        if (router.0 as usize) >= state.network().routers().len() {
+            return Ok(());
+        }
+        if self.covers(router) {
+            return Ok(());
+        }
+        self.find(state, router, addr, list)?;
+        Ok(())
+    }
+
+    // Finds those of the routers that are listed and of all to which these lead.
+    fn find_all(
+        &mut self,
+        state: &Stable,
+        addr: Addr,
+        list: Vec<RouterId>,
+    ) -> Result<(), AllocError>
+        requires { IsFoundTo state.now addr.0 self.old }
+        ensures found { OnOk result (IsFoundTo state.now addr.0 self.new) }
+        ensures listed { OnOk result ((router : ℕ) → IsListed list.items router
+            → IsCoveredOrNone (length state.now.routers) self.new router) }
+    {
+        let mut list = list;
+        'routers: for place in 0..usize::MAX {
+            if place >= list.len() {
+                return Ok(());
+            }
+            self.find_next(state, list[place], addr, &mut list)?;
+        }
+        Err(AllocError)
+    }
+
+    /// Finds those of a router and of all routers to which they lead.
+    ///
+    /// # Errors
+    ///
+    /// Memory that runs out; then some may have been found.
+    pub(crate) fn include(
+        &mut self,
+        alloc: Global,
+        state: &Stable,
+        addr: Addr,
+        router: RouterId,
+    ) -> Result<(), AllocError>
+        requires { IsFoundTo state.now addr.0 self.old }
+        ensures found { OnOk result (IsFoundTo state.now addr.0 self.new) }
+        ensures included { OnOk result
+            (IsCoveredOrNone (length state.now.routers) self.new router.0) }
+    {
+        let mut list = Vec::new(alloc);
+        list.push(router)?;
+        self.find_all(state, addr, list)
+    }
+}
