@@ -4,3 +4,7 @@ pub mod Places
 pub mod Hits
 pub mod Asked
 pub mod ByPlace
+pub mod Parts
+pub mod Roots
+pub mod RootsOrder
+pub mod Adding

@@ -1,2 +1,3 @@
 pub mod Facts
 pub mod Tested
+pub mod Roots

@@ -6,6 +6,7 @@ use Rattle.nc_types.specs.declared.TheConstants.{HOP_LIMIT}
 use Rattle.nc_types.specs.Network.{router_named, owner_at}
 use Rattle.nc_types.specs.Cidr.{Cidr}
 use Rattle.nc_types.specs.declared.addr.Addr.{Addr}
+use Rattle.nc_types.specs.declared.config.RouterId.{RouterId}
 use Rattle.nc_types.specs.declared.command.TestCommand.{TestCommand}
 use Rattle.nc_types.specs.declared.command.TestCommand.TheVariants.{Rib, Bgp, Session, Reach, Every, Element}
 use Rattle.nc_tables.specs.declared.base.BaseFrom.{BaseFrom}
@@ -77,6 +78,15 @@ module _ (s : StateView) where
   named_facts (Reach name addr) = option_map_or (λ router. fact.Trace (record { 0 = router }) addr HOP_LIMIT ∷ []) (router_named s.routers name) []
   named_facts (Every name addr) = option_map_or (λ router. fact.AllTrace (record { 0 = router }) addr HOP_LIMIT ∷ []) (router_named s.routers name) []
   named_facts (Element name line) = option_map_or (λ router. asked_element router line) (router_named s.routers name) []
+
+  -- the router from which a test of a packet asks whether it arrives, and its address; other tests ask of none
+  abbrev pub packet_from : List ℕ → Addr → Option (RouterId × Addr)
+  packet_from name addr = option_map (λ router. (record { 0 = router }, addr)) (router_named s.routers name)
+
+  abbrev pub packet_of : TestCommand → Option (RouterId × Addr)
+  packet_of (Reach name addr) = packet_from name addr
+  packet_of (Every name addr) = packet_from name addr
+  packet_of test = None
 
   -- the facts that a test tests: those that it names and that hold
   unfoldable pub tested_facts : TestCommand → List Fact

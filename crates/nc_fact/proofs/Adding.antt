@@ -1,0 +1,45 @@
+-- The facts of a list, one item after another.
+use Rattle.std.proofs.Common.{◌≡◌, ℕ, suc, ◌+◌, Bool, true, false, cond, List, [], ◌∷◌, ◌++◌, map, filter, refl, sym, ap, ◌∙◌, append_assoc, arith}
+use Rattle.std.specs.List.{flat_map, range_with_len}
+use Rattle.std.proofs.lemmas.List.{flat_map_more, map_push}
+use Rattle.nc_types.proofs.Placing.{range_more}
+use Rattle.nc_fact.specs.declared.fact.Fact.{Fact}
+
+-- one number more
+range_next : (k : ℕ) → range_with_len 0 (k + 1) ≡ range_with_len 0 k ++ k ∷ []
+range_next k =
+    let next : k + 1 ≡ suc k = omega arith in
+    let last : 0 + k ≡ k = omega arith in
+    ap (range_with_len 0) next ∙ range_more 0 k ∙ ap (λ (n : ℕ). range_with_len 0 k ++ n ∷ []) last
+
+pub number_more : (make : ℕ → Fact) (before facts : List Fact) (k : ℕ) → facts ≡ before ++ map make (range_with_len 0 k) → facts ++ make k ∷ [] ≡ before ++ map make (range_with_len 0 (k + 1))
+number_more make before facts k so_far =
+    ap (λ (fs : List Fact). fs ++ make k ∷ []) so_far
+    ∙ append_assoc before (map make (range_with_len 0 k)) (make k ∷ [])
+    ∙ ap (λ (fs : List Fact). before ++ fs) (sym (map_push make (range_with_len 0 k) k))
+    ∙ ap (λ (ks : List ℕ). before ++ map make ks) (sym (range_next k))
+
+pub numbered_part_more : (parts : ℕ → List Fact) (facts more : List Fact) (k : ℕ) → facts ≡ flat_map parts (range_with_len 0 k) → more ≡ facts ++ parts k → more ≡ flat_map parts (range_with_len 0 (k + 1))
+numbered_part_more parts facts more k so_far added =
+    added ∙ ap (λ (fs : List Fact). fs ++ parts k) so_far ∙ flat_map_more parts [] (range_with_len 0 k) k ∙ ap (flat_map parts) (sym (range_next k))
+
+module _ {X : Type 0} (x : X) (left rest : List X) (first : left ≡ x ∷ rest) (before after : List Fact) where
+  -- one part more
+  pub part_more : (parts : X → List Fact) → after ≡ before ++ parts x → after ++ flat_map parts rest ≡ before ++ flat_map parts left
+  part_more parts added =
+      ap (λ (fs : List Fact). fs ++ flat_map parts rest) added
+      ∙ append_assoc before (parts x) (flat_map parts rest)
+      ∙ ap (λ (l : List X). before ++ flat_map parts l) (sym first)
+
+  -- one fact more, if it holds
+  pub held_more : (has : Fact → Bool) (make : X → Fact) (b : Bool) → has (make x) ≡ b → after ≡ before ++ cond b (make x ∷ []) [] → after ++ filter has (map make rest) ≡ before ++ filter has (map make left)
+  held_more has make b is added =
+      ap (λ (fs : List Fact). fs ++ filter has (map make rest)) added
+      ∙ append_assoc before (cond b (make x ∷ []) []) (filter has (map make rest))
+      ∙ ap (λ (fs : List Fact). before ++ fs) (by_kept b)
+      ∙ ap (λ (h : Bool). before ++ cond h (make x ∷ filter has (map make rest)) (filter has (map make rest))) (sym is)
+      ∙ ap (λ (l : List X). before ++ filter has (map make l)) (sym first)
+    where
+      by_kept : (h : Bool) → cond h (make x ∷ []) [] ++ filter has (map make rest) ≡ cond h (make x ∷ filter has (map make rest)) (filter has (map make rest))
+      by_kept true = refl
+      by_kept false = refl
