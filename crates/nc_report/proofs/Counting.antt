@@ -1,14 +1,12 @@
 -- How often letters are in the sheets of a report.
-use Rattle.std.proofs.Common.{◌≡◌, ℕ, ◌+◌, ◌-◌, ◌<◌, ◌≤◌, ◌^◌, inl, inr, Bool, true, false, ◌==◌, nat_eq, cond, List, [], ◌∷◌, length, map, get_or, set, take, refl, sym, ap, ◌∙◌, subst, arith}
+use Rattle.std.proofs.Common.{◌≡◌, ℕ, ◌+◌, ◌-◌, ◌<◌, ◌≤◌, ◌^◌, inl, inr, Bool, true, false, ◌==◌, nat_eq, cond, List, [], ◌∷◌, length, get_or, set, take, refl, sym, ap, ◌∙◌, subst, arith}
 use Rattle.std.proofs.lemmas.Bool.{eqb-true, eq-eqb, cases_eq}
-use Rattle.std.proofs.lemmas.List.{length-set, get_or-set_same, get_or-set_other, get_or_default, map-set, get_or-map}
+use Rattle.std.proofs.lemmas.List.{length-set, get_or-set_same, get_or-set_other}
 use Rattle.std.proofs.lemmas.List.Sums.{sum_by-set, sum_by-cons, sum_by-append, count_by-le-length, count_by_more_yes, count_by_more_no}
 use Rattle.std.proofs.lemmas.List.Elements.{All-get_or, All-set}
 use Rattle.std.proofs.lemmas.List.Concat.{flat_map-cons}
 use Rattle.std.specs.List.{flat_map, sum_by}
-use Rattle.nc_report.specs.declared.report.Sheet.{Sheet as Made}
 use Rattle.nc_report.specs.Texts.{Sheet, sheet_in, count_of}
-use Rattle.nc_report.specs.Sheets.{sheet_view}
 use Rattle.nc_report.specs.Shown.{with_letter, put_letter, count_in, one, IsText, AreKept}
 use Rattle.nc_report.proofs.Ascii.{text-put}
 
@@ -114,16 +112,3 @@ counts-put sheets counts after router place letter small lt within are long move
   few = subst (λ n. n < 2 ^ 63) (sym (total-put sheets router place letter lt within)) are.few;
   texts = All-set IsText sheets router (with_letter (sheet_in sheets router) place letter) (text-put (sheet_in sheets router) place letter small (All-get_or IsText sheets router none lt are.texts)) are.texts;
 }
-
--- a sheet, and one with a letter at a place, as they are seen
-pub sheet-view : (sheets : List Made) (router : ℕ) (sheet : Made) → router < length sheets → get_or sheets router sheet ≡ sheet → sheet_view sheet ≡ sheet_in (map sheet_view sheets) router
-sheet-view sheets router sheet lt at = sym (get_or-map sheet_view sheets router sheet none lt ∙ ap sheet_view at)
-
-pub put-view : (sheets : List Made) (router place letter : ℕ) (sheet new : Made) → router < length sheets → get_or sheets router sheet ≡ sheet → sheet_view new ≡ with_letter (sheet_view sheet) place letter
-    → map sheet_view (set sheets router new) ≡ put_letter (map sheet_view sheets) router place letter
-put-view sheets router place letter sheet new lt at is =
-    map-set sheet_view sheets router new ∙ ap (λ (s : Sheet). set (map sheet_view sheets) router s) (is ∙ ap (λ (s : Sheet). with_letter s place letter) (sheet-view sheets router sheet lt at))
-
--- what is read twice at a place
-pub same-item : {X : Type 0} (xs : List X) (at : ℕ) (x y : X) → at < length xs → x ≡ get_or xs at x → y ≡ get_or xs at y → x ≡ y
-same-item xs at x y lt a b = a ∙ get_or_default xs at x y lt ∙ sym b

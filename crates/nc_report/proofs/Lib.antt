@@ -1,4 +1,8 @@
 pub mod Lists
+pub mod Digits
+pub mod Numbers
+pub mod Listed
+mod Counted
 pub mod Ascii
 mod Counting
 mod Showing

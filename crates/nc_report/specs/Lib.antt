@@ -1,5 +1,7 @@
 pub mod Views
 pub mod Texts
+pub mod Counters
 pub mod Sheets
 pub mod Shown
+pub mod Listings
 pub mod Values

@@ -6,7 +6,6 @@ use Rattle.json.specs.Print.{quoted}
 use Rattle.nc_lines.specs.Lines.{line_at}
 use Rattle.nc_marks.specs.declared.mark.Mark.{Mark}
 use Rattle.nc_marks.specs.declared.mark.Mark.TheVariants.{Strong, Weak, Uncovered, Outside}
-use Rattle.nc_report.specs.declared.lcov.Hit.{Hit}
 use Rattle.nc_report.specs.Views.{FileView}
 
 -- a text with a line feed behind it
@@ -88,6 +87,11 @@ show_of letters lines = flat_map (shown_at letters lines) (places (length lines)
 -- that is outside isn't counted
 abbrev pub hits_of : ℕ → Option ℕ
 hits_of letter = if letter == 83 || letter == 87 then Some 1 else (if letter == 85 then Some 0 else None)
+
+-- a line that is counted, and how often it was hit
+pub record Hit : Type 0 where
+  pub line : ℕ
+  pub count : ℕ
 
 -- the hits of a line, where it is counted
 abbrev pub hit_of : ℕ → Option ℕ → Option Hit

@@ -1,12 +1,11 @@
 //! The parts of a report: how the lines of all files are marked, as text.
 
 ghost use Rattle.std.specs.Prelude.{◌≡◌, ◌++◌, ◌<◌, map, All, OnOk, IfOk};
-ghost use Rattle.std.specs.List.{flat_map};
 ghost use Rattle.nc_types.specs.Config.{config_view};
 ghost use Rattle.nc_types.specs.Network.{element_count};
 ghost use Rattle.nc_marks.specs.Marks.{marked_elements};
 ghost use Rattle.nc_report.specs.Shown.{IsText};
-ghost use Rattle.nc_report.specs.Texts.{letter, letters_of, sheet_of, line_of};
+ghost use Rattle.nc_report.specs.Texts.{letter, letters_of, line_of};
 ghost use Rattle.nc_report.specs.Sheets.{sheet_view, letters_from, sheet_at, sheets_from};
 
 use nc_marks::mark::{Mark, Marks};
@@ -107,25 +106,5 @@ pub fn push_line(out: &mut Vec<u8>, text: &[u8]) -> Result<(), AllocError>
 {
     out.extend_from_slice(text)?;
     out.push(b'\n')?;
-    Ok(())
-}
-
-// Appends the line of a router.
-fn push_sheet(out: &mut Vec<u8>, sheet: &Sheet) -> Result<(), AllocError>
-    ensures { OnOk result (out.new.items ≡ out.old.items ++ sheet_of (sheet_view sheet.now)) }
-{
-    out.extend_from_slice(&sheet.name)?;
-    out.push(b' ')?;
-    push_line(out, &sheet.letters)
-}
-
-// Appends the lines of all routers.
-pub(crate) fn push_sheets(out: &mut Vec<u8>, sheets: &[Sheet]) -> Result<(), AllocError>
-    ensures { OnOk result (out.new.items
-        ≡ out.old.items ++ flat_map sheet_of (map sheet_view sheets.now)) }
-{
-    'sheets: for sheet in sheets {
-        push_sheet(out, sheet)?;
-    }
     Ok(())
 }

@@ -1,27 +1,29 @@
 //! A listing of a file.
 
-ghost use Rattle.std.specs.Prelude.{◌≡◌, ◌++◌, OnOk};
+ghost use Rattle.std.specs.Prelude.{◌≡◌, ◌+◌, ◌<◌, ◌^◌, ◌++◌, OnOk};
+ghost use Rattle.nc_report.specs.Counters.{IsFront};
 ghost use Rattle.nc_report.specs.Texts.{letter_in, shown_line, show_of};
 
+use crate::counter::Counter;
 use nc_lines::Lines;
 use std::alloc::{AllocError, Global};
 
 // Appends a line behind its letter and its number.
 #[tactic(auto, unfolding(crate::specs::Texts::shown_line))]
 fn push_shown(
-    alloc: Global,
     out: &mut Vec<u8>,
+    front: &mut Counter,
     letter: u8,
-    number: u32,
     line: &[u8],
 ) -> Result<(), AllocError>
-    ensures { OnOk result (out.new.items ≡ out.old.items ++ shown_line letter number line.now) }
+    requires is { IsFront front.old }
+    ensures out { OnOk result (out.new.items
+        ≡ out.old.items ++ shown_line letter front.old.number line.now) }
+    ensures is { IsFront front.new }
+    ensures number { front.new.number ≡ front.old.number }
 {
-    let digits = format!(in alloc; "{number}")?;
-    out.push(letter)?;
-    out.push(b' ')?;
-    out.extend_from_slice(digits.as_bytes())?;
-    out.push(b' ')?;
+    front.put_before(0, letter);
+    out.extend_from_slice(front.text())?;
     out.extend_from_slice(line)?;
     out.push(b'\n')?;
     Ok(())
@@ -43,15 +45,15 @@ pub(crate) fn push_listing(
 ) -> Result<(), AllocError>
     ensures { OnOk result (out.new.items ≡ out.old.items ++ show_of letters.now lines.now) }
 {
+    let mut front = Counter::new(alloc, b". ", b" ")?;
     'lines: for place in 0..lines.count() {
-        let number = place + 1;
         push_shown(
-            alloc,
             out,
+            &mut front,
             letter_in(letters, place),
-            number,
-            lines.line(number),
+            lines.line(place + 1),
         )?;
+        front.count_up()?;
     }
     Ok(())
 }

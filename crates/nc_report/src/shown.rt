@@ -7,7 +7,7 @@ ghost use Rattle.nc_types.specs.Network.{element_count, owner_at};
 ghost use Rattle.nc_marks.specs.Kept.{TouchesOnly};
 ghost use Rattle.nc_marks.specs.Marks.{ElementMarks, marked_elements};
 ghost use Rattle.nc_marks.specs.Sets.{has};
-ghost use Rattle.nc_report.specs.Texts.{count_of, json_of, lcov_of, letters_of, object_text, report_of, sheet_in, show_of, summary_of, totals_of};
+ghost use Rattle.nc_report.specs.Texts.{count_of, json_of, lcov_of, letters_of, object_text, report_of, sheet_in, show_of, totals_of};
 ghost use Rattle.nc_report.specs.Sheets.{sheets_from};
 ghost use Rattle.nc_report.specs.Shown.{AreFreshBut, is_owner, one, put_letter};
 ghost use Rattle.nc_report.specs.Values.{report_data};
@@ -15,8 +15,10 @@ ghost use Rattle.nc_report.specs.Views.{file_view};
 
 use crate::file::LoadedFile;
 use crate::lcov::push_sections;
+use crate::listing::Listing;
+use crate::number::push_count;
 use crate::object::router_values;
-use crate::report::{Sheet, all_letters, letter, push_line, push_sheets, sheets};
+use crate::report::{all_letters, letter, push_line, sheets};
 use crate::show::push_listing;
 use nc_marks::mark::Marks;
 use nc_types::{ElementId, Network, RouterId};
@@ -24,26 +26,28 @@ use serde_json::{Value, json};
 use std::alloc::{AllocError, Global};
 use std::marker::Model;
 
+// More bytes than the counts of the marks take.
+const TOTALS_ROOM: usize = 128;
+
 /// A name and the letters of the lines for each router: `S` is a strong line, `W` a weak one, `U`
 /// one that isn't covered, and a dot one outside.
 #[derive(Drop)]
 pub struct Shown {
-    sheets: Vec<Sheet>,
+    listing: Listing,
     // how often each letter is in them, by its byte
     counts: Vec<usize>,
 }
 
 impl Model for Shown {
-    ghost use Rattle.std.specs.Prelude.{List, map};
+    ghost use Rattle.std.specs.Prelude.{List};
     ghost use Rattle.nc_report.specs.Texts.{Sheet};
-    ghost use Rattle.nc_report.specs.Sheets.{sheet_view};
     ghost use Rattle.nc_report.specs.Shown.{AreKept};
 
     ghost Value = { List Sheet };
 
-    ghost view = { λ s. map sheet_view s.sheets.items };
+    ghost view = { λ s. s.listing };
 
-    ghost invariant = { λ s. AreKept (map sheet_view s.sheets.items) s.counts.items };
+    ghost invariant = { λ s. AreKept s.listing s.counts.items };
 }
 
 // How often each byte is among letters.
@@ -87,7 +91,8 @@ impl Shown {
         let sheets = sheets(alloc, network, marks)?;
         let letters = all_letters(alloc, &sheets)?;
         let counts = counts_of(alloc, &letters)?;
-        Ok(Shown { sheets, counts })
+        let listing = Listing::new(alloc, &sheets)?;
+        Ok(Shown { listing, counts })
     }
 
     // Puts a letter at a place of a router's, if there is one.
@@ -95,11 +100,9 @@ impl Shown {
         requires { letter < 128 }
         ensures { self.new ≡ put_letter self.old router place letter }
     {
-        if router >= self.sheets.len() || place >= self.sheets[router].letters.len() {
+        let Some(before) = self.listing.put(router, place, letter) else {
             return;
-        }
-        let before = self.sheets[router].letters[place];
-        self.sheets[router].letters[place] = letter;
+        };
         recount(&mut self.counts, before, letter);
     }
 
@@ -164,29 +167,6 @@ impl Shown {
         self.counts[sign as usize]
     }
 
-    // The counts of the marks.
-    fn summary(&self, alloc: Global) -> Result<String, AllocError>
-        ensures { IfOk result (λ text. string_bytes text
-            ≡ summary_of (letters_of self.now)) }
-    {
-        let strong = self.count(b'S');
-        let weak = self.count(b'W');
-        let uncovered = self.count(b'U');
-        let outside = self.count(b'.');
-        format!(in alloc; "strong {strong} weak {weak} uncovered {uncovered} outside {outside}")
-    }
-
-    // How many bytes the lines of the routers take together, if that is a number; it reserves and
-    // promises nothing.
-    fn room(&self) -> usize {
-        let mut room: usize = 0;
-        'sheets: for sheet in &self.sheets {
-            let line = sheet.name.len().saturating_add(sheet.letters.len());
-            room = room.saturating_add(line.saturating_add(2));
-        }
-        room
-    }
-
     /// Appends the report: the counts of the marks of all lines, then of each router its name and a
     /// letter a line.
     ///
@@ -196,10 +176,10 @@ impl Shown {
     pub fn push_report(&self, alloc: Global, out: &mut Vec<u8>) -> Result<(), AllocError>
         ensures { OnOk result (out.new.items ≡ out.old.items ++ report_of self.now) }
     {
-        let summary = self.summary(alloc)?;
-        out.reserve(self.room().saturating_add(summary.len()).saturating_add(1))?;
-        push_line(out, summary.as_bytes())?;
-        push_sheets(out, &self.sheets)?;
+        let lines = self.listing.text();
+        out.reserve(lines.len().saturating_add(TOTALS_ROOM))?;
+        self.push_totals(alloc, out)?;
+        out.extend_from_slice(lines)?;
         Ok(())
     }
 
@@ -208,21 +188,25 @@ impl Shown {
     /// # Errors
     ///
     /// That memory is refused.
-    pub fn push_totals(&self, alloc: Global, out: &mut Vec<u8>) -> Result<(), AllocError>
+    pub fn push_totals(&self, _alloc: Global, out: &mut Vec<u8>) -> Result<(), AllocError>
         ensures { OnOk result (out.new.items ≡ out.old.items ++ totals_of self.now) }
     {
-        let summary = self.summary(alloc)?;
-        push_line(out, summary.as_bytes())
+        push_count(out, b"strong ", self.count(b'S'))?;
+        push_count(out, b" weak ", self.count(b'W'))?;
+        push_count(out, b" uncovered ", self.count(b'U'))?;
+        push_count(out, b" outside ", self.count(b'.'))?;
+        out.push(b'\n')?;
+        Ok(())
     }
 
     // The letters of a router, none where it isn't there.
     fn letters(&self, router: RouterId) -> &[u8]
         ensures { result.now ≡ (sheet_in self.now router.0).letters }
     {
-        match self.sheets.get(router.0 as usize) {
-            Some(sheet) => &sheet.letters,
-            None => &[],
+        if router.0 as usize >= self.listing.len() {
+            return &[];
         }
+        self.listing.letters(router.0 as usize)
     }
 
     /// Appends a listing of a router's file: each line behind its letter, its number and a space
@@ -253,7 +237,7 @@ impl Shown {
         ensures { OnOk result (out.new.items
             ≡ out.old.items ++ lcov_of self.now (map file_view files.now)) }
     {
-        push_sections(alloc, out, &self.sheets, files)?;
+        push_sections(alloc, out, &self.listing, files)?;
         Ok(())
     }
 
@@ -266,7 +250,7 @@ impl Shown {
         let strong = self.count(b'S');
         let uncovered = self.count(b'U');
         let weak = self.count(b'W');
-        let routers = Value::Array(router_values(alloc, &self.sheets)?);
+        let routers = Value::Array(router_values(alloc, &self.listing)?);
         let value = json!(in alloc; {
             "outside": outside,
             "routers": &routers,

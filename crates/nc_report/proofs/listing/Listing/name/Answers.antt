@@ -1,0 +1,40 @@
+use Rattle.std.proofs.Common.{◌-◌, ◌<◌, ◌∙◌, List, ℕ, length, take, drop, ap, arith}
+use Rattle.std.proofs.lemmas.List.{length-map}
+use Rattle.nc_report.specs.Listings.{sheet_between}
+use Rattle.nc_report.specs.Texts.{Sheet, sheet_in}
+use Rattle.nc_report.proofs.Listed.{line-seen, line-within}
+use Rattle.nc_report.proofs.listing.Listing.name.Goals as goal
+
+pub overflow_sub-place : goal.overflow_sub-place
+overflow_sub-place c =
+    let text = c.self.inside.text.items in
+    let places = c.self.inside.places.items in
+    let lt : c.args.router < length places = omega (arith, c.requires, ap length c.self.view_is, length-map places (sheet_between text)) in
+    let first = (line-within text places c.self.invariant c.args.router c.index-place.result.now lt c.index-place.ensures).0 in
+    omega arith
+
+pub part-requires-clause-order : goal.part-requires-clause-order
+part-requires-clause-order c =
+    let text = c.self.inside.text.items in
+    let places = c.self.inside.places.items in
+    let lt : c.args.router < length places = omega (arith, c.requires, ap length c.self.view_is, length-map places (sheet_between text)) in
+    let first = (line-within text places c.self.invariant c.args.router c.index-place.result.now lt c.index-place.ensures).0 in
+    omega arith
+
+pub part-requires-clause-within : goal.part-requires-clause-within
+part-requires-clause-within c =
+    let text = c.self.inside.text.items in
+    let places = c.self.inside.places.items in
+    let lt : c.args.router < length places = omega (arith, c.requires, ap length c.self.view_is, length-map places (sheet_between text)) in
+    let all = line-within text places c.self.invariant c.args.router c.index-place.result.now lt c.index-place.ensures in
+    omega (arith, all.1, all.2, ap length c.deref.ensures.value)
+
+pub returns : goal.returns
+returns c =
+    let text = c.self.inside.text.items in
+    let places = c.self.inside.places.items in
+    let place = c.index-place.result.now in
+    let lt : c.args.router < length places = omega (arith, c.requires, ap length c.self.view_is, length-map places (sheet_between text)) in
+    c.part.ensures ∙ ap (λ (t : List ℕ). take (place.letters - 1 - place.start) (drop place.start t)) c.deref.ensures.value
+    ∙ ap (λ (s : Sheet). s.name) (line-seen text places c.self.invariant c.args.router place lt c.index-place.ensures)
+    ∙ ap (λ (ss : List Sheet). (sheet_in ss c.args.router).name) c.self.view_is
