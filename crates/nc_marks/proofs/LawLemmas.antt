@@ -34,7 +34,7 @@ each-both V P Q xs valid both = (
 
 module _ {X Y : Type 0} (g : Flow X) (xs : List X) (h : Flow Y) (ys : List Y)
     (strongs : (e : ℕ) → Any (IsStrong g e) xs ↔ Any (IsStrong h e) ys) (somes : (e : ℕ) → Any (IsInSome g e) xs ↔ Any (IsInSome h e) ys) where
-  mark-carried : (owner : Option ℕ) (m : Mark) → IsMark g xs owner m → IsMark h ys owner m
+  pub mark-carried : (owner : Option ℕ) (m : Mark) → IsMark g xs owner m → IsMark h ys owner m
   mark-carried (Some e) Strong m = (strongs e).0 m
   mark-carried (Some e) Weak m = (λ a. m.0 ((strongs e).1 a), (somes e).0 m.1)
   mark-carried (Some e) Uncovered m = (λ a. m.0 ((strongs e).1 a), λ a. m.1 ((somes e).1 a))
@@ -115,7 +115,7 @@ module _ {F : Type 0} (old new : Nodes F) (is : IsGraph old) (longer : IsGraph n
 module _ {F : Type 0} (g : Flow F) (law : IsFlow g) (n : Nodes F) (is : IsGraph n) (m : Mirrors g n) (ids : List NodeId) (facts : List F)
     (are : map (λ p. slice_get n.facts p.0) ids ≡ map Some facts) where
   -- P of some node is Q of some fact, where P of each node is Q of its fact
-  nodes-both : (P : ℕ → Type 0) (Q : F → Type 0) → ((j : ℕ) (f : F) → slice_get n.facts j ≡ Some f → P j ↔ Q f) → Any P (map (λ p. p.0) ids) ↔ Any Q facts
+  pub nodes-both : (P : ℕ → Type 0) (Q : F → Type 0) → ((j : ℕ) (f : F) → slice_get n.facts j ≡ Some f → P j ↔ Q f) → Any P (map (λ p. p.0) ids) ↔ Any Q facts
   nodes-both P Q both = (
     any-from P Q (map (λ p. p.0) ids) facts (λ j i p. let r = fact-of n ids facts are j i in (r.0, r.1, (both j r.0 r.2).0 p)),
     any-from Q P facts (map (λ p. p.0) ids) (λ f i q. let r = node-of n ids facts are f i in (r.0, r.1, (both r.0 f r.2).1 q)),

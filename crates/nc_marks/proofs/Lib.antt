@@ -1,3 +1,4 @@
+pub mod BelowLemmas
 pub mod ChangedLemmas
 pub mod ForgetLemmas
 pub mod KeptLemmas

@@ -4,7 +4,7 @@ ghost use Rattle.std.specs.Prelude.{◌≡◌, ◌<◌, ◌≤◌, ◌++◌, ◌
 ghost use Rattle.nc_graph.specs.Derivation.{strong};
 ghost use Rattle.nc_graph.specs.Flow.{Flow};
 ghost use Rattle.nc_graph.specs.Nodes.{node_flow, IsGraph};
-ghost use Rattle.nc_marks.specs.Kept.{kept_nodes, AreKept, TouchesOnly};
+ghost use Rattle.nc_marks.specs.Kept.{kept_nodes, strong_at, AreKept, TouchesOnly};
 ghost use Rattle.nc_marks.specs.Marks.{marked_elements};
 ghost use Rattle.nc_marks.specs.Reach.{AreReached, leaf_in};
 ghost use Rattle.nc_marks.specs.Sets.{Grows, IsAt, ArePlaced, flag, has, has_node, in_some};
@@ -250,6 +250,21 @@ impl KeptMarks {
         ensures { result.now ≡ self.now.marks }
     {
         &self.marks
+    }
+
+    /// How many elements have marks.
+    pub fn elements(&self) -> u32
+        ensures { result ≡ marked_elements self.now.marks }
+    {
+        self.nodes.sets.width()
+    }
+
+    /// The strong elements of a node that is kept.
+    pub fn strong_of(&self, node: NodeId) -> &[u32]
+        requires { node.0 < kept_nodes self.now }
+        ensures { result.now ≡ strong_at self.now node.0 }
+    {
+        self.nodes.sets.get(self.nodes.places[node.0 as usize])
     }
 
     /// Adds tested nodes of a graph, whose first nodes are those that are kept, to the live ones,

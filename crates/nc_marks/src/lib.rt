@@ -11,10 +11,12 @@
 //! for a node, or none where a parent's serves. `marks_by_diagrams` answers the same marks by what
 //! the diagrams of the tested nodes need. For a graph that grows, `KeptMarks` keeps the sets, which
 //! nodes the live ones reach, and the marks, so that a further test costs what is new, and to
-//! forget tests costs one pass over the graph; that the marks of nodes are those of their facts,
-//! and that what is kept of a graph is kept of a longer one, are the laws of `laws`.
+//! forget tests costs one pass over the graph; it shows the set of each node, and `nodes_below`
+//! answers what nodes reach in the time for that alone. That the marks of nodes are those of their
+//! facts, and that what is kept of a graph is kept of a longer one, are the laws of `laws`.
 #![tactic(auto)]
 
+pub mod below;
 pub mod by_diagrams;
 mod changed;
 mod combine;

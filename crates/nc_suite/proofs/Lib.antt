@@ -1,0 +1,9 @@
+pub mod TurnLemmas
+pub mod LiftLemmas
+pub mod DeadLemmas
+pub mod SpareLemmas
+pub mod TallyLemmas
+pub mod ListedLemmas
+pub mod CountLemmas
+pub mod TouchLemmas
+pub mod SuiteLemmas
