@@ -21,7 +21,7 @@ use Rattle.nc_lines.specs.Lines.{words_of}
 use Rattle.nc_lines.specs.Numbers.{is_digit, value_after, is_plain, number_of, address_of, address_of_parts, prefix_of, prefix_of_parts}
 use Rattle.nc_lines.proofs.NumberLemmas.{value_after-ge}
 use Rattle.nc_command.specs.declared.command.Command.{Command}
-use Rattle.nc_command.specs.declared.command.Command.TheVariants.{Test, Forget, Implies, Cut, Lcov, Json, Quit}
+use Rattle.nc_command.specs.declared.command.Command.TheVariants.{Test, Forget, Implies, Cut, Lcov, Json, Suite, Dead, Quit}
 use Rattle.nc_types.specs.Dotted.{dotted}
 use Rattle.nc_command.specs.Command.{most_number, Passed, TooLong, Unread, Asks, begins_note, addr_of, address_behind, prefix_test_of, address_test_of, line_test_of, test_of, alone, show_by, forget_by, implies_by, kept_by, cut_by, command_by, asked_by, command_of, cidr_text, spaced, prefix_text, address_text, line_text, text_of}
 
@@ -239,8 +239,14 @@ module _ (word : List ℕ) (words : List (List ℕ)) where
   abbrev forget_command : Option Command
   forget_command = cond (bytes_eq word (codes "forget")) (forget_by words) implies_command
 
+  abbrev dead_command : Option Command
+  dead_command = cond (bytes_eq word (codes "dead")) (alone Dead words) forget_command
+
+  abbrev suite_command : Option Command
+  suite_command = cond (bytes_eq word (codes "suite")) (alone Suite words) dead_command
+
   abbrev json_command : Option Command
-  json_command = cond (bytes_eq word (codes "json")) (alone Json words) forget_command
+  json_command = cond (bytes_eq word (codes "json")) (alone Json words) suite_command
 
   abbrev lcov_command : Option Command
   lcov_command = cond (bytes_eq word (codes "lcov")) (alone Lcov words) json_command
@@ -335,9 +341,17 @@ asked-text (word ∷ words) test at = by_note (begins_note word) at
     by_forget true is = not-forgot words is
     by_forget false is = by_implies (bytes_eq word (codes "implies")) is
 
-    by_json : (b : Bool) → cond b (alone Json words) (forget_command word words) ≡ Some (Test test) → text_of test ≡ spaced (word ∷ words)
+    by_dead : (b : Bool) → cond b (alone Dead words) (forget_command word words) ≡ Some (Test test) → text_of test ≡ spaced (word ∷ words)
+    by_dead true is = not-alone Dead words (λ e. absurd (cc)) is
+    by_dead false is = by_forget (bytes_eq word (codes "forget")) is
+
+    by_suite : (b : Bool) → cond b (alone Suite words) (dead_command word words) ≡ Some (Test test) → text_of test ≡ spaced (word ∷ words)
+    by_suite true is = not-alone Suite words (λ e. absurd (cc)) is
+    by_suite false is = by_dead (bytes_eq word (codes "dead")) is
+
+    by_json : (b : Bool) → cond b (alone Json words) (suite_command word words) ≡ Some (Test test) → text_of test ≡ spaced (word ∷ words)
     by_json true is = not-alone Json words (λ e. absurd (cc)) is
-    by_json false is = by_forget (bytes_eq word (codes "forget")) is
+    by_json false is = by_suite (bytes_eq word (codes "suite")) is
 
     by_lcov : (b : Bool) → cond b (alone Lcov words) (json_command word words) ≡ Some (Test test) → text_of test ≡ spaced (word ∷ words)
     by_lcov true is = not-alone Lcov words (λ e. absurd (cc)) is

@@ -12,7 +12,7 @@ use Rattle.nc_types.specs.declared.command.TestCommand.TheVariants.{Rib, Bgp, Se
 use Rattle.nc_lines.specs.Lines.{words_of}
 use Rattle.nc_lines.specs.Numbers.{number_of, address_of, prefix_of}
 use Rattle.nc_command.specs.declared.command.Command.{Command}
-use Rattle.nc_command.specs.declared.command.Command.TheVariants.{Test, Forget, Implies, Cut, Show, Lcov, Json, Quit}
+use Rattle.nc_command.specs.declared.command.Command.TheVariants.{Test, Forget, Implies, Cut, Show, Lcov, Json, Suite, Dead, Quit}
 use Rattle.nc_command.specs.declared.fault.CommandFault.{CommandFault}
 use Rattle.nc_command.specs.declared.fault.CommandFault.TheVariants.{Long, Syntax, Memory}
 
@@ -115,10 +115,12 @@ command_by word words =
     else (if bytes_eq word (codes "show") then show_by words
     else (if bytes_eq word (codes "lcov") then alone Lcov words
     else (if bytes_eq word (codes "json") then alone Json words
+    else (if bytes_eq word (codes "suite") then alone Suite words
+    else (if bytes_eq word (codes "dead") then alone Dead words
     else (if bytes_eq word (codes "forget") then forget_by words
     else (if bytes_eq word (codes "implies") then implies_by words
     else (if bytes_eq word (codes "cut") then cut_by words
-    else option_map Test (test_of word words)))))))
+    else option_map Test (test_of word words)))))))))
 
 -- what the words of a line ask
 abbrev pub asked_by : List (List ℕ) → Line

@@ -19,6 +19,10 @@ pub enum Command {
     Lcov,
     /// The marks of all lines as a JSON object.
     Json,
+    /// Tests of which none can be left out, and which mark each element as all tests do.
+    Suite,
+    /// The elements on which nothing rests that the network does.
+    Dead,
     /// That the session ends.
     Quit,
 }

@@ -285,6 +285,12 @@ fn read_words(alloc: Global, word: &[u8], rest: &[u8]) -> Result<Option<Command>
     if word == b"json".as_slice() {
         return Ok(alone(Command::Json, rest));
     }
+    if word == b"suite".as_slice() {
+        return Ok(alone(Command::Suite, rest));
+    }
+    if word == b"dead".as_slice() {
+        return Ok(alone(Command::Dead, rest));
+    }
     if word == b"forget".as_slice() {
         return Ok(read_forget(rest));
     }
