@@ -68,7 +68,7 @@ module _ (g : Flow Fact) (evaluated : (x : ℕ → Bool) (f : Fact) → g.holds 
 -- ---- lists that ascend
 
 -- two lists of numbers, each below those behind it, with the same members
-same_rising : (xs ys : List ℕ) → AllPairs (λ x y. x < y) xs → AllPairs (λ x y. x < y) ys → ((v : ℕ) → Contains xs v → Contains ys v) → ((v : ℕ) → Contains ys v → Contains xs v) → xs ≡ ys
+pub same_rising : (xs ys : List ℕ) → AllPairs (λ x y. x < y) xs → AllPairs (λ x y. x < y) ys → ((v : ℕ) → Contains xs v → Contains ys v) → ((v : ℕ) → Contains ys v → Contains xs v) → xs ≡ ys
 same_rising [] [] up rise to from = refl
 same_rising [] (y ∷ ys) up rise to from = absurd (omega (arith, (from y (0, omega arith, refl)).1))
 same_rising (x ∷ xs) [] up rise to from = absurd (omega (arith, (to x (0, omega arith, refl)).1))

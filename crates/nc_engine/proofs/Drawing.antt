@@ -13,7 +13,7 @@ use Rattle.nc_report.specs.Views.{FileView}
 use Rattle.nc_engine.specs.declared.work.KeptTest.{KeptTest as Made}
 use Rattle.nc_engine.specs.declared.work.Work.{Work}
 use Rattle.nc_engine.specs.Session.{KeptTest, test_in}
-use Rattle.nc_command.specs.declared.command.Command.TheVariants.{Test, Forget, Implies, Cut, Show, Lcov, Json, Quit}
+use Rattle.nc_command.specs.declared.command.Command.TheVariants.{Test, Forget, Implies, Cut, Suite, Dead, Show, Lcov, Json, Quit}
 use Rattle.nc_command.specs.Command.{Line, Passed, TooLong, Unread, Asks}
 use Rattle.nc_engine.specs.Engine.{Progress, IsDrawn, HasDrawn, HasDrawnFor, IsRefusal}
 use Rattle.nc_engine.specs.Work.{IsWork, IsDrawnAt, IsDrawnFor, IsDrawnOrRefused, HaveNodes, drawn_in, test_view, progress_of}
@@ -137,6 +137,8 @@ drawn-behind p (Asks Quit) before reply after text drawn = tt
 drawn-behind p (Asks (Show name)) before reply after text drawn = tt
 drawn-behind p (Asks Lcov) before reply after text drawn = tt
 drawn-behind p (Asks Json) before reply after text drawn = tt
+drawn-behind p (Asks Suite) before reply after text drawn = tt
+drawn-behind p (Asks Dead) before reply after text drawn = tt
 drawn-behind p (Asks (Test test)) before reply after text drawn = tt
 drawn-behind p (Asks (Forget number)) before reply after text drawn = tt
 drawn-behind p (Asks (Implies first second)) before reply after text drawn = tt

@@ -5,11 +5,11 @@ use Rattle.std.specs.List.{list_any}
 use Rattle.std.proofs.Math.Seq.{take-append_seam, drop-append_seam}
 use Rattle.std.proofs.lemmas.Bool.{cases_lt, both_ways}
 use Rattle.std.proofs.lemmas.Grind.{flat_map-append}
-use Rattle.std.proofs.lemmas.List.Elements.{All-nil, All-append, All-get_or, All-take, All-drop}
+use Rattle.std.proofs.lemmas.List.Elements.{All-nil, All-cons, All-append, All-take, All-drop}
 use Rattle.std.proofs.lemmas.List.Folds.{Any-from_list_any, list_any-from_Any}
 use Rattle.nc_types.specs.Config.{ConfigView}
-use Rattle.nc_types.proofs.Members.{all_by_in, in_by_filter}
-use Rattle.nc_types.specs.Network.{owner_at, router_named}
+use Rattle.nc_types.proofs.Members.{all_by_in, contains_by_in, in_by_filter}
+use Rattle.nc_types.specs.Network.{element_count, owner_at, router_named}
 use Rattle.nc_types.specs.declared.command.TestCommand.{TestCommand}
 use Rattle.nc_graph.specs.Closure.{IsClosure, ReachesMoreThan}
 use Rattle.nc_graph.specs.Flow.{Flow}
@@ -20,9 +20,14 @@ use Rattle.nc_diagram.specs.Counter.{Implies as IsImplying}
 use Rattle.nc_formula.specs.Parts.{carrying_each}
 use Rattle.nc_engine.specs.Questions.{IsAnswer, yes_of, no_of}
 use Rattle.nc_cut.specs.Cuts as plain
+use Rattle.nc_engine.specs.Suites.{suite_of}
+use Rattle.nc_engine.specs.DeadElements.{dead_of}
 use Rattle.nc_engine.specs.Cuts.{IsCutAnswer, none_of, least_of, is_kept, unknown_among}
 use Rattle.nc_engine.proofs.Cutting.{free_from, free_of, uncut-from, least-from}
-use Rattle.nc_engine.proofs.Carrying.{implied, greatest}
+use Rattle.nc_engine.proofs.Carrying.{Hold, implied, greatest}
+use Rattle.nc_engine.proofs.Marked.{element_mark}
+use Rattle.nc_engine.proofs.Sufficing.{suite_some}
+use Rattle.nc_engine.proofs.Unmarked.{dead_some}
 use Rattle.nc_engine.proofs.Deciding.{AsksBelow, Missing, decide}
 use Rattle.nc_engine.proofs.Bounded.{carrying_low}
 use Rattle.nc_engine.proofs.Fewer.{asked-fewer}
@@ -31,16 +36,17 @@ use Rattle.nc_marks.specs.declared.mark.Mark.{Mark}
 use Rattle.nc_marks.specs.declared.mark.Mark.TheVariants.{Strong, Weak, Uncovered, Outside}
 use Rattle.nc_fact.specs.declared.fact.Fact.{Fact}
 use Rattle.nc_fact.specs.Facts.{holds}
+use Rattle.nc_fact.specs.Roots.{IsRoot, roots}
 use Rattle.nc_fact.specs.Tested.{tested_facts, named_facts}
 use Rattle.nc_rules.specs.Rules.{flow_of}
-use Rattle.nc_command.specs.declared.command.Command.TheVariants.{Test, Forget, Implies, Cut, Show, Lcov, Json, Quit}
+use Rattle.nc_command.specs.declared.command.Command.TheVariants.{Test, Forget, Implies, Cut, Suite, Dead, Show, Lcov, Json, Quit}
 use Rattle.nc_command.specs.Command.{Line, Passed, TooLong, Unread, Asks, command_of, text_of}
 use Rattle.nc_engine.specs.Limits.{most_tests, most_facts}
 use Rattle.nc_report.specs.Texts.{Sheet, letter, line_of, report_by, lcov_of, json_of}
 use Rattle.nc_engine.specs.Session.{accepted_of, forgot_of, untested_of}
 use Rattle.nc_engine.specs.File.{LoadedView}
 use Rattle.nc_engine.specs.Marks.{AreLineMarks, IsSheet, IsFormOf}
-use Rattle.nc_engine.specs.Session.{GoesOn, KeptTest, live_test, State, no_tests, with_test, with_pair, without_test, test_in, live_place, IsReported, Forgets, Questions, CutsNamed, asked_in, live_in, router_of, IsReply, Counts, Tests, Lined, Named as IsNamed, has_line, unknown_of, Tells, Shows, listing_at, Answers, Run}
+use Rattle.nc_engine.specs.Session.{GoesOn, TellsSuite, TellsDead, live_each, KeptTest, live_test, State, no_tests, with_test, with_pair, without_test, test_in, live_place, IsReported, Forgets, Questions, CutsNamed, asked_in, live_in, router_of, IsReply, Counts, Tests, Lined, Named as IsNamed, has_line, unknown_of, Tells, Shows, listing_at, Answers, Run}
 
 -- ---- lists that are made
 
@@ -76,49 +82,14 @@ placed-at f [] k c s at is = absurd cc
 placed-at f (d ∷ cs) zero c s at is = cc
 placed-at f (d ∷ cs) (suc k) c s at is = placed-at (λ i. f (suc i)) cs k c s at is
 
--- what some item is of those of which H holds
-any_weaker : {A : Type 0} (H P Q : A → Type 0) (xs : List A) → All H xs → ((x : A) → H x → P x → Q x) → Any P xs → Any Q xs
-any_weaker H P Q xs hold weaker a = (a.0, a.1, a.2, a.3, weaker a.1 (subst H a.3 (All-get_or H xs a.0 a.1 a.2 hold)) a.4)
-
--- ---- marks
-
-abbrev Hold : Flow Fact → List Fact → Type 0
-Hold g facts = All (λ f. g.holds f ≡ true) facts
+-- ---- forms of the marks
 
 module _ (g : Flow Fact) (strongs : (e : ℕ) (f : Fact) → g.holds f ≡ true → IsStrong g e f ↔ (strong g e f ≡ true))
     (somes : (e : ℕ) (f : Fact) → g.holds f ≡ true → IsInSome g e f ↔ (occurs g e f ≡ true)) where
-  module _ (tested : List Fact) (hold : Hold g tested) (e : ℕ) where
-    strong_yes : list_any (strong g e) tested ≡ true → Any (IsStrong g e) tested
-    strong_yes is = any_weaker (λ f. g.holds f ≡ true) (λ f. strong g e f ≡ true) (IsStrong g e) tested hold (λ f h. (strongs e f h).1) (Any-from_list_any (strong g e) tested is)
-
-    strong_no : list_any (strong g e) tested ≡ false → ¬ Any (IsStrong g e) tested
-    strong_no is some =
-        let found : list_any (strong g e) tested ≡ true =
-        list_any-from_Any (strong g e) tested (any_weaker (λ f. g.holds f ≡ true) (IsStrong g e) (λ f. strong g e f ≡ true) tested hold (λ f h. (strongs e f h).0) some) in
-        both_ways (list_any (strong g e) tested) is found
-
-    some_yes : list_any (occurs g e) tested ≡ true → Any (IsInSome g e) tested
-    some_yes is = any_weaker (λ f. g.holds f ≡ true) (λ f. occurs g e f ≡ true) (IsInSome g e) tested hold (λ f h. (somes e f h).1) (Any-from_list_any (occurs g e) tested is)
-
-    some_no : list_any (occurs g e) tested ≡ false → ¬ Any (IsInSome g e) tested
-    some_no is some =
-        let found : list_any (occurs g e) tested ≡ true =
-        list_any-from_Any (occurs g e) tested (any_weaker (λ f. g.holds f ≡ true) (IsInSome g e) (λ f. occurs g e f ≡ true) tested hold (λ f h. (somes e f h).0) some) in
-        both_ways (list_any (occurs g e) tested) is found
-
-    -- each element has a mark
-    element_mark : (m : Mark) × IsMark g tested (Some e) m
-    element_mark = on (list_any (strong g e) tested) (list_any (occurs g e) tested) refl refl
-      where
-        on : (b c : Bool) → list_any (strong g e) tested ≡ b → list_any (occurs g e) tested ≡ c → (m : Mark) × IsMark g tested (Some e) m
-        on true c is in-some = (Strong, strong_yes is)
-        on false true is in-some = (Weak, (strong_no is, some_yes in-some))
-        on false false is in-some = (Uncovered, (strong_no is, some_no in-some))
-
   module _ (tested : List Fact) (hold : Hold g tested) (routers : List ConfigView) where
     mark_of_line : (o : Option ℕ) → (m : Mark) × IsMark g tested o m
     mark_of_line None = (Outside, tt)
-    mark_of_line (Some e) = element_mark tested hold e
+    mark_of_line (Some e) = element_mark g strongs somes tested hold e
 
     -- the marks of a router's lines, its sheet, and a form of all sheets
     abbrev marks_at : ℕ → ℕ → List Mark
@@ -167,6 +138,16 @@ all_live P (t ∷ tests) all = on t.live (all_front P t.facts (asked_in tests) a
     on : (b : Bool) → All P t.facts → All P (live_in tests) → All P (cond b t.facts [] ++ live_in tests)
     on true these rest = All-append P t.facts (live_in tests) these rest
     on false these rest = rest
+
+-- and of each of them
+live_hold : (P : Fact → Type 0) (tests : List KeptTest) → All P (asked_in tests) → All (All P) (live_each tests)
+live_hold P [] all = All-nil (All P)
+live_hold P (t ∷ tests) all =
+    All-cons (All P) (cond t.live t.facts []) (live_each tests) (on t.live (all_front P t.facts (asked_in tests) all)) (live_hold P tests (all_behind P t.facts (asked_in tests) all))
+  where
+    on : (b : Bool) → All P t.facts → All P (cond b t.facts [])
+    on true these = these
+    on false these = All-nil P
 
 module _ (network : LoadedView) where
   -- the facts of all tests hold
@@ -229,6 +210,10 @@ module _ (network : LoadedView) where
   cuts_keep None (Some place) old number names reply new hold (inl told) = subst Holds (sym told.1) hold
   cuts_keep None (Some place) old number names reply new hold (inr refused) = subst Holds (sym refused.1.1) hold
 
+  dead_keeps : (old : State) (reply : List ℕ) (new : State) → Holds old → TellsDead network.state old reply new → Holds new
+  dead_keeps old reply new hold (inl told) = subst Holds (sym told.2) hold
+  dead_keeps old reply new hold (inr refused) = subst Holds (sym refused.1.1) hold
+
   answer_keeps : (old : State) (line : Line) (reply : List ℕ) (new : State) → Holds old → Answers network old line reply new → Holds new
   answer_keeps old Passed reply new hold a = subst Holds (sym a.1) hold
   answer_keeps old TooLong reply new hold a = subst Holds (sym a.1) hold
@@ -240,6 +225,8 @@ module _ (network : LoadedView) where
   answer_keeps old (Asks (Test test)) reply new hold a = named_keep (router_named network.state.routers (router_of test)) old test reply new hold a
   answer_keeps old (Asks (Forget number)) reply new hold a = forgets_keep (live_place old.tests number) old number reply new hold a
   answer_keeps old (Asks (Implies first second)) reply new hold a = questions_keep (live_place old.tests first) (live_place old.tests second) old first second reply new hold a
+  answer_keeps old (Asks Suite) reply new hold a = subst Holds (sym a.1) hold
+  answer_keeps old (Asks Dead) reply new hold a = dead_keeps old reply new hold a
   answer_keeps old (Asks (Cut number names)) reply new hold a = cuts_keep (unknown_among network.state.routers names) (live_place old.tests number) old number names reply new hold a
 
   run_keeps : (old : State) (lines : List (List ℕ)) (replies : List ℕ) (last : State) → Holds old → Run network old lines replies last → Holds last
@@ -254,6 +241,7 @@ module _ (network : LoadedView) where
       (lacks : (missing : List ℕ) (v : ℕ) → IsStrictlyIncreasing missing → (has (all_but missing) v ≡ false) ↔ Contains missing v)
       (exists : (fs : List Fact) → Hold (flow_of network.state) fs → (xs : List Fact) × IsClosure (flow_of network.state) fs xs)
       (decided : (n : ℕ) (fs xs : List Fact) → IsClosure (flow_of network.state) fs xs → ReachesMoreThan (flow_of network.state) n fs ↔ (n < length xs))
+      (rooted : (f : Fact) → Contains (roots network.state) f ↔ (IsRoot f × (holds network.state f ≡ true)))
       (cuts : (n : ℕ) (f : Members → Bool) → AsksBelow n f → (free : List Bool) → plain.HasNoCut f free ⊎ ((cut : List ℕ) × plain.IsLeastCut f free cut)) where
     form_some : (form : List Sheet → List ℕ) (tests : List KeptTest) → Hold (flow_of network.state) (asked_in tests)
         → (text : List ℕ) × IsFormOf (flow_of network.state) (live_in tests) network.state.routers form text
@@ -371,6 +359,29 @@ module _ (network : LoadedView) where
     cuts_some None None old number names hold = (line_of (untested_of number), old, (refl, refl))
     cuts_some None (Some place) old number names hold = let made = a_cut (test_in old.tests place).facts (test_holds old.tests place hold) number names in (made.0, old, inl (made.1, refl))
 
+    suite_told : (old : State) → Holds old → (reply : List ℕ) × (new : State) × TellsSuite network.state old reply new
+    suite_told old hold =
+        let made = suite_some (flow_of network.state) strongs somes (element_count network.state.routers) (live_each old.tests) (live_hold (λ f. (flow_of network.state).holds f ≡ true) old.tests hold) in
+        (suite_of made.0, old, (record { kept = made.0; suite = made.1; text = refl }, refl))
+
+    roots_hold : Hold (flow_of network.state) (roots network.state)
+    unfolding flow_of
+    roots_hold = all_by_in (λ (f : Fact). holds network.state f ≡ true) (roots network.state) (λ f i. ((rooted f).0 (contains_by_in (roots network.state) f i)).1)
+
+    dead_told : (old : State) → (reply : List ℕ) × (new : State) × TellsDead network.state old reply new
+    dead_told old =
+        let closed = exists (roots network.state) roots_hold in
+        let test = decided most_facts (roots network.state) closed.0 closed.1 in
+        elim (cases_lt most_facts (length closed.0)) [
+          | inl many ↦ (line_of (codes "refused limit facts"), old, inr (test.1 many, (refl, refl)))
+          | inr few ↦
+              let dead = dead_some network.state somes strongs rooted roots_hold in (
+                dead_of network.state.routers dead.0,
+                old,
+                inl ((λ more. let many : most_facts < length closed.0 = test.0 more in absurd (omega arith)), record { elements = dead.0; dead = dead.1; text = refl }, refl),
+              )
+        ]
+
     answer_some : (old : State) (line : Line) → Holds old → (reply : List ℕ) × (new : State) × Answers network old line reply new
     answer_some old Passed hold = ([], old, (refl, refl))
     answer_some old TooLong hold = (line_of (codes "refused long"), old, (refl, refl))
@@ -382,6 +393,8 @@ module _ (network : LoadedView) where
     answer_some old (Asks (Test test)) hold = named_some (router_named network.state.routers (router_of test)) old test hold
     answer_some old (Asks (Forget number)) hold = forgets_some (live_place old.tests number) old number hold
     answer_some old (Asks (Implies first second)) hold = questions_some (live_place old.tests first) (live_place old.tests second) old first second hold
+    answer_some old (Asks Suite) hold = suite_told old hold
+    answer_some old (Asks Dead) hold = dead_told old
     answer_some old (Asks (Cut number names)) hold = cuts_some (unknown_among network.state.routers names) (live_place old.tests number) old number names hold
 
     run_some : (old : State) (lines : List (List ℕ)) → Holds old → (replies : List ℕ) × (last : State) × Run network old lines replies last

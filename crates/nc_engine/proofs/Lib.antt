@@ -3,6 +3,10 @@ mod Reporting
 mod Working
 mod Replying
 pub mod Carrying
+pub mod Marked
+pub mod Sufficing
+pub mod Unmarked
+mod Suited
 mod Deciding
 mod Bounded
 mod Fewer
@@ -11,4 +15,5 @@ mod Drawing
 pub mod Cutting
 mod Cuttable
 mod Answering
+mod Asking
 mod GoingOn

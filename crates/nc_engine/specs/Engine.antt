@@ -1,12 +1,12 @@
 -- What an engine has, how it answers a line, and how many facts it infers for it.
-use Rattle.std.specs.Prelude.{◌≡◌, ◌⊎◌, ℕ, ◌-◌, nat_lt, List, [], ◌∷◌, ◌++◌, length, All, Contains, Option, Some, if◌then◌else◌, codes}
+use Rattle.std.specs.Prelude.{◌≡◌, ◌⊎◌, ℕ, ◌+◌, ◌-◌, ◌≤◌, Bool, true, false, nat_lt, List, [], ◌∷◌, ◌++◌, length, All, Contains, Option, Some, if◌then◌else◌, codes}
 use Rattle.nc_graph.specs.Flow.{raised}
 use Rattle.nc_graph.specs.Closure.{IsClosure, ReachesMoreThan}
 use Rattle.nc_tables.specs.State.{StateView}
 use Rattle.nc_rules.specs.Rules.{flow_of}
 use Rattle.nc_fact.specs.declared.fact.Fact.{Fact}
 use Rattle.nc_fact.specs.Tested.{tested_facts}
-use Rattle.nc_command.specs.declared.command.Command.TheVariants.{Test, Cut}
+use Rattle.nc_command.specs.declared.command.Command.TheVariants.{Test, Cut, Dead}
 use Rattle.nc_command.specs.Command.{Line, Asks, command_of}
 use Rattle.nc_report.specs.Texts.{line_of}
 use Rattle.nc_engine.specs.Limits.{most_tests, most_facts}
@@ -15,17 +15,23 @@ use Rattle.nc_engine.specs.declared.engine.Flow.TheVariants.{Go, Stop}
 use Rattle.nc_engine.specs.File.{LoadedView}
 use Rattle.nc_engine.specs.Session.{KeptTest, State, no_tests, test_in, live_place, Step, asked_in, ends}
 
--- an engine that isn't spent: its network, what is kept of the session, how many facts were inferred, and of which of them it has
--- diagrams
+-- an engine that isn't spent: its network, what is kept of the session, how many facts were inferred, of which of them it has
+-- diagrams, and whether it was told which elements are dead
 pub record Progress : Type 0 where
   pub loaded : LoadedView
   pub session : State
   pub asked : ℕ
   pub drawn : List Fact
+  pub dead_known : Bool
 
--- an engine that begins: no test was accepted, no fact was inferred, and there is no diagram
+-- an engine that begins: no test was accepted, no fact was inferred, there is no diagram, and nothing was told
 abbrev pub begin_at : LoadedView → Progress
-begin_at n = record { loaded = n; session = no_tests; asked = 0; drawn = [] }
+begin_at n = record { loaded = n; session = no_tests; asked = 0; drawn = []; dead_known = false }
+
+-- whether it was told, behind a line
+abbrev pub dead_known_behind : Line → Bool → Bool
+dead_known_behind (Asks Dead) dead_known = true
+dead_known_behind line dead_known = dead_known
 
 -- it has the diagrams of all facts of the test at a place
 abbrev pub IsDrawn : Progress → ℕ → Type 0
@@ -49,6 +55,11 @@ HasDrawnFor p line before after = Unit {0}
 abbrev pub flow_behind : Line → Flow
 flow_behind line = if ends line then Stop else Go
 
+-- facts of a graph of its own are inferred, at most one more than may be asked
+pub record InfersApart (before now : ℕ) : Type 0 where
+  pub least : before ≤ now
+  pub most : now ≤ before + 1048577
+
 module _ (s : StateView) (tests : List KeptTest) where
   -- the facts for which a line asks: those of a test, where one more may be accepted; of any other line none
   abbrev pub asked_for : Line → List Fact
@@ -68,13 +79,19 @@ module _ (s : StateView) (tests : List KeptTest) where
   Infers [] before now = now ≡ before
   Infers (fact ∷ facts) before now = InfersAll (fact ∷ facts) before now
 
+  -- for a line: the first `dead` infers facts of its own, and a further one none
+  abbrev pub InfersFor : Line → Bool → ℕ → ℕ → Type 0
+  InfersFor (Asks Dead) false before now = InfersApart before now
+  InfersFor line dead_known before now = Infers (asked_for line) before now
+
 -- a line is answered: the reply goes to the end of the bytes; the network stays
 pub record Answered (old new : Progress) (line before after : List ℕ) : Type 0 where
   pub reply : List ℕ
   pub step : Step old.loaded old.session line reply new.session
   pub text : after ≡ before ++ reply
   pub loaded : new.loaded ≡ old.loaded
-  pub infers : Infers old.loaded.state old.session.tests (asked_for old.loaded.state old.session.tests (command_of line)) old.asked new.asked
+  pub infers : InfersFor old.loaded.state old.session.tests (command_of line) old.dead_known old.asked new.asked
+  pub dead_known : new.dead_known ≡ dead_known_behind (command_of line) old.dead_known
 
 -- the same of engines of which neither is spent
 pub record Turns (old new : Option Progress) (line before after : List ℕ) : Type 0 where

@@ -3,6 +3,8 @@ pub mod File
 pub mod Marks
 pub mod Questions
 pub mod Cuts
+pub mod Suites
+pub mod DeadElements
 pub mod Session
 pub mod Engine
 pub mod Work

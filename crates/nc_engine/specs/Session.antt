@@ -8,15 +8,18 @@ use Rattle.nc_types.specs.declared.command.TestCommand.TheVariants.{Rib, Bgp, Se
 use Rattle.nc_graph.specs.Closure.{IsClosure, ReachesMoreThan}
 use Rattle.nc_tables.specs.State.{StateView}
 use Rattle.nc_fact.specs.declared.fact.Fact.{Fact}
+use Rattle.nc_fact.specs.Roots.{roots}
 use Rattle.nc_fact.specs.Tested.{tested_facts}
 use Rattle.nc_rules.specs.Rules.{flow_of}
-use Rattle.nc_command.specs.declared.command.Command.TheVariants.{Test, Forget, Implies, Cut, Show, Lcov, Json, Quit}
+use Rattle.nc_command.specs.declared.command.Command.TheVariants.{Test, Forget, Implies, Cut, Suite, Dead, Show, Lcov, Json, Quit}
 use Rattle.nc_command.specs.Command.{Line, Passed, TooLong, Unread, Asks, command_of, text_of}
 use Rattle.nc_formula.specs.Session.{Asked, HasMoreParts}
 use Rattle.nc_engine.specs.Limits.{most_tests, most_facts, most_parts}
 use Rattle.nc_report.specs.Texts.{Sheet, line_of, sheet_in, show_of, lcov_of, json_of}
 use Rattle.nc_engine.specs.Questions.{IsAnswer}
 use Rattle.nc_engine.specs.Cuts.{IsCutAnswer, unknown_among}
+use Rattle.nc_engine.specs.Suites.{IsSuiteTold}
+use Rattle.nc_engine.specs.DeadElements.{AreTold}
 use Rattle.nc_engine.specs.File.{LoadedView, file_in}
 use Rattle.nc_engine.specs.Marks.{IsFormOf, IsReport}
 
@@ -76,6 +79,10 @@ asked_in tests = flat_map (λ t. t.facts) tests
 -- the facts of the live tests, for which lines are marked
 abbrev pub live_in : List KeptTest → List Fact
 live_in tests = flat_map (λ t. if t.live then t.facts else []) tests
+
+-- the same by test: a test that isn't live has none
+abbrev pub live_each : List KeptTest → List (List Fact)
+live_each tests = map (λ t. if t.live then t.facts else []) tests
 
 -- what the parts of diagrams are of: the facts of each test, and the questions
 abbrev pub posed_in : State → Asked Fact
@@ -189,6 +196,19 @@ module _ (s : StateView) where
   CutsNamed None None old n names reply new = Refuses old (untested_of n) reply new
   CutsNamed None (Some place) old n names reply new = Cuts old place n names reply new
 
+-- ---- what is built from coverage
+
+module _ (s : StateView) where
+  -- the tests of a suite are told; nothing changes
+  abbrev pub TellsSuite : State → List ℕ → State → Type 0
+  TellsSuite old reply new = IsSuiteTold s (live_each old.tests) reply × (new ≡ old)
+
+  -- the dead elements are told, unless too many facts stand behind all that a test could be of; nothing changes
+  abbrev pub TellsDead : State → List ℕ → State → Type 0
+  TellsDead old reply new =
+      (¬ ReachesMoreThan (flow_of s) most_facts (roots s) × AreTold s reply × (new ≡ old))
+      ⊎ (ReachesMoreThan (flow_of s) most_facts (roots s) × Refuses old (codes "refused limit facts") reply new)
+
 -- ---- a session
 
 module _ (n : LoadedView) where
@@ -220,6 +240,8 @@ module _ (n : LoadedView) where
       Questions n.state (live_place old.tests first) (live_place old.tests second) old first second reply new
   Answers old (Asks (Cut number names)) reply new =
       CutsNamed n.state (unknown_among n.state.routers names) (live_place old.tests number) old number names reply new
+  Answers old (Asks Suite) reply new = TellsSuite n.state old reply new
+  Answers old (Asks Dead) reply new = TellsDead n.state old reply new
 
   -- one line of the session
   abbrev pub Step : State → List ℕ → List ℕ → State → Type 0

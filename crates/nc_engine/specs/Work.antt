@@ -1,6 +1,8 @@
 -- What an engine works with, and what of a session it keeps.
-use Rattle.std.specs.Prelude.{◌≡◌, ◌⊎◌, ℕ, ◌-◌, ◌≤◌, Bool, true, false, nat_lt, List, [], ◌∷◌, ◌++◌, length, map, All, Option, Some, None, slice_get, if◌then◌else◌}
+use Rattle.std.specs.Prelude.{◌≡◌, ◌⊎◌, ℕ, ◌-◌, ◌≤◌, Bool, true, false, nat_lt, List, [], ◌∷◌, ◌++◌, length, map, All, Option, Some, None, is_some, slice_get, if◌then◌else◌, codes}
 use Rattle.std.specs.List.{flat_map}
+use Rattle.std.specs.Option.{ForSome}
+use Rattle.nc_types.specs.Config.{ConfigView}
 use Rattle.nc_types.specs.Network.{element_count, router_named}
 use Rattle.nc_types.specs.declared.command.TestCommand.{TestCommand}
 use Rattle.nc_graph.specs.declared.node.NodeId.{NodeId}
@@ -12,21 +14,25 @@ use Rattle.nc_formula.specs.Formulas.{IsKnown}
 use Rattle.nc_formula.specs.Session.{AreDrawn}
 use Rattle.nc_tables.specs.State.{StateView, IsState}
 use Rattle.nc_fact.specs.declared.fact.Fact.{Fact}
+use Rattle.nc_fact.specs.Roots.{roots}
 use Rattle.nc_fact.specs.Tested.{tested_facts}
 use Rattle.nc_rules.specs.Rules.{flow_of}
 use Rattle.nc_rules.specs.Seen.{state_of, asked_of}
-use Rattle.nc_command.specs.declared.command.Command.TheVariants.{Test}
+use Rattle.nc_command.specs.declared.command.Command.TheVariants.{Test, Dead}
 use Rattle.nc_command.specs.Command.{Asks, text_of}
 use Rattle.nc_engine.specs.Limits.{most_tests, most_facts, most_parts}
 use Rattle.nc_engine.specs.declared.work.Work.{Work}
 use Rattle.nc_engine.specs.declared.work.KeptTest.{KeptTest as Made}
-use Rattle.nc_engine.specs.Session.{KeptTest, State, with_test, posed_in, live_place, asked_in, live_in, router_of, has_line, IsReply, Counts, Tests, Lined, Named, Forgets, Questions, Compares, Cuts, CutsNamed, Tells, Shows}
-use Rattle.nc_report.specs.Texts.{Sheet}
+use Rattle.nc_engine.specs.Session.{KeptTest, State, with_test, posed_in, live_place, asked_in, live_in, router_of, has_line, IsReply, Counts, Tests, Lined, Named, Forgets, Questions, Compares, Cuts, CutsNamed, Tells, Shows, TellsSuite, TellsDead}
+use Rattle.nc_report.specs.Texts.{Sheet, line_of}
 use Rattle.nc_report.specs.Sheets.{sheets_from}
 use Rattle.nc_report.specs.Views.{FileView}
 use Rattle.nc_engine.specs.File.{LoadedView}
 use Rattle.nc_engine.specs.Cuts.{unknown_among}
-use Rattle.nc_engine.specs.Engine.{Progress, Infers, IsRefusal, asked_for}
+use Rattle.nc_engine.specs.Engine.{Progress, Infers, InfersFor, IsRefusal, asked_for}
+use Rattle.nc_engine.specs.DeadElements.{AreDead, dead_of}
+use Rattle.nc_engine.specs.declared.dead_elements.DeadElements.{DeadElements}
+use Rattle.nc_engine.specs.declared.dead_elements.DeadElements.TheVariants.{Known, TooMany}
 
 -- the tests that it keeps, and all that it keeps of a session
 abbrev pub test_view : Made → KeptTest
@@ -42,6 +48,10 @@ kept_of w = record { tests = tests_of w; pairs = w.pairs.items }
 abbrev pub nodes_in : List Made → List NodeId
 nodes_in tests = flat_map (λ t. if t.live then t.nodes.items else []) tests
 
+-- the nodes by test: a test that isn't live has none
+abbrev pub nodes_each : List Made → List (List NodeId)
+nodes_each tests = map (λ t. if t.live then t.nodes.items else []) tests
+
 -- the network, with these files
 abbrev pub loaded_of : List FileView → Work → LoadedView
 loaded_of files w = record { state = state_of w.rules; files = files; listed = w.listed }
@@ -56,7 +66,7 @@ drawn_in (f ∷ facts) (Some r ∷ formulas) = f ∷ drawn_in facts formulas
 -- what an engine of these files has with it
 abbrev pub progress_of : List FileView → Work → Progress
 progress_of files w =
-    record { loaded = loaded_of files w; session = kept_of w; asked = asked_of w.rules; drawn = drawn_in w.graph.facts w.formulas }
+    record { loaded = loaded_of files w; session = kept_of w; asked = asked_of w.rules; drawn = drawn_in w.graph.facts w.formulas; dead_known = is_some w.dead }
 
 -- the graph is the closure of the facts of all tests, as the rules have them, and the marks are those of the live ones' nodes
 pub record IsMarked (s : StateView) (tests : List KeptTest) (graph : Nodes Fact) (marks : Kept) : Type 0 where
@@ -81,6 +91,11 @@ pub record IsDrawnAt (formulas : List (Option ℕ)) (tests : List Made) (place :
 abbrev pub IsDrawnFor : List (Option ℕ) → List Made → ℕ × ℕ → Type 0
 IsDrawnFor formulas tests q = IsDrawnAt formulas tests q.0 × IsDrawnAt formulas tests q.1
 
+-- what is known of the dead elements is so
+abbrev pub IsKnownDead : StateView → DeadElements → Type 0
+IsKnownDead s (Known ids) = ¬ ReachesMoreThan (flow_of s) most_facts (roots s) × AreDead s (map (λ e. e.0) ids.items)
+IsKnownDead s TooMany = ReachesMoreThan (flow_of s) most_facts (roots s)
+
 pub record IsWork (w : Work) : Type 0 where
   pub state : IsState (state_of w.rules)
   pub marked : IsMarked (state_of w.rules) (tests_of w) w.graph w.marks
@@ -90,11 +105,13 @@ pub record IsWork (w : Work) : Type 0 where
   pub room : w.store.limit ≡ most_parts
   pub shown : w.shown ≡ sheets_from (state_of w.rules).routers w.marks.marks 0 (state_of w.rules).routers
   pub few : length w.tests.items ≤ most_tests
+  pub dead : ForSome w.dead (IsKnownDead (state_of w.rules))
 
--- the network is the same, and whether reports list its routers
+-- the network is the same, whether reports list its routers, and what is known of its dead elements
 pub record SameNetwork (old new : Work) : Type 0 where
   pub state : state_of new.rules ≡ state_of old.rules
   pub listed : new.listed ≡ old.listed
+  pub dead : new.dead ≡ old.dead
 
 -- facts were taken up as a test, or too many would be asked with them
 abbrev pub Takes : Bool → Work → Work → List Fact → Type 0
@@ -177,6 +194,25 @@ pub record Adds (w : Work) (answers : List ℕ → State → Type 0) (before aft
   pub reply : List ℕ
   pub answer : answers reply (kept_of w)
   pub text : after ≡ before ++ reply
+
+-- what is said of the dead elements
+abbrev pub known_text : List ConfigView → DeadElements → List ℕ
+known_text routers (Known ids) = dead_of routers (map (λ e. e.0) ids.items)
+known_text routers TooMany = line_of (codes "refused limit facts")
+
+-- the dead elements are told, behind which they are known
+pub record DeadTold (old new : Work) (before after : List ℕ) : Type 0 where
+  pub reply : List ℕ
+  pub answer : TellsDead (state_of old.rules) (kept_of old) reply (kept_of new)
+  pub text : after ≡ before ++ reply
+  pub state : state_of new.rules ≡ state_of old.rules
+  pub listed : new.listed ≡ old.listed
+  pub infers : InfersFor (state_of old.rules) (tests_of old) (Asks Dead) (is_some old.dead) (asked_of old.rules) (asked_of new.rules)
+  pub known : is_some new.dead ≡ true
+
+-- a suite is told
+abbrev pub Sufficed : Work → List ℕ → List ℕ → Type 0
+Sufficed w before after = Adds w (TellsSuite (state_of w.rules) (kept_of w)) before after
 
 -- what is answered to the name of a router, of which a listing is asked
 abbrev pub Listed : List FileView → Work → List ℕ → List ℕ → List ℕ → Type 0

@@ -10,7 +10,7 @@ ghost use Rattle.nc_engine.specs.Session.{GoesOn};
 
 use nc_cut::{law_of_cuts_or_none, law_of_no_variable_kept};
 use nc_diagram::law_of_all_but;
-use nc_fact::Fact;
+use nc_fact::{Fact, roots_are_those_that_hold};
 use nc_graph::laws::{
     carrying_is_evaluation, closures_have_one_length, some_is_evaluation, strong_is_evaluation,
 };
@@ -27,6 +27,7 @@ pub fn sessions_go_on()
     strong_is_evaluation::<Fact>();
     some_is_evaluation::<Fact>();
     law_of_cuts_or_none();
+    roots_are_those_that_hold();
 }
 
 /// The law of cuts: where no router is to be kept, facts that hold have a cut, so that the reply to `cut` without `keep` is

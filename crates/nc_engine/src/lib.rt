@@ -9,12 +9,14 @@
 #![tactic(auto)]
 
 mod cuts;
+mod dead_elements;
 mod engine;
 mod forgetting;
 mod forms;
 pub mod laws;
 mod lines;
 mod questions;
+mod suites;
 mod testing;
 mod work;
 

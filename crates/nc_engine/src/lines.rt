@@ -42,6 +42,8 @@ impl Work {
             Ok(Some(Command::Forget(number))) => self.forget(alloc, number, out)?,
             Ok(Some(Command::Implies(first, second))) => self.question(alloc, first, second, out)?,
             Ok(Some(Command::Cut(number, names))) => self.cut(alloc, number, &names, out)?,
+            Ok(Some(Command::Suite)) => self.suite(alloc, out)?,
+            Ok(Some(Command::Dead)) => self.dead(alloc, out)?,
             Ok(Some(Command::Show(name))) => self.show(alloc, &name, files, out)?,
             Ok(Some(Command::Lcov)) => self.lcov(alloc, files, out)?,
             Ok(Some(Command::Json)) => self.json(alloc, out)?,

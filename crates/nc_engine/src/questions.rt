@@ -24,8 +24,8 @@ use nc_rules::rules_make_a_flow;
 use nc_types::{Element, ElementId, Network, RouterId};
 use std::alloc::{AllocError, Global};
 
-// Appends an element behind a space: the name of its router, a colon and its first line.
-fn push_element(
+/// Appends an element behind a space: the name of its router, a colon and its first line.
+pub(crate) fn push_element(
     alloc: Global,
     network: &Network,
     element: ElementId,

@@ -5,17 +5,17 @@ ghost use Rattle.std.specs.Option.{option_map};
 ghost use Rattle.nc_types.specs.Network.{router_named};
 ghost use Rattle.nc_fact.specs.Tested.{tested_facts};
 ghost use Rattle.nc_rules.specs.Rules.{flow_of};
-ghost use Rattle.nc_rules.specs.Seen.{state_of};
+ghost use Rattle.nc_rules.specs.Seen.{state_of, asked_of};
 ghost use Rattle.nc_command.specs.Command.{text_of};
 ghost use Rattle.nc_engine.specs.Limits.{most_tests};
 ghost use Rattle.nc_engine.specs.Session.{accepted_of, router_of, has_line, unknown_of};
 ghost use Rattle.nc_report.specs.Texts.{line_of};
-ghost use Rattle.nc_engine.specs.Work.{IsWork, Replies, Counted, Told, TestedAt, Tested};
+ghost use Rattle.nc_engine.specs.Work.{IsWork, SameNetwork, kept_of, Replies, Counted, Told, TestedAt, Tested};
 
 use crate::TEST_LIMIT;
 use crate::work::Work;
 use nc_command::test_text;
-use nc_fact::{Fact, facts_of};
+use nc_fact::Fact;
 use nc_graph::laws::closures_have_one_length;
 use nc_report::push_line;
 use nc_rules::rules_make_a_flow;
@@ -131,14 +131,19 @@ impl Work {
         Ok(())
     }
 
-    // The facts of a test.
-    fn facts(&self, alloc: Global, test: &TestCommand) -> Result<Vec<Fact>, AllocError>
+    // The facts of a test. All else stays as it is: the rules alone know more of the ways of packets.
+    fn facts(&mut self, test: &TestCommand) -> Result<Vec<Fact>, AllocError>
+        requires { IsWork self.old }
         ensures facts { IfOk result
-            (λ facts. facts.items ≡ tested_facts (state_of self.now.rules) test.now) }
+            (λ facts. facts.items ≡ tested_facts (state_of self.new.rules) test.now) }
         ensures hold { IfOk result (λ facts.
-            All (λ f. (flow_of (state_of self.now.rules)).holds f ≡ true) facts.items) }
+            All (λ f. (flow_of (state_of self.new.rules)).holds f ≡ true) facts.items) }
+        ensures work { IsWork self.new }
+        ensures network { SameNetwork self.old self.new }
+        ensures kept { kept_of self.new ≡ kept_of self.old }
+        ensures asked { asked_of self.new.rules ≡ asked_of self.old.rules }
     {
-        let facts = facts_of(alloc, self.rules.state(), self.rules.policies(), test)?;
+        let facts = self.rules.facts_of(test)?;
         Ok(facts)
     }
 
@@ -177,7 +182,7 @@ impl Work {
             push_line(out, b"refused line")?;
             return Ok(());
         }
-        let facts = self.facts(alloc, test)?;
+        let facts = self.facts(test)?;
         self.judge(alloc, test, facts, out)?;
         Ok(())
     }

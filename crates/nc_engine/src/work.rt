@@ -1,7 +1,7 @@
 //! What the engine works with: the rules of a network, the graph of the facts that were asked,
 //! their marks, the report as it stands, the tests, and what was drawn for questions about them.
 
-ghost use Rattle.std.specs.Prelude.{◌≡◌, ◌++◌, ◌<◌, ◌-◌, List, true, length, All, IfOk, OnOk, OnErr, IsErrOf};
+ghost use Rattle.std.specs.Prelude.{◌≡◌, ◌+◌, ◌++◌, ◌<◌, ◌≤◌, ◌-◌, List, true, length, All, IfOk, OnOk, OnErr, IsErrOf};
 ghost use Rattle.nc_types.specs.Network.{element_count};
 ghost use Rattle.nc_graph.specs.Closure.{IsClosure, ReachesMoreThan};
 ghost use Rattle.nc_graph.specs.Flow.{raised};
@@ -17,6 +17,7 @@ ghost use Rattle.nc_engine.specs.Engine.{begin_at};
 ghost use Rattle.nc_engine.specs.Marks.{IsReport};
 ghost use Rattle.nc_engine.specs.Work.{IsWork, SameNetwork, Takes, Appended, progress_of, tests_of};
 
+use crate::dead_elements::DeadElements;
 use crate::{DIAGRAM_LIMIT, FACT_LIMIT, TEST_LIMIT};
 use nc_diagram::Store;
 use nc_fact::Fact;
@@ -54,12 +55,14 @@ pub(crate) struct Work {
     /// The diagrams of what was asked about, and their references.
     pub(crate) store: Store,
     pub(crate) formulas: Formulas,
+    /// What is known of the dead elements, once they were asked for.
+    pub(crate) dead: Option<DeadElements>,
     /// Whether reports list the lines of the routers.
     pub(crate) listed: bool,
 }
 
-// Adds facts with all that they follow from to the graph.
-fn ask(
+/// Adds facts with all that they follow from to the graph.
+pub(crate) fn ask(
     rules: &mut Rules,
     graph: &mut Graph<Fact>,
     facts: &[Fact],
@@ -78,6 +81,8 @@ fn ask(
     ensures asked_full { IsErrOf result GraphFault.Full
         → asked_of rules.new ≡ raised (asked_of rules.old)
         (graph.old.limit - length graph.old.facts) }
+    ensures asked_least { asked_of rules.old ≤ asked_of rules.new }
+    ensures asked_most { asked_of rules.new ≤ raised (asked_of rules.old) (graph.old.limit + 1) }
     ensures full { IsErrOf result GraphFault.Full
         → ReachesMoreThan (flow_of (state_of rules.old)) graph.old.limit
         (graph.old.facts ++ facts.now) }
@@ -118,6 +123,7 @@ impl Work {
             pairs: Vec::new(alloc),
             store: Store::new(alloc, DIAGRAM_LIMIT),
             formulas: Formulas::new(alloc),
+            dead: None,
             listed,
         })
     }

@@ -19,7 +19,7 @@ use Rattle.nc_tables.specs.Settling.{settled}
 use Rattle.nc_fact.specs.declared.fact.Fact.{Fact}
 use Rattle.nc_fact.specs.Tested.{tested_facts}
 use Rattle.nc_rules.specs.Rules.{flow_of}
-use Rattle.nc_command.specs.declared.command.Command.TheVariants.{Test, Forget, Implies, Cut, Show, Lcov, Json, Quit}
+use Rattle.nc_command.specs.declared.command.Command.TheVariants.{Test, Forget, Implies, Cut, Suite, Dead, Show, Lcov, Json, Quit}
 use Rattle.nc_command.specs.Command.{Line, Passed, TooLong, Unread, Asks, command_of, text_of}
 use Rattle.nc_engine.specs.Limits.{most_tests}
 use Rattle.nc_session.specs.declared.status.Status.{Status}
@@ -27,7 +27,7 @@ use Rattle.nc_report.specs.Texts.{Sheet, letter, report_by, lcov_of, json_of}
 use Rattle.nc_engine.specs.Session.{accepted_of, forgot_of}
 use Rattle.nc_engine.specs.File.{LoadedView}
 use Rattle.nc_engine.specs.Marks.{AreLineMarks, IsSheet, IsFormOf}
-use Rattle.nc_engine.specs.Session.{KeptTest, State, no_tests, test_in, with_pair, live_place, IsReported, IsCrowded, Forgets, Compares, Questions, CutsNamed, asked_in, live_in, router_of, until_quit, IsReply, Counts, Tests, Lined, Named as IsNamed, has_line, Tells, Shows, listing_at, Answers, Run, AreReplies}
+use Rattle.nc_engine.specs.Session.{KeptTest, TellsDead, live_each, State, no_tests, test_in, with_pair, live_place, IsReported, IsCrowded, Forgets, Compares, Questions, CutsNamed, asked_in, live_in, router_of, until_quit, IsReply, Counts, Tests, Lined, Named as IsNamed, has_line, Tells, Shows, listing_at, Answers, Run, AreReplies}
 use Rattle.nc_session.specs.Load.{Refusal, load}
 use Rattle.nc_session.specs.Refusals.{long_session_text}
 use Rattle.nc_session.specs.Output.{ServesWithin, Concludes, Output, heading_asked, is_within, served_lines, session_of}
@@ -36,34 +36,14 @@ use Rattle.nc_session.specs.Crowding.{CrowdsBetween, CrowdsAt, Crowds, AreCrowdi
 use Rattle.nc_engine.specs.Cuts.{unknown_among}
 use Rattle.nc_engine.proofs.Carrying.{answer_once}
 use Rattle.nc_engine.proofs.Cutting.{cut_once}
+use Rattle.nc_engine.proofs.Marked.{mark_once}
+use Rattle.nc_engine.proofs.Sufficing.{suite_once}
+use Rattle.nc_engine.proofs.Unmarked.{told_once}
 use Rattle.nc_session.proofs.ValidLoads.{loaded_state}
 use Rattle.std.specs.List.Sorted.{IsStrictlyIncreasing}
 use Rattle.nc_diagram.specs.Sets.{has, all_but}
 
--- ---- one mark
-
-module _ (g : Flow Fact) (tested : List Fact) where
-  mark_once : (o : Option ℕ) (m n : Mark) → IsMark g tested o m → IsMark g tested o n → m ≡ n
-  mark_once None Outside Outside p q = refl
-  mark_once None Outside Strong p q = absurd q
-  mark_once None Outside Weak p q = absurd q
-  mark_once None Outside Uncovered p q = absurd q
-  mark_once None Strong n p q = absurd p
-  mark_once None Weak n p q = absurd p
-  mark_once None Uncovered n p q = absurd p
-  mark_once (Some e) Strong Strong p q = refl
-  mark_once (Some e) Strong Weak p q = absurd (q.0 p)
-  mark_once (Some e) Strong Uncovered p q = absurd (q.0 p)
-  mark_once (Some e) Strong Outside p q = absurd q
-  mark_once (Some e) Weak Strong p q = absurd (p.0 q)
-  mark_once (Some e) Weak Weak p q = refl
-  mark_once (Some e) Weak Uncovered p q = absurd (q.1 p.1)
-  mark_once (Some e) Weak Outside p q = absurd q
-  mark_once (Some e) Uncovered Strong p q = absurd (p.0 q)
-  mark_once (Some e) Uncovered Weak p q = absurd (p.1 q.1)
-  mark_once (Some e) Uncovered Uncovered p q = refl
-  mark_once (Some e) Uncovered Outside p q = absurd q
-  mark_once (Some e) Outside n p q = absurd p
+-- ---- lists
 
 -- two lists of as many items of which those at each place are the same
 same_lists : {A : Type 0} (d : A) (xs ys : List A) → length xs ≡ length ys → ((k : ℕ) → k < length xs → slice_index_or xs k d ≡ slice_index_or ys k d) → xs ≡ ys
@@ -188,6 +168,13 @@ module _ (lengths : (g : Flow Fact) → IsFlow g → (fs xs ys : List Fact) → 
   cuts_once None (Some place) old number names r t m n (inl p) (inr q) = inr q.0
   cuts_once None (Some place) old number names r t m n (inr p) q = inr p.0
 
+  -- the dead elements are told alike
+  dead_once : (old : State) (r t : List ℕ) (m n : State) → TellsDead network.state old r m → TellsDead network.state old t n → Same r t m n
+  dead_once old r t m n (inl p) (inl q) = (told_once network.state r t p.1 q.1, p.2 ∙ sym q.2)
+  dead_once old r t m n (inl p) (inr q) = absurd (p.0 q.0)
+  dead_once old r t m n (inr p) (inl q) = absurd (q.0 p.0)
+  dead_once old r t m n (inr p) (inr q) = (p.1.0 ∙ sym q.1.0, p.1.1 ∙ sym q.1.1)
+
   step_once : (old : State) (line : Line) (r t : List ℕ) (m n : State) → Answers network old line r m → Answers network old line t n → Same r t m n ⊎ Crowds network.state old line
   step_once old Passed r t m n p q = inl (p.0 ∙ sym q.0, p.1 ∙ sym q.1)
   step_once old TooLong r t m n p q = inl (p.0 ∙ sym q.0, p.1 ∙ sym q.1)
@@ -196,6 +183,8 @@ module _ (lengths : (g : Flow Fact) → IsFlow g → (fs xs ys : List Fact) → 
   step_once old (Asks (Show name)) r t m n p q = inl (shows_once (router_named network.state.routers name) old name r t m n p q)
   step_once old (Asks Lcov) r t m n p q = inl (tells_once (λ sheets. lcov_of sheets network.files) old r t m n p q)
   step_once old (Asks Json) r t m n p q = inl (tells_once json_of old r t m n p q)
+  step_once old (Asks Suite) r t m n p q = inl (suite_once network.state (live_each old.tests) r t p.0 q.0, p.1 ∙ sym q.1)
+  step_once old (Asks Dead) r t m n p q = inl (dead_once old r t m n p q)
   step_once old (Asks (Test test)) r t m n p q = inl (named_once (router_named network.state.routers (router_of test)) old test r t m n p q)
   step_once old (Asks (Forget number)) r t m n p q = inl (forgets_once (live_place old.tests number) old number r t m n p q)
   step_once old (Asks (Implies first second)) r t m n p q = questions_once (live_place old.tests first) (live_place old.tests second) old first second r t m n p q

@@ -7,7 +7,7 @@ use Rattle.std.proofs.lemmas.Bool.{lt-ltb, ltb-true, or_left, or_right, or_from}
 use Rattle.std.proofs.lemmas.List.Folds.{list_any-append}
 use Rattle.nc_engine.specs.File.{LoadedView}
 use Rattle.nc_command.specs.declared.TheConstants as command
-use Rattle.nc_command.specs.declared.command.Command.TheVariants.{Test, Forget, Implies, Cut, Show, Lcov, Json, Quit}
+use Rattle.nc_command.specs.declared.command.Command.TheVariants.{Test, Forget, Implies, Cut, Suite, Dead, Show, Lcov, Json, Quit}
 use Rattle.nc_command.specs.Command.{Line, Passed, TooLong, Unread, Asks, command_of, asked_by}
 use Rattle.nc_command.specs.declared.cutter.Cut.TheVariants as cut
 use Rattle.nc_command.specs.Cutting.{cut_of}
@@ -119,6 +119,8 @@ quit_reply n line reply a b quits step = on (command_of line) quits step
     on (Asks (Show name)) quits answers = absurd cc
     on (Asks Lcov) quits answers = absurd cc
     on (Asks Json) quits answers = absurd cc
+    on (Asks Suite) quits answers = absurd cc
+    on (Asks Dead) quits answers = absurd cc
     on (Asks (Test test)) quits answers = absurd cc
     on (Asks (Forget number)) quits answers = absurd cc
     on (Asks (Implies first second)) quits answers = absurd cc

@@ -21,7 +21,7 @@ use nc_outside::Sink;
 use std::alloc::{AllocError, Global};
 
 // How many bytes of replies may be pending when a line is answered.
-const PENDING_LIMIT: usize = 65_536;
+const PENDING_LIMIT: usize = 16_384;
 
 // Writes the pending replies, and then ends as is said. Where the sink fails, that is the end.
 fn end_with<K: Sink>(output: &mut K, pending: &[u8], end: Result<Flow, Stop>) -> Result<Flow, Stop>

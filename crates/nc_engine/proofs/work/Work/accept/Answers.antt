@@ -18,7 +18,8 @@ use Rattle.std.proofs.lemmas.List.Elements.{All-nil, All-cons, All-append, All-w
 use Rattle.nc_formula.specs.Session.{AreDrawn}
 use Rattle.nc_engine.specs.Session.{KeptTest, live_test, posed_in, asked_in}
 use Rattle.nc_report.specs.Sheets.{sheets_from}
-use Rattle.nc_engine.specs.Work.{IsMarked, IsDrawnFor, HaveNodes, test_view, tests_of, kept_of}
+use Rattle.std.specs.Option.{ForSome}
+use Rattle.nc_engine.specs.Work.{IsMarked, IsDrawnFor, IsKnownDead, HaveNodes, test_view, tests_of, kept_of}
 use Rattle.nc_engine.proofs.Closing.{many-from, many-to, nodes-extended}
 use Rattle.nc_engine.proofs.Working.{tests-more, marked-more, shown-more}
 use Rattle.nc_engine.proofs.Drawing.{answered-longer}
@@ -81,6 +82,7 @@ returns-clause-work c =
           (shown-more s.routers c.network-network.result.now old.marks.marks c.add.new.self.marks c.marks.result.now c.in_ok-touched.touched.items c.deref-3.result.now old.shown c.refresh.new.self
           net c.marks.ensures c.deref-3.ensures.value marked.kept.marks.count c.in_ok-touched.ensures.touched c.requires.work.shown c.refresh.ensures);
       few = omega (arith, ap length c.in_ok-push.ensures.items, length_push old.tests.items test);
+      dead = subst (λ (s : StateView). ForSome old.dead (IsKnownDead s)) (sym done.state) c.requires.work.dead;
     }
 
 pub returns-clause-taken : goal.returns-clause-taken

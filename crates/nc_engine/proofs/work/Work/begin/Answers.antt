@@ -1,4 +1,4 @@
-use Rattle.std.proofs.Common.{arith, sym, ap, ◌∙◌, subst, length, map}
+use Rattle.std.proofs.Common.{arith, false, sym, ap, ◌∙◌, subst, length, map}
 use Rattle.nc_types.specs.Network.{element_count}
 use Rattle.nc_tables.specs.State.{StateView, IsState}
 use Rattle.std.proofs.lemmas.List.Elements.{All-nil}
@@ -25,6 +25,7 @@ returns-clause-work c =
       answered = rw c.new-5.ensures.items (All-nil (IsDrawnFor c.new-7.result c.new-4.result.items));
       room = c.new-6.ensures.limit;
       few = omega (arith, ap length c.new-4.ensures.items);
+      dead = λ known is. absurd (cc);
     }
 
 pub returns-clause-progress : goal.returns-clause-progress
@@ -34,4 +35,5 @@ returns-clause-progress c = λ files i. record {
   session = record { tests = map test_view (c.new-4.ensures.items i); pairs = c.new-5.ensures.items i };
   asked = c.new-rules.ensures.asked i;
   drawn = drawn_in (c.new-3.ensures.empty i).facts c.new-7.result;
+  dead_known = false;
 }

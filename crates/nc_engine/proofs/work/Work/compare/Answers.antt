@@ -51,6 +51,7 @@ returns-clause-work c =
       room = c.compare.ensures.gains.same_limit ∙ was.room;
       shown = was.shown;
       few = was.few;
+      dead = was.dead;
     }
 
 pub returns-clause-answers : goal.returns-clause-answers

@@ -37,6 +37,7 @@ returns-clause-work c =
       room = c.of_each.ensures.gains.same_limit ∙ was.room;
       shown = was.shown;
       few = was.few;
+      dead = was.dead;
     }
 
 pub returns-clause-means : goal.returns-clause-means

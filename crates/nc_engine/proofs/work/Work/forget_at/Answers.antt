@@ -45,6 +45,7 @@ returns-clause-work c =
       shown = shown-more s.routers c.network-network.result.now w.marks.marks c.forget.new.self.marks c.marks.result.now c.in_ok-touched.touched.items c.deref-3.result.now w.shown c.refresh.new.self
           net c.marks.ensures c.deref-3.ensures.value marked.kept.marks.count c.in_ok-touched.ensures.touched c.requires.work.shown c.refresh.ensures;
       few = omega (arith, c.requires.work.few, length-set w.tests.items c.args.place (record { facts = c.index_mut.result.now.facts; nodes = c.index_mut.result.now.nodes; live = false }));
+      dead = c.requires.work.dead;
     }
 
 pub returns-clause-kept : goal.returns-clause-kept

@@ -24,4 +24,5 @@ returns-clause-work c =
       room = was.room;
       shown = was.shown;
       few = was.few;
+      dead = was.dead;
     }

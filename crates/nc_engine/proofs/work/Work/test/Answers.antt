@@ -21,7 +21,7 @@ returns-in_default-clause-tests c =
       reply = line_of (unknown_of (router_of test));
       answer = unknown s old.listed (kept_of old) test none;
       text = c.in_ok-push_unknown.ensures ∙ ap (λ (word : List ℕ). c.args.out.now.items ++ line_of (unknown_of word)) (c.bytes.ensures ∙ c.router_of-name.ensures);
-      network = record { state = refl; listed = refl };
+      network = record { state = refl; listed = refl; dead = refl };
       infers = subst (λ (fs : List Fact). Infers s tests fs (asked_of old.rules) (asked_of old.rules)) (sym (none-asked s tests test (none-named s test none))) refl;
     }
 

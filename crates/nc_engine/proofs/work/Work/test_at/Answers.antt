@@ -5,6 +5,7 @@ use Rattle.nc_engine.specs.Session.{State, has_line}
 use Rattle.nc_report.specs.Texts.{line_of}
 use Rattle.nc_engine.specs.Engine.{Infers}
 use Rattle.nc_engine.specs.Work.{tests_of, kept_of}
+use Rattle.nc_engine.proofs.Asking.{told_before}
 use Rattle.nc_engine.proofs.Answering.{lined, unlined, none-asked, none-lined}
 use Rattle.nc_engine.proofs.work.Work.test_at.Goals as goal
 
@@ -21,7 +22,7 @@ returns-then-not-has_line-clause-tested c =
       reply = line_of (codes "refused line");
       answer = unlined s old.listed router test kept kept (line_of (codes "refused line")) none (refl, refl);
       text = c.in_ok-push_line.ensures;
-      network = record { state = refl; listed = refl };
+      network = record { state = refl; listed = refl; dead = refl };
       infers = subst (λ (fs : List Fact). Infers s tests fs (asked_of old.rules) (asked_of old.rules)) (sym (none-asked s tests test (none-lined s router test c.requires.router none))) refl;
     }
 
@@ -29,7 +30,8 @@ pub returns-clause-tested : goal.returns-clause-tested
 returns-clause-tested c =
     let old = c.args.self.now in
     let s = state_of old.rules in
-    let told = c.in_ok-judge.ensures.told in
+    let kept = c.facts.ensures in
+    let told = told_before old c.facts.new.self c.judge.new.self c.args.test.now c.args.out.now.items c.judge.new.out.items kept.network kept.kept kept.asked c.in_ok-judge.ensures.told in
     record {
       reply = told.reply;
       answer = lined s old.listed c.args.router.0 c.args.test.now (kept_of old) (kept_of c.judge.new.self) told.reply (sym c.has_line.ensures ∙ c.if-not-has_line.false) told.answer;

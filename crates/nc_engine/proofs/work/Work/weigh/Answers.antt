@@ -25,6 +25,6 @@ returns-in-Ok-Some-clause-compared c =
     let right = (test_in (tests_of old) j).facts in
     let answer : IsStrictlyIncreasing missing × IsGreatestApart g left right (all_but missing) = MatchOption-at_some (IsImplied g left right) (λ missing. IsStrictlyIncreasing missing.items × IsGreatestApart g left right (all_but missing.items))
     c.in-Ok-Some.missing c.in-Ok-Some.field-0-is c.in-Ok-Some.ensures.answers in
-    compared-no old c.note-in-Ok-Some.new.self (record { state = state; listed = noted.network.listed ∙ compared.network.listed }) (noted.asked ∙ compared.asked) i j c.args.first c.args.second
+    compared-no old c.note-in-Ok-Some.new.self (record { state = state; listed = noted.network.listed ∙ compared.network.listed; dead = noted.network.dead ∙ compared.network.dead }) (noted.asked ∙ compared.asked) i j c.args.first c.args.second
     (c.in_ok-note-in-Ok-Some.ensures.kept ∙ ap (λ (kept : State). with_pair kept i j) compared.kept) missing c.deref.result.now answer.0 answer.1 c.deref.ensures.value
     c.network-network.result.now (c.network-network.ensures.network ∙ ap (λ (s : StateView). s.routers) (c.state.ensures ∙ state)) c.args.out.now.items c.push_no.new.out.items c.in_ok-push_no-in-Ok-Some.ensures
