@@ -95,18 +95,26 @@ def cut_question(net, count):
     return " ".join([f"cut {R.randint(1, count)}"] + ["keep"] * bool(kept) + kept)
 
 
+def whole_question():
+    """A question about all tests at once or about what no test could mark, now and then twice or with words behind it."""
+    behind = R.choice(["", "", "", "", "", f" {R.randint(0, 3)}", " r1", " suite", " keep r1", " x y"])
+    return [R.choice(["suite", "dead"]) + behind] * R.choice([1, 1, 1, 2])
+
+
 def with_questions(net, asks):
-    """The lines, with questions about tests between them, and some forgotten."""
-    lines = []
+    """The lines, with questions about tests between them, some twice and some forgotten; a question may stand before them all, and behind."""
+    lines = whole_question() if R.random() < 0.2 else []
     for count, line in enumerate(asks, 1):
-        lines.append(line)
+        lines += [line] * R.choice([1] * 20 + [2])
         if R.random() < 0.3:
             lines.append(f"implies {R.randint(1, count)} {R.randint(1, count)}")
         if R.random() < 0.4:
             lines.append(cut_question(net, count))
         if R.random() < 0.1:
-            lines.append(f"forget {R.randint(1, count)}")
-    return lines
+            lines += whole_question()
+        if R.random() < 0.1:
+            lines += [f"forget {R.randint(1, count)}"] + ["suite"] * R.choice([0, 1])
+    return lines + R.choice([[], ["suite"], ["dead", "suite"]])
 
 
 def some_there(files, names, count):

@@ -2,7 +2,7 @@
 """Random and systematic cases for the comparison of NetCov with the oracle: files, words and a session each.
 
 Those of route maps and lists alone stand in policies.py, those of processes and sessions in peers.py, those of routes by
-BGP in exchanges.py, those of several ways in ways.py.
+BGP in exchanges.py, those of several ways in ways.py, those of the limit of facts in most_facts.py.
 """
 import oracle
 from exchanges import kind_routes
@@ -280,18 +280,6 @@ def grid_cases():
         yield Case({b"r1.cfg": b"hostname a\ninterface x" + bytes([c]) + b"y\n" + bytes([c]) + b"ip address 10.0.0.1 255.0.0.0\nip" + bytes([c]) + b"route 9.0.0.0 255.0.0.0 10.0.0.2" + bytes([c]) + b"\n"}, [b"r1.cfg"], b"rib a" + bytes([c]) + b" 9.0.0.0/8" + bytes([c]) + b"\n" + bytes([c]) + b"rib a 9.0.0.0/8\nrib a" + bytes([c]) + b"9.0.0.0/8\n" + bytes([c]) + b"\n")
 
 
-def facts_cases():
-    """Five routers with so many routes to one prefix that the limit of facts is met exactly, passed by one, and passed."""
-    for last in (52141, 52142, 52140):
-        sizes, files = [52500, 52500, 52500, 52500, last], {}
-        for r, n in enumerate(sizes):
-            text = [f"hostname r{r}", "interface E", f" ip address 10.{r}.0.1 255.255.0.0", "ip route 98.0.0.0 255.0.0.0 Null0"]
-            text += [f"ip route 99.0.0.0 255.0.0.0 10.{r}.{k >> 8}.{k & 255}" for k in range(2, n + 2)]
-            files[b"f%d.cfg" % r] = b("\n".join(text) + "\n")
-        asks = [f"rib r{r} 99.0.0.0/8" for r in range(5)] + ["rib r0 98.0.0.0/8", "rib r0 10.0.0.0/16", "rib r1 10.1.0.0/16", "rib r4 99.0.0.0/8", "rib r0 99.0.0.0/8 via 10.0.0.9", "rib r9 1.0.0.0/8", "rib r4 1.0.0.0/8"]
-        yield Case(files, sorted(files), b("\n".join(asks) + "\n"))
-
-
 def in_context(line_words, context):
     """A file with the statement in one place, so that its sort shows itself."""
     out = {
@@ -452,7 +440,7 @@ def limit_cases():
         yield Case(files, sorted(files)[:-1] + [b"f000.cfg"], ask)
     for n in (4095, 4096, 4097):
         yield Case(f(one), [b"r1.cfg"], ask * n + b"rib r1 9.0.0.0/8\nrib r9 9.0.0.0/8\nfrob\n" + b"a" * 4097 + b"\nquit\n" + ask)
-        yield Case(f(one), [b"r1.cfg"], b"rib r1 9.0.0.0/8\nfrob\n" * 3 + ask * n + ask)
+        yield Case(f(one), [b"r1.cfg"], b"rib r1 9.0.0.0/8\nfrob\n" * 3 + ask * n + ask + b"suite\ndead\n")
     top = 16777216
     for extra in (-2, -1, 0, 1, 2):
         n = top + extra

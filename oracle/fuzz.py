@@ -16,8 +16,9 @@ import sys
 import tempfile
 
 import oracle
-from cases import RANDOM_KINDS, facts_cases, grid_cases, limit_cases, table_cases
+from cases import RANDOM_KINDS, grid_cases, limit_cases, table_cases
 from exchanges import exchange_cases
+from most_facts import facts_cases
 from pieces import R, Case
 from peers import peer_cases
 from policies import policy_cases
@@ -137,6 +138,10 @@ def note(status, out, kind, session):
                 reached["report with weak lines"] += 1
             elif w[0] == b"cut":
                 reached["reply cut of " + w[2].decode()] += 1
+            elif w[0] == b"suite":
+                reached["reply suite of " + ("few" if len(w) < 4 else "several") + " tests" if w[1:] else "reply suite of none"] += 1
+            elif w[0] == b"dead":
+                reached["reply dead of " + ("none" if w[1] == b"0" else "some")] += 1
             elif w[0] == b"refused":
                 reached["reply " + (b" ".join(w[:3]) if w[1] == b"limit" else b" ".join(w[:2])).decode()] += 1
     else:

@@ -17,6 +17,7 @@ from paths import arrives
 from reading import Fault, read_file
 from reports import as_json, lcov, report, show
 from routes import chosen_at, entry_of, main_table, settle
+from suites import dead, suite
 from trees import fat_tree
 from texts import address, bits, inside, large, lines_of, mask, number, prefix_word, words
 
@@ -147,9 +148,23 @@ class Conversation:
         told = [b"none"] if cut is None else [b"%d" % len(cut)] + [place_of(self.net, e) for e in cut]
         return b" ".join([b"cut %d" % n] + told) + b"\n"
 
+    def suite(self):
+        tests = [(n, facts) for n, facts in enumerate(self.tests, 1) if self.is_live(n)]
+        return b" ".join([b"suite"] + [b"%d" % n for n in suite(self.net, tests)]) + b"\n"
+
+    def dead(self):
+        if "dead" not in self.net.kept:
+            self.net.kept["dead"] = dead(self.net, LIMIT_FACTS)
+        elements = self.net.kept["dead"]
+        if elements is None:
+            return b"refused limit facts\n"
+        return b" ".join([b"dead %d" % len(elements)] + [place_of(self.net, e) for e in elements]) + b"\n"
+
     def asked_of_tests(self, w):
-        """The reply to a line about tests that were accepted, or None where it isn't one."""
+        """The reply to a line about tests that were accepted or about what no test could mark, or None where it isn't one."""
         forgotten, pair, cut = numbers_of(w, b"forget", 1), numbers_of(w, b"implies", 2), cut_of(w)
+        if w in ([b"suite"], [b"dead"]):
+            return self.suite() if w == [b"suite"] else self.dead()
         if forgotten is not None:
             return self.forget(*forgotten)
         if cut is not None:

@@ -313,6 +313,18 @@ def render(lines):
     return data
 
 
+def rows_of(files):
+    """The rows of the base tables of those files that can be read: the router's name, the prefix, and the next hop or nothing."""
+    rows = []
+    for lines in files:
+        try:
+            c = oracle.read_file([line[:-1] if line[-1:] == b"\r" else line for line in lines])
+            rows += [(c["name"].decode(), f"{dotted(p[0])}/{p[1]}", dotted(c["statics"][k]["hop"] or 0) if s else "") for p, s, k in oracle.base_table(c)]
+        except (oracle.Fault, AssertionError):
+            pass
+    return rows
+
+
 def session_for(files, names, odd):
     """Lines that ask for prefixes that stand in the files, and others."""
     prefixes, hops = [], ["10.0.0.2", "10.0.0.1"]
@@ -328,14 +340,7 @@ def session_for(files, names, odd):
             if w and oracle.address(w[-1]) is not None:
                 hops.append(w[-1].decode())
     prefixes += ["0.0.0.0/0", "10.9.0.0/16", "10.9.1.0/24"]
-    rows = []                                                   # rows that are there, to have enough accepted tests
-    for lines in files:
-        try:
-            c = oracle.read_file([line[:-1] if line[-1:] == b"\r" else line for line in lines])
-            rows += [(c["name"].decode(), f"{dotted(p[0])}/{p[1]}", dotted(c["statics"][k]["hop"] or 0) if s else "") for p, s, k in oracle.base_table(c)]
-        except (oracle.Fault, AssertionError):
-            pass
-    out = []
+    rows, out = rows_of(files), []                              # rows that are there, to have enough accepted tests
     for _ in range(R.choice([1, 2, 4, 8])):
         name = R.choice(names) if R.random() < 0.95 else R.choice(["r9", "r1".upper(), "r1 ", "", "r1\x00"])
         text, hop = f"rib {name} {R.choice(prefixes)}", ""
@@ -350,6 +355,8 @@ def session_for(files, names, odd):
         if R.random() < odd:
             line = odd_session_line(line)
         out.append(line)
+        if R.random() < 0.05:
+            out += R.choice([[b"suite"], [b"dead"], [b"suite", b"dead", b"suite"], [b"forget 1", b"suite"]])
     data = b"".join(line + R.choice([b"\n", b"\n", b"\n", b"\r\n"]) for line in out)
     return data[:-1] if R.random() < 0.2 else data
 
@@ -367,7 +374,7 @@ def odd_session_line(line):
                          b"bgp r1 10.0.0.0/8", b"bgp r1 10.0.0.0/8 from 10.0.0.2", b"bgp", b"bgp r1", b"bgp r1 10.0.0.1/8", b"bgp r1 10.0.0.0/8 from", b"bgp r1 10.0.0.0/8 from x",
                          b"bgp r1 10.0.0.0/8 via 10.0.0.2", b"bgp r9 10.0.0.0/8", b"bgp r9 10.0.0.0/33", b"bgp r1 10.0.0.0/8 from 10.0.0.2 x", b"BGP r1 10.0.0.0/8", b"session r1 10.0.0.2", b"session", b"session r1", b"session r1 10.0.0.256", b"session r1 10.0.0.2 x", b"session r9 10.0.0.2", b"Session r1 10.0.0.2",
                          b"session r1 10.0.0.0/24", b"session 10.0.0.2", b"session r9 x", b"reach r1 10.0.0.2", b"every r1 10.0.0.2", b"element r1 2", b"element r1 0", b"forget 1",
-                         b"forget 0", b"forget 01", b"forget", b"forget 1 2", b"forget 4294967296", b"implies 1 1", b"implies 1", b"implies 0 1", b"implies 1 1 1", b"implies 1 x", b"show r1", b"lcov", b"json", b"cut 1", b"cut", b"cut x", b"cut 0", b"cut 01", b"cut 4294967296", b"cut 1 1", b"cut 1 r1", b"cut 1 keep", b"cut 1 keep r1", b"cut 9 keep r1 r1", b"cut 9 keep r9", b"cut 1 keep keep", b"cut 1 Keep r1", b"cut keep r1", b"suite", b"dead", b"flow r1 1.1.1.1 2.2.2.2", b"frob", b"via",
+                         b"forget 0", b"forget 01", b"forget", b"forget 1 2", b"forget 4294967296", b"implies 1 1", b"implies 1", b"implies 0 1", b"implies 1 1 1", b"implies 1 x", b"show r1", b"lcov", b"json", b"cut 1", b"cut", b"cut x", b"cut 0", b"cut 01", b"cut 4294967296", b"cut 1 1", b"cut 1 r1", b"cut 1 keep", b"cut 1 keep r1", b"cut 9 keep r1 r1", b"cut 9 keep r9", b"cut 1 keep keep", b"cut 1 Keep r1", b"cut keep r1", b"suite", b"dead", b"suite x", b"suite 1", b"dead 1", b"dead r1", b"Suite", b"DEAD", b" suite\t", b"\tdead ", b"dead\r", b"suite\x00", b"suite suite", b"deads", b"suite dead", b"flow r1 1.1.1.1 2.2.2.2", b"frob", b"via",
                          b"rib via 10.0.0.0/8", b"rib r1 10.0.0.0/8 VIA 10.0.0.1", b"rib r1 10.0.0.0 /8", b"rib r1 10.0.0.0/4294967304", b"rib r1 10.0.0.0/8x"])
     if p < 0.9:
         n = R.choice([4095, 4096, 4097, 4098, 5000])

@@ -1,5 +1,5 @@
 """Networks with several ways between two routers, of which one element may be enough to cut them all, or one of each way, or none."""
-from asking import cut_question, joined
+from asking import cut_question, joined, whole_question
 from exchanges import with_session
 from pieces import R, Case, b
 
@@ -54,6 +54,7 @@ def asks_across(case, last):
     lines = []
     for count, test in enumerate(R.sample(tests, R.choice([1, 2, 4])) if rounds else [], 1):
         lines += [test, f"cut {count} keep r1 r{last}"] + [cut_question(net, count) for _ in range(R.choice([1, 2]))]
+    lines += whole_question() if lines else []
     return b("".join(line + "\n" for line in lines))
 
 
