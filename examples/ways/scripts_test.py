@@ -13,7 +13,6 @@ import os
 import re
 import shlex
 import shutil
-import stat
 import subprocess
 import sys
 import tempfile
@@ -70,7 +69,7 @@ def suggest_brings_back(kept):
     status, said, _ = run("suggest", BACKBONE, session)
     same(status, 0)
     same(uncovered(BACKBONE, session + said), ONLY_DENY | {("east", 49)})
-    has(said, "east:49 ip prefix-list BANK seq 10 permit 198.51.100.192/27: refused absent bgp east 198.51.100.192/26\n")
+    has(said, "east:49 ip prefix-list BANK seq 10 permit 198.51.100.192/27: it is dead: refused absent bgp east\n#     198.51.100.192/26 from 198.51.100.6, ")
     return session, said
 
 
@@ -109,24 +108,19 @@ def suggest_tells_what_was_not_asked(_):
     has(said, "tests that could cover something weren't asked: --most asks more than 1\n")
 
 
-def suggest_leaves_dead_lines_out(folder):
-    """Over a program that tells dead lines: a copy of the one here, with an answer to `dead`."""
-    program = file_of(folder, "netcov", DEAD.format(program=shlex.split(os.environ["NETCOV"])))
-    os.chmod(program, os.stat(program).st_mode | stat.S_IXUSR)
+def suggest_tells_dead_lines(folder):
     more = open(SYSTEMS[1], encoding="utf-8").read() + "route-map TO-PEERS permit 20\n match ip address prefix-list OFFICE\n"
-    said = run("suggest", [SYSTEMS[0], file_of(folder, "r2.cfg", more), SYSTEMS[2]], "", NETCOV=program)[1]
+    said = run("suggest", [SYSTEMS[0], file_of(folder, "r2.cfg", more), SYSTEMS[2]])[1]
     has(said, "r2:22 ip community-list standard CUSTOMERS permit 65002:200: it is dead")
     has(said, "r2:32-33 route-map TO-PEERS permit 20: it is dead")
 
 
-DEAD = """#!/usr/bin/env python3
-import subprocess, sys
-lines = sys.stdin.read().splitlines()
-asked = [line for line in lines if line != "dead"]
-said = subprocess.run([*{program}, *sys.argv[1:]], input="\\n".join(asked), capture_output=True, text=True).stdout.splitlines()
-said[-1:-1] = ["dead 2 r2:22 r2:32"] if "dead" in lines else []
-print("\\n".join(said))
-"""
+def suggest_asks_few_of_dead_lines(folder):
+    """Of a network that nobody accepts the route is covered by a test of what is chosen where it is begun."""
+    said = run("suggest", BACKBONE)[1]
+    has(said, "bgp bank 198.51.100.192/26\n# covers bank:12 bank:14 bank:18\n")
+    has(said, "bgp peer 10.66.0.0/16\n# covers peer:12 peer:14 peer:17\n")
+    has(replies(BACKBONE, "dead\n"), " bank:18 east:49 ")
 
 
 def why_ends_with(files, test, end):
@@ -344,10 +338,10 @@ def check_compares_lines(folder):
 
 
 def check_of_all_commands(folder):
-    lines = ["rib r1 10.1.0.0/24", "show r1", "lcov", "reach r1 203.0.113.10", "implies 1 2", "forget 1", "json", "#" + "x" * 4096, "rib r3 10.1.0.0/24"]
+    lines = ["rib r1 10.1.0.0/24", "show r1", "lcov", "reach r1 203.0.113.10", "implies 1 2", "suite", "dead", "forget 1", "json", "#" + "x" * 4096, "rib r3 10.1.0.0/24"]
     session = file_of(folder, "session", "".join(line + "\n" for line in lines))
     status, said, _ = run("check", [os.path.join(folder, "kept"), session, *SYSTEMS])
-    same((status, said), (1, f"refused long: line 8: #{'x' * 199} ..\nrefused absent rib r3 10.1.0.0/24\n"))
+    same((status, said), (1, f"refused long: line 10: #{'x' * 199} ..\nrefused absent rib r3 10.1.0.0/24\n"))
 
 
 def check_tells_refused_lines(folder):
@@ -395,8 +389,8 @@ def help_is_there(_):
 
 TESTS = (
     suggest_without_the_first_half, suggest_without_each_second, suggest_from_nothing, suggest_nothing_needless,
-    suggest_for_weak_lines, suggest_tells_refused_lines, suggest_tells_what_was_not_asked, suggest_leaves_dead_lines_out, why_routes,
-    why_packets, why_sessions, why_next_hop, why_shut_interfaces, why_routes_inside, why_distances,
+    suggest_for_weak_lines, suggest_tells_refused_lines, suggest_tells_what_was_not_asked, suggest_tells_dead_lines,
+    suggest_asks_few_of_dead_lines, why_routes, why_packets, why_sessions, why_next_hop, why_shut_interfaces, why_routes_inside, why_distances,
     why_shared_addresses, why_nothing_absent, why_lines_that_are_not_asked, refusals_in_one_go,
     refusals_take_whole_families_out, refusals_of_banners, refusals_of_what_has_pitfalls, refusals_of_another_encoding,
     refusals_of_a_missing_file, groups_written_out, outside_most_telling_first, outside_as_the_document_says, elements_by_text, check_compares_lines,

@@ -15,8 +15,9 @@ def files_of(example):
 
 
 def tests_of(example):
+    """The lines of an example's session but for notes and for questions about all of its tests."""
     with open(os.path.join(TOP, "examples", example, "session"), encoding="utf-8") as file:
-        return [line.strip() for line in file if line.strip() and line[0] != "#"]
+        return [line.strip() for line in file if line.strip() not in ("", "suite", "dead") and line[0] != "#"]
 
 
 def shows_of(files):

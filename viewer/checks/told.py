@@ -1,4 +1,4 @@
-"""Replies to `cut`, `implies`, `suite` and `dead` among what is read: made here, in the form that LANGUAGE.md gives them, and cuts as they are answered."""
+"""Replies to `cut`, `implies`, `suite` and `dead` among what is read: made here, in the form that LANGUAGE.md gives them, and as they are answered on examples."""
 import os
 
 from replies import Session, TOP, answered, json_of, report_of, shown
@@ -34,20 +34,67 @@ def check_cuts(page):
     assert "In the cut of test 1 (of 2)." in page.run("part('about').textContent"), "a further line of what the cut names"
 
 
-def check_cut_of_example(page):
-    """The cuts that are answered on the example of a shared line: each is told with its line, and its refusals with the others."""
-    folder = os.path.join(TOP, "examples", "shared-line")
+def answered_on(example):
+    """The lines of an example's session with a `show` for each router behind them, and what is answered."""
+    folder = os.path.join(TOP, "examples", example)
     names = [name for name in sorted(os.listdir(folder)) if name.endswith(".cfg")]
     with open(os.path.join(folder, "session"), "rb") as commands:
         asked = commands.read() + b"".join(b"show " + name[:-4].encode() + b"\n" for name in names)
+    return asked, answered(tuple(os.path.join(folder, name) for name in names), asked)
+
+
+def places_of(replies, word):
+    """What stands behind the first words of a reply: of `suite` the numbers, of `dead` the places behind their count."""
+    line = next(line for line in replies.decode().splitlines() if line.split(" ")[0] == word)
+    return line.split(" ")[1 if word == "suite" else 2:]
+
+
+def check_cut_of_example(page):
+    """The cuts that are answered on the example of a shared line: each is told with its line, and its refusals with the others."""
+    asked, replies = answered_on("shared-line")
     page.fresh()
-    page.read(("replies", answered(tuple(os.path.join(folder, name) for name in names), asked)), ("session", asked))
+    page.read(("replies", replies), ("session", asked))
     assert page.messages() == [], page.messages()
     told = page.run("[...document.querySelectorAll('#cuts-told > ul > li')].map(item => item.textContent)")
     assert len(told) == asked.count(b"\ncut ") - 1, told
     assert told[0].startswith("test 1, reach branch 10.4.0.10: lost without this line:carrier1:10"), told[0]
     refused = page.run("document.body.textContent")
     assert "cut 3 keep centre" in refused, "the refusal of a cut"
+
+
+def check_suite_of_example(page):
+    """The suite that is answered on the example of a provider: each of its tests suffices, and each other one can go."""
+    asked, replies = answered_on("backbone")
+    kept = places_of(replies, "suite")
+    page.fresh()
+    page.read(("replies", replies), ("session", asked))
+    assert page.messages() == [], page.messages()
+    assert f"; {20 - len(kept)} of 20 can go" in page.run("document.querySelector('#answers summary').textContent")
+    told = page.run("[[...sides.now.told.suite.kept], [...sides.now.told.suite.spare]]")
+    assert [str(k) for k in told[0]] == kept and sorted(told[0] + told[1]) == list(range(1, 21)), told
+    page.run("part('answers').open = true")
+    page.settle()
+    tags = page.run("[...document.querySelectorAll('#answer-rows .row')].map(row => row.querySelector('.tag')?.textContent)")
+    assert tags.count("suffices") == len(kept) and tags.count("can go") == 20 - len(kept), tags
+
+
+def check_dead_of_example(page):
+    """The elements that are told as dead on the example of a provider: each with all its lines, and no other line."""
+    asked, replies = answered_on("backbone")
+    first = {tuple(place.split(":")) for place in places_of(replies, "dead")}
+    page.fresh()
+    page.read(("replies", replies), ("session", asked))
+    assert page.messages() == [], page.messages()
+    marks = page.run("[...sides.now.routers.values()].flatMap(router => [...router.marks].map((mark, k) => [router.name, k + 1, String.fromCharCode(mark)]))")
+    dead = {(name, str(number)) for name, number, mark in marks if mark == "D"}
+    assert dead == first | {("north", "62"), ("north", "64")}, dead
+    assert {(name, number) for name, number, mark in marks if mark == "U"} == {("bank", 12), ("bank", 14), ("peer", 12), ("peer", 14)}, marks
+    page.go("#north")
+    page.press_all("8")
+    assert [row[1] for row in page.rows()] == ["53", "54", "55", "56", "57", "58", "61", "62", "63", "64"], page.rows()
+    page.go("#bank")
+    page.press_all("7")
+    assert [row[1] for row in page.rows()] == ["12", "14"], page.rows()
 
 
 def check_suite(page):
@@ -120,4 +167,4 @@ def check_dead_compared(page):
     assert page.table()[0][9:] == ["0", "0", "3", "0", "0"] and page.table()[0][6:8] == ["44.4 %", "66.6 %"], page.table()
 
 
-CHECKS = (check_cuts, check_cut_of_example, check_suite, check_dead, check_dead_textless, check_dead_compared)
+CHECKS = (check_cuts, check_cut_of_example, check_suite_of_example, check_dead_of_example, check_suite, check_dead, check_dead_textless, check_dead_compared)

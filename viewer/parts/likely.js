@@ -196,7 +196,7 @@ function likelyTests(side, router, k) {
 }
 
 function deadNote(router, element) {
-  const dead = "As the files are, no test of a route, an accepted route or a session rests on it.";
+  const dead = "As the files are, no row of a main table, no accepted route and no session rests on it.";
   if (element === null || !onlyDenies(elementsOf(router), element)) return dead;
   return `${dead} It only denies, so that is its nature, and doesn't say that it refuses nothing: take it out of a copy, and see what comes in.`;
 }
