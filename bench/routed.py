@@ -34,7 +34,8 @@ def chain_rows(routers):
     far, near = 3 * (routers * 200 // 256), host_of(3 * min(FAR_HOPS, routers - 1))
     asked = [f"rib r0 {prefix(far)}", f"reach r0 {near}", f"every r0 {near}"]
     questions = ["implies 1 2", "implies 2 1", "implies 3 2"]
-    return [("loading alone", []), ("routes and ways of packets", asked), ("and questions between tests", questions), ("and a least cut", ["cut 1"])]
+    return [("loading alone", []), ("routes and ways of packets", asked), ("and questions between tests", questions), ("and a least cut", ["cut 1"]),
+            ("and which tests suffice, and what is dead", ["suite", "dead"])]
 
 
 def walks_rows(routers):
@@ -60,7 +61,8 @@ def lan(routers):
 
 def lan_rows(routers):
     tests = [f"rib r{it * 37 % routers} {prefix(it * 251 % (4 * routers - 1))}" for it in range(16 * routers)]
-    return [("loading alone", []), (f"{len(tests):,} tests", tests), ("and two of them taken back", ["forget 7", f"forget {4000 * routers // 256}"])]
+    return [("loading alone", []), (f"{len(tests):,} tests", tests), ("and two of them taken back", ["forget 7", f"forget {4000 * routers // 256}"]),
+            ("and which tests suffice", ["suite"])]
 
 
 def mesh(routers):
@@ -81,7 +83,7 @@ def mesh(routers):
 
 def mesh_rows(routers):
     asked = [f"bgp r0 {prefix(16)}", "session r0 10.0.0.2"]
-    return [("loading alone", []), ("two tests, and a question between them", [*asked, "implies 1 2"])]
+    return [("loading alone", []), ("two tests, and a question between them", [*asked, "implies 1 2"]), ("and what is dead", ["dead"])]
 
 
 def full(routers, announced, said, policy):
@@ -235,4 +237,4 @@ def backbone_rows(cores, stubs):
     ways += [f"every s{it} {host_of((it * 11 + 5) % count * 3 + 1)}" for it in systems]
     questions = [f"implies {it} {it + 1}" for it in (1, 3, *range(first, first + 48, 4))]
     return [("loading alone", []), ("routes", routes), ("and ways of packets", ways), ("and questions between them, and `json`", [*questions, "json"]),
-            ("and a least cut", ["cut 60"])]
+            ("and a least cut", ["cut 60"]), ("and which tests suffice, and what is dead", ["suite", "dead"])]
