@@ -42,6 +42,8 @@ router name clauses lists communities =
       clauses = clauses;
       lists = map (λ (n : List ℕ). record { name = n; entries = [] }) lists;
       community_lists = map (λ (n : List ℕ). record { name = n; entries = [] }) communities;
+      filters = [];
+      groups = [];
     }
 
 -- what is told of a reference on a line of the router of a number

@@ -14,6 +14,7 @@ mod clash;
 mod defined;
 mod fault;
 mod joining;
+pub mod laws;
 mod limits;
 mod names;
 mod overlaps;

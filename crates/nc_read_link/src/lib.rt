@@ -10,6 +10,7 @@
 mod draft;
 mod first;
 mod interfaces;
+pub mod laws;
 mod masks;
 mod next_hop;
 mod options;

@@ -5,6 +5,7 @@ ghost use Rattle.std.specs.Prelude.{◌≡◌, ◌<◌, ◌==◌, ℕ, List, Ok,
 ghost use Rattle.std.specs.List.{find};
 ghost use Rattle.std.specs.List.Sorted.{IsStrictlyIncreasing};
 ghost use Rattle.nc_types.specs.declared.config.ListEntry.{ListEntry};
+ghost use Rattle.nc_read_policy.specs.declared.TheConstants.{PREPEND_LIMIT};
 ghost use Rattle.nc_lines.specs.Parts.{Numbered, lines_in};
 ghost use Rattle.nc_read_policy.specs.Lists.{EntryPart, of_seq, part_of, parts_of, stated_from};
 ghost use Rattle.nc_read_policy.specs.Lists.{list_in};
@@ -32,4 +33,10 @@ pub fn entries_have_lines()
         → IsStrictlyIncreasing (lines_in block) → All (HasLines (lines_in block)) ps }
     ensures apart { (block : List Numbered) (ps : List EntryPart) → list_in block ≡ Ok ps
         → IsStrictlyIncreasing (lines_in block) → AreApart ps }
+{}
+
+/// The law of the limits: each number of the definitions that stands in the code under a name is the one that is meant. It
+/// does nothing.
+pub fn limits_are_numbers()
+    ensures prepended { PREPEND_LIMIT ≡ 10 }
 {}

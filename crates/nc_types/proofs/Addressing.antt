@@ -1,7 +1,7 @@
 -- The table of the owners of addresses.
 use Rattle.std.proofs.Common.{◌≡◌, ℕ, ◌+◌, Bool, true, false, cond, List, [], ◌∷◌, map, Option, Some, None, refl, sym, ap, subst, ◌∙◌, arith, nat_eq}
 use Rattle.std.specs.List.{position_from}
-use Rattle.std.specs.Option.{option_map, option_map_or, option_or, is_some}
+use Rattle.std.specs.Option.{option_map, option_map_or, option_or}
 use Rattle.std.specs.Ordering.{nat_cmp, is_eq}
 use Rattle.std.proofs.lemmas.Bool.{eqb-true}
 use Rattle.std.proofs.lemmas.Bool.Decides.{nat_tests}
@@ -12,7 +12,7 @@ use Rattle.nc_types.specs.declared.network.addresses.IfacePlace.{IfacePlace}
 use Rattle.nc_types.specs.Config.{config_view}
 use Rattle.nc_types.specs.Network.{PlaceIn, has_address, owner_from}
 use Rattle.nc_types.specs.Tables.{place_in, iface_from}
-use Rattle.nc_types.proofs.Options.{or_assoc, or_none}
+use Rattle.nc_types.proofs.Options.{or_none}
 
 -- the owner among these routers, the first of them having this number
 abbrev pub ifaces_from : ℕ → List RouterConfig → ℕ → Option IfacePlace

@@ -11,7 +11,9 @@ use Rattle.std.proofs.lemmas.Map.Steps.{length-le_from_distinct_below}
 use Rattle.nc_types.specs.declared.config.Interface.{Interface}
 use Rattle.nc_types.specs.declared.config.StaticRoute.{StaticRoute}
 use Rattle.nc_types.specs.Config.{ElementView, ProcessView, ClauseView, PrefixListView, CommunityListView, ConfigView}
-use Rattle.nc_types.specs.WellFormed.{process_places, entry_places, places_of, IsWellFormed, first_line}
+use Rattle.nc_types.specs.declared.filters.FilterEntry.{FilterEntry}
+use Rattle.nc_types.specs.declared.filters.Group.{Group}
+use Rattle.nc_types.specs.WellFormed.{process_places, entry_places, filter_places, places_of, IsWellFormed, first_line}
 use Rattle.nc_types.specs.Network.{element_count}
 use Rattle.nc_types.proofs.Members.{all_in, among_is}
 
@@ -48,22 +50,24 @@ few_places c formed =
     let distinct : IsDistinct nat_eq (places_of c) = IsDistinct-from_AllPairs Decides-eqb (places_of c) formed.single in
     length-le_from_distinct_below (places_of c) (length c.elements) distinct (λ q e. all_in (λ (k : ℕ). k < length c.elements) (places_of c) formed.places q (among_is q (places_of c) e))
 
--- all parts: interfaces, static routes, those of the process, clauses and the entries of lists
-pub few_parts : (c : ConfigView) → IsWellFormed c → length c.interfaces + (length c.statics + (length (option_map_or process_places c.process []) + (length c.clauses + length (entry_places c)))) ≤ length c.elements
+-- all parts: interfaces, static routes, those of the process, clauses, the entries of lists, and filters
+pub few_parts : (c : ConfigView) → IsWellFormed c → length c.interfaces + (length c.statics + (length (option_map_or process_places c.process []) + (length c.clauses + (length (entry_places c) + length (filter_places c))))) ≤ length c.elements
 few_parts c formed =
     let is = map (λ (i : Interface). i.element) c.interfaces in
     let ss = map (λ (s : StaticRoute). s.element) c.statics in
     let ps = option_map_or process_places c.process [] in
     let ks = map (λ (k : ClauseView). k.element) c.clauses in
     let es = entry_places c in
+    let fs = filter_places c in
     let few : length (places_of c) ≤ length c.elements = few_places c formed in
     omega (
       arith,
       few,
-      length-append is (ss ++ (ps ++ (ks ++ es))),
-      length-append ss (ps ++ (ks ++ es)),
-      length-append ps (ks ++ es),
-      length-append ks es,
+      length-append is (ss ++ (ps ++ (ks ++ (es ++ fs)))),
+      length-append ss (ps ++ (ks ++ (es ++ fs))),
+      length-append ps (ks ++ (es ++ fs)),
+      length-append ks (es ++ fs),
+      length-append es fs,
       length-map c.interfaces (λ (i : Interface). i.element),
       length-map c.statics (λ (s : StaticRoute). s.element),
       length-map c.clauses (λ (k : ClauseView). k.element),
@@ -77,6 +81,24 @@ few_statics c formed = let all = few_parts c formed in omega arith
 
 pub few_clauses : (c : ConfigView) → IsWellFormed c → length c.clauses ≤ length c.elements
 few_clauses c formed = let all = few_parts c formed in omega arith
+
+-- entries of access lists, and filters of interfaces
+few_filter_parts : (c : ConfigView) → IsWellFormed c → length c.filters + length c.groups ≤ length c.elements
+few_filter_parts c formed =
+    let all = few_parts c formed in
+    omega (
+      arith,
+      all,
+      length-append (map (λ (e : FilterEntry). e.element) c.filters) (map (λ (g : Group). g.element) c.groups),
+      length-map c.filters (λ (e : FilterEntry). e.element),
+      length-map c.groups (λ (g : Group). g.element),
+    )
+
+pub few_filters : (c : ConfigView) → IsWellFormed c → length c.filters ≤ length c.elements
+few_filters c formed = let all = few_filter_parts c formed in omega arith
+
+pub few_groups : (c : ConfigView) → IsWellFormed c → length c.groups ≤ length c.elements
+few_groups c formed = let all = few_filter_parts c formed in omega arith
 
 -- lists that each have an item are no more than all their items, and one of them has no more
 few_filled : {L : Type 0} (items : L → List ℕ) (ls : List L) → All (λ l. 0 < length (items l)) ls → length ls ≤ length (flat_map items ls)

@@ -19,6 +19,8 @@ use Rattle.nc_types.specs.declared.config.RouterConfig.{RouterConfig}
 use Rattle.nc_types.specs.declared.communities.CommunityEntry.{CommunityEntry}
 use Rattle.nc_types.specs.declared.communities.CommunityList.{CommunityList}
 use Rattle.nc_types.specs.declared.communities.SetCommunity.{SetCommunity}
+use Rattle.nc_types.specs.declared.filters.FilterEntry.{FilterEntry}
+use Rattle.nc_types.specs.declared.filters.Group.{Group}
 
 -- an element: what it configures, and its lines
 pub record ElementView : Type 0 where
@@ -110,6 +112,8 @@ pub record ConfigView : Type 0 where
   pub clauses : List ClauseView
   pub lists : List PrefixListView
   pub community_lists : List CommunityListView
+  pub filters : List FilterEntry
+  pub groups : List Group
 
 abbrev pub config_view : RouterConfig → ConfigView
 config_view c =
@@ -124,4 +128,6 @@ config_view c =
       clauses = map clause_view c.clauses.items;
       lists = map list_view c.lists.items;
       community_lists = map community_list_view c.community_lists.items;
+      filters = c.filters.items;
+      groups = c.groups.items;
     }

@@ -21,11 +21,15 @@ abbrev pub entry_places : ConfigView → List ℕ
 entry_places c =
     flat_map (λ l. map (λ e. e.element) l.entries) c.lists ++ flat_map (λ l. map (λ e. e.element) l.entries) c.community_lists
 
+-- the places of the elements that the entries of access lists and the filters of interfaces are
+abbrev pub filter_places : ConfigView → List ℕ
+filter_places c = map (λ e. e.element) c.filters ++ map (λ g. g.element) c.groups
+
 -- the places of the elements that the parts of a configuration are
 abbrev pub places_of : ConfigView → List ℕ
 places_of c =
     map (λ i. i.element) c.interfaces ++ (map (λ s. s.element) c.statics ++ (option_map_or process_places c.process []
-    ++ (map (λ k. k.element) c.clauses ++ entry_places c)))
+    ++ (map (λ k. k.element) c.clauses ++ (entry_places c ++ filter_places c))))
 
 -- an element has a line, and its lines ascend within the file
 pub record IsElement (line_count : ℕ) (e : ElementView) : Type 0 where
@@ -61,6 +65,8 @@ pub record IsWellFormed (c : ConfigView) : Type 0 where
   pub clauses : AllPairs (λ a b. (a.map_name ≢ b.map_name) ⊎ (a.number ≢ b.number)) c.clauses
   pub lists : AllPairs (λ a b. a.name ≢ b.name) c.lists
   pub community_lists : AllPairs (λ a b. a.name ≢ b.name) c.community_lists
+  -- an interface has one filter of a direction
+  pub groups : AllPairs (λ g h. (g.iface ≢ h.iface) ⊎ (g.inward ≢ h.inward)) c.groups
   -- an address lies in the prefix of its interface
   pub covered : All (λ i. IfSome i.address (λ a. Covers a.prefix a.addr.0)) c.interfaces
   pub process : IfSome c.process IsProcess

@@ -16,6 +16,8 @@ pub enum TestCommand {
     Reach(Text, Addr),
     /// That a packet for an address arrives by every way.
     Every(Text, Addr),
+    /// That a packet from the first address to the second is let pass and arrives by some way.
+    Flow(Text, Addr, Addr),
     /// The element that has a line, from 1.
     Element(Text, u32),
 }

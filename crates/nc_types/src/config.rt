@@ -5,6 +5,7 @@ ghost use Rattle.nc_types.specs.Joining.{interface_by};
 
 use crate::addr::Addr;
 use crate::communities::{CommunityList, SetCommunity};
+use crate::filters::{FilterEntry, Group};
 use crate::lines::Lines;
 use crate::prefix::Prefix;
 use crate::text::Text;
@@ -43,6 +44,10 @@ pub enum Kind {
     ListEntry,
     /// A statement of a community list.
     CommunityEntry,
+    /// An entry of an access list, by its statement.
+    Filter,
+    /// The access list that filters an interface in a direction, by the interface's name and the direction.
+    Group,
 }
 
 /// A thing that a configuration configures, with the lines of its statements.
@@ -277,4 +282,8 @@ pub struct RouterConfig {
     pub lists: Vec<PrefixList>,
     /// The community lists, in order of first mention.
     pub community_lists: Vec<CommunityList>,
+    /// The entries of all access lists, in order of statements.
+    pub filters: Vec<FilterEntry>,
+    /// The access lists that filter interfaces, in order of first line.
+    pub groups: Vec<Group>,
 }

@@ -15,6 +15,7 @@ mod command;
 mod communities;
 mod config;
 mod fault;
+mod filters;
 pub mod laws;
 mod lines;
 mod network;
@@ -30,6 +31,7 @@ pub use config::{
     StaticRoute, Via,
 };
 pub use fault::{Cause, ConfigFault, Fault};
+pub use filters::{AddrMatch, FilterEntry, Group};
 pub use lines::Lines;
 pub use network::Network;
 pub use prefix::Prefix;

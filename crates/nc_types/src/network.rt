@@ -10,6 +10,7 @@ ghost use Rattle.nc_types.specs.declared.TheConstants.{ROUTER_LIMIT, LINE_LIMIT}
 mod addresses;
 mod elements;
 mod names;
+mod owner;
 mod owners;
 mod tables;
 
@@ -106,7 +107,7 @@ impl Network {
     {
         let owners = self.tables.owners.get(router.0 as usize)?;
         let owner = *owners.get(line as usize)?;
-        let place = owner?;
+        let place = owner.place()?;
         Some(self.element_id(router, place))
     }
 

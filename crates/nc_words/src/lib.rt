@@ -8,6 +8,7 @@
 #![tactic(auto)]
 
 mod command;
+pub mod laws;
 mod read;
 mod request;
 

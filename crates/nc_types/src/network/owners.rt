@@ -1,25 +1,28 @@
 //! Which element has each line.
 
-ghost use Rattle.std.specs.Prelude.{◌≡◌, ◌^◌, ◌<◌, ◌∷◌, [], ℕ, All, length, map, IfOk, None, Some, slice_get};
+ghost use Rattle.std.specs.Prelude.{◌≡◌, ◌^◌, ◌<◌, ◌-◌, ◌∷◌, [], ℕ, All, length, map, IfOk, None, Some, slice_get};
 ghost use Rattle.nc_types.specs.Config.{element_view, config_view};
 ghost use Rattle.nc_types.specs.Tables.{AreOwners, AreAllOwners, owner_in, claimed};
 
 use crate::config::{Element, RouterConfig};
+use crate::network::owner::Owner;
 use std::alloc::{AllocError, Global};
 
 // Gives a line to the element at a place, if no element has it yet.
-fn claim_line(owners: &mut [Option<u32>], line: u32, place: u32)
+fn claim_line(owners: &mut [Owner], line: u32, place: u32)
+    requires { place < 2 ^ 32 - 1 }
     ensures { (k : ℕ) → k < length owners.old
         → slice_get owners.new k ≡ Some (claimed place (line ∷ []) k (slice_get owners.old k)) }
 {
     let line = line as usize;
-    if line < owners.len() && owners[line].is_none() {
-        owners[line] = Some(place);
+    if line < owners.len() && owners[line].place().is_none() {
+        owners[line] = Owner::of(place);
     }
 }
 
 // Gives the lines that no element has yet to the element at a place.
-fn claim(owners: &mut [Option<u32>], lines: &[u32], place: u32)
+fn claim(owners: &mut [Owner], lines: &[u32], place: u32)
+    requires { place < 2 ^ 32 - 1 }
     ensures { (k : ℕ) → k < length owners.old
         → slice_get owners.new k ≡ Some (claimed place lines.now k (slice_get owners.old k)) }
 {
@@ -29,7 +32,7 @@ fn claim(owners: &mut [Option<u32>], lines: &[u32], place: u32)
 }
 
 // Gives each element its lines, the elements in order.
-fn claim_all(owners: &mut [Option<u32>], elements: &[Element])
+fn claim_all(owners: &mut [Owner], elements: &[Element])
     requires few { length elements.now < 2 ^ 32 }
     requires free { (k : ℕ) → k < length owners.old → slice_get owners.old k ≡ Some None }
     ensures { (k : ℕ) → k < length owners.old
@@ -41,11 +44,11 @@ fn claim_all(owners: &mut [Option<u32>], elements: &[Element])
 }
 
 // The owner of each line of a router.
-fn owners_in(alloc: Global, config: &RouterConfig) -> Result<Vec<Option<u32>>, AllocError>
+fn owners_in(alloc: Global, config: &RouterConfig) -> Result<Vec<Owner>, AllocError>
     requires { length config.now.elements.items < 2 ^ 32 }
     ensures { IfOk result (λ owners. AreOwners (config_view config.now) owners.items) }
 {
-    let mut owners = vec![in alloc; None; config.line_count as usize + 1]?;
+    let mut owners = vec![in alloc; Owner::none(); config.line_count as usize + 1]?;
     claim_all(&mut owners, &config.elements);
     Ok(owners)
 }
@@ -54,7 +57,7 @@ fn owners_in(alloc: Global, config: &RouterConfig) -> Result<Vec<Option<u32>>, A
 pub(crate) fn line_owners(
     alloc: Global,
     routers: &[RouterConfig],
-) -> Result<Vec<Vec<Option<u32>>>, AllocError>
+) -> Result<Vec<Vec<Owner>>, AllocError>
     requires { All (λ c. length c.elements.items < 2 ^ 32) routers.now }
     ensures { IfOk result (λ owners. AreAllOwners (map config_view routers.now) (length routers.now) owners.items) }
 {

@@ -10,6 +10,7 @@ use crate::config::{RouterConfig, RouterId};
 use crate::network::addresses::{IfacePlace, address_owners};
 use crate::network::elements::{ElementPlace, element_offsets, element_places};
 use crate::network::names::router_names;
+use crate::network::owner::Owner;
 use crate::network::owners::line_owners;
 use std::alloc::{AllocError, Global};
 use std::collections::BTreeMap;
@@ -24,7 +25,7 @@ pub(crate) struct Tables {
     /// The number of the first element of each router.
     pub(crate) offsets: Vec<u32>,
     /// Of each router, the place of the element that has each line, from a line 0 on.
-    pub(crate) owners: Vec<Vec<Option<u32>>>,
+    pub(crate) owners: Vec<Vec<Owner>>,
     /// The interface that is up and has each address.
     pub(crate) addresses: BTreeMap<Addr, IfacePlace>,
 }

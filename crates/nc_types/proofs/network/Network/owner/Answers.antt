@@ -30,7 +30,7 @@ returns-in_err-place c =
     let there : slice_get c.self.inside.tables.owners.items c.args.router.0 ≡ Some own = ap (λ (os : List (Vec (Option ℕ))). slice_get os c.args.router.0) (sym c.deref.ensures.value) ∙ found in
     let all : AreAllOwners rs (length rs) c.self.inside.tables.owners.items = c.self.invariant.served.owners in
     let has : slice_get c.deref-2.result.now c.args.line ≡ Some c.in_ok-owner.field-0.now = grind (arith, common_steps, gets) in
-    let none : c.in_ok-owner.field-0.now ≡ None = c.in_err-place.was in
+    let none : c.in_ok-owner.field-0.now ≡ None = sym c.place.ensures ∙ c.in_err-place.was in
     let owner : option_map (number_at rs c.args.router.0) None ≡ owner_at rs c.args.router.0 c.args.line =
     owner_found rs c.self.inside.tables.owners.items all c.args.router.0 c.args.line own there None (ap (λ (l : List (Option ℕ)). slice_get l c.args.line) (sym c.deref-2.ensures.value) ∙ has ∙ ap Some none) in
     rw (c.from_residual-in_err-place.ensures, ← c.self.view_is) owner
@@ -43,7 +43,7 @@ element_id-requires-clause-place c x at =
     let there : slice_get c.self.inside.tables.owners.items c.args.router.0 ≡ Some own = ap (λ (os : List (Vec (Option ℕ))). slice_get os c.args.router.0) (sym c.deref.ensures.value) ∙ found in
     let all : AreAllOwners rs (length rs) c.self.inside.tables.owners.items = c.self.invariant.served.owners in
     let has : slice_get c.deref-2.result.now c.args.line ≡ Some c.in_ok-owner.field-0.now = grind (arith, common_steps, gets) in
-    let some : c.in_ok-owner.field-0.now ≡ Some c.in_ok-place.place = c.in_ok-place.was in
+    let some : c.in_ok-owner.field-0.now ≡ Some c.in_ok-place.place = sym c.place.ensures ∙ c.in_ok-place.was in
     place_found rs c.self.inside.tables.owners.items all c.args.router.0 c.args.line own there c.in_ok-place.place
     (ap (λ (l : List (Option ℕ)). slice_get l c.args.line) (sym c.deref-2.ensures.value) ∙ has ∙ ap Some some) x (ap (λ (cs : List ConfigView). slice_get cs c.args.router.0) c.self.view_is ∙ at)
 
@@ -55,7 +55,7 @@ returns c =
     let there : slice_get c.self.inside.tables.owners.items c.args.router.0 ≡ Some own = ap (λ (os : List (Vec (Option ℕ))). slice_get os c.args.router.0) (sym c.deref.ensures.value) ∙ found in
     let all : AreAllOwners rs (length rs) c.self.inside.tables.owners.items = c.self.invariant.served.owners in
     let has : slice_get c.deref-2.result.now c.args.line ≡ Some c.in_ok-owner.field-0.now = grind (arith, common_steps, gets) in
-    let some : c.in_ok-owner.field-0.now ≡ Some c.in_ok-place.place = c.in_ok-place.was in
+    let some : c.in_ok-owner.field-0.now ≡ Some c.in_ok-place.place = sym c.place.ensures ∙ c.in_ok-place.was in
     let owner : Some (number_at rs c.args.router.0 c.in_ok-place.place) ≡ owner_at rs c.args.router.0 c.args.line =
     owner_found rs c.self.inside.tables.owners.items all c.args.router.0 c.args.line own there (Some c.in_ok-place.place) (ap (λ (l : List (Option ℕ)). slice_get l c.args.line) (sym c.deref-2.ensures.value) ∙ has ∙ ap Some some) in
     ap Some c.element_id.ensures.number ∙ subst (λ (cs : List ConfigView). Some (number_at cs c.args.router.0 c.in_ok-place.place) ≡ owner_at cs c.args.router.0 c.args.line) c.self.view_is owner
