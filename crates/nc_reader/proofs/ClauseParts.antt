@@ -16,7 +16,7 @@ use Rattle.nc_reader.specs.declared.topic.Topic.{Topic}
 use Rattle.nc_reader.specs.declared.topic.Topic.TheVariants as topics
 use Rattle.nc_reader.specs.Roles.{Role, Within, said_role, header_role}
 use Rattle.nc_reader.specs.Things.{element_at}
-use Rattle.nc_reader.proofs.HeaderCases.{read_by, no_hostname, no_interface, no_said, header_read}
+use Rattle.nc_reader.proofs.HeaderCases.{read_by, no_hostname, no_interface, no_filter, no_said, header_read}
 use Rattle.nc_reader.proofs.LineOrder.{IsHeader}
 use Rattle.nc_reader.proofs.PieceLemmas.{LinesAscend, AreElements, kept_element, at_line}
 
@@ -40,7 +40,7 @@ module _ (name : List ℕ) (number : ℕ) where
       let own : Topic = topics.Clause name number in
       header_read own words
       (read_by (λ (r : Role). r ≡ clause → Heads name number (header_says words)) words (no_hostname own) (no_interface own (λ n e. absurd cc)) (λ e. absurd cc)
-      (λ rest. no_said topics.List own (λ s e. absurd cc) (list_name_says rest)) (λ rest. no_said topics.Communities own (λ s e. absurd cc) (community_name_says rest))
+      (λ rest. no_said topics.List own (λ s e. absurd cc) (list_name_says rest)) (λ rest. no_said topics.Communities own (λ s e. absurd cc) (community_name_says rest)) (no_filter own (λ e. absurd cc))
       (no_said topics.Process own (λ s e. absurd cc) (process_header_says words)) (heads (header_says words)))
 
 -- what the header of a clause says in its block

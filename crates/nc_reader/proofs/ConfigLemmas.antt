@@ -89,6 +89,8 @@ module _ (lines : List (List ℕ)) where
           clauses = ts.clauses;
           lists = ts.lists;
           community_lists = ts.community_lists;
+          filters = ts.filters;
+          groups = ts.groups;
         }
 
     pub whole : (given : ℕ × List ℕ) (own : List Part) (count : ℕ) (elements : List ElementView) (ts : Things) → name ≡ Some given → own ≡ parts → count ≡ length lines

@@ -1,13 +1,16 @@
 -- The pass over the lines of a file.
-use Rattle.std.proofs.Common.{◌≡◌, ℕ, zero, suc, ◌+◌, ◌-◌, ◌<◌, ◌≤◌, Bool, true, false, cond, List, [], ◌∷◌, ◌++◌, length, map, get_or, drop, Option, Some, None, refl, sym, ap, ◌∙◌, subst, arith}
+use Rattle.std.proofs.Common.{◌≡◌, ℕ, zero, suc, ◌+◌, ◌-◌, ◌<◌, ◌≤◌, Bool, true, false, cond, eqb, List, [], ◌∷◌, ◌++◌, length, map, get_or, drop, Option, Some, None, refl, sym, ap, ◌∙◌, subst, arith, inl, inr}
 use Rattle.std.specs.Prelude.{All, IfSome}
 use Rattle.std.specs.List.{list_any, position_or_len}
 use Rattle.std.proofs.Math.Seq.{drop-cons}
+use Rattle.std.proofs.lemmas.Bool.{cases_Bool, ne_eqb, or_left}
+use Rattle.std.proofs.lemmas.List.Folds.{list_any-append, position_or_len_push}
 use Rattle.std.proofs.lemmas.List.{append-nil, append_assoc, drop_all, length-map}
 use Rattle.std.proofs.lemmas.List.Elements.{All-nil, All-cons, All-head, All-tail, All-push}
 use Rattle.nc_lines.specs.Lines.{line_at}
 use Rattle.nc_lines.specs.Blocks.{is_open, header_of}
 use Rattle.nc_lines.specs.declared.block.Block.{Block}
+use Rattle.nc_read_filter.specs.Groups.{GroupSays}
 use Rattle.nc_reader.specs.Roles.{Role, Passed, Wrong, Names, Within, Placed, block_of, role_of, roles_from}
 use Rattle.nc_reader.specs.declared.topic.Topic.{Topic}
 use Rattle.nc_reader.specs.Topics.{same_topic, has_block}
@@ -15,10 +18,10 @@ use Rattle.nc_lines.specs.Groups.{Group, of_key, groups, with_key}
 use Rattle.nc_reader.specs.Configuration.{spoken}
 use Rattle.nc_reader.specs.Gathering.{IsLine, Gathers, sketch}
 use Rattle.nc_reader.specs.Readings.{lines_in}
-use Rattle.nc_reader.specs.Steps.{Kind, Banner, Idle, Member, Heads, kind_of, Sketch, IsSteady, blank, with_value, put_at, joined, stepped}
+use Rattle.nc_reader.specs.Steps.{Kind, Banner, Idle, Member, Heads, kind_of, Sketch, IsSteady, blank, with_value, put_at, joined_to, group_at, joined, stepped}
 use Rattle.nc_reader.specs.declared.gather.Draft.{Draft}
 use Rattle.nc_reader.specs.declared.gather.Gathered.{Gathered}
-use Rattle.nc_lines.proofs.GroupLemmas.{keys_of, place_known, place_with_key, known-with_key}
+use Rattle.nc_lines.proofs.GroupLemmas.{keys_of, with_key-known, with_key-new, place_known, place_with_key, known-with_key}
 use Rattle.nc_reader.proofs.KindLemmas.{role_by, open_by, block_by, role_is, open_is, block_is}
 use Rattle.nc_reader.proofs.SeenLemmas.{Sees, IsBlock, sees_more}
 use Rattle.nc_reader.proofs.TopicLemmas.{same_topic_equiv}
@@ -69,27 +72,50 @@ next_line lines count some =
     let next : suc count ≡ count + 1 = omega arith in
     drop-cons lines count [] some ∙ ap (λ (k : ℕ). get_or lines k [] ∷ drop (suc count) lines) (sym here) ∙ ap (λ (k : ℕ). line_at (count + 1) lines ∷ drop k lines) next
 
-join_open : (line : ℕ) (place : Option ℕ) (s : Sketch) → (joined line place s).in_banner ≡ s.in_banner
-join_open line None s = refl
-join_open line (Some place) s = refl
+join_to_open : (line place : ℕ) (o : Option Topic) (s : Sketch) → (joined_to line place o s).in_banner ≡ s.in_banner
+join_to_open line place None s = refl
+join_to_open line place (Some topic) s = refl
+
+join_open : (line : ℕ) (said : Option GroupSays) (place : Option ℕ) (s : Sketch) → (joined line said place s).in_banner ≡ s.in_banner
+join_open line said None s = refl
+join_open line said (Some place) s = join_to_open line place (group_at said place s.topics) s
 
 open_step : (line : ℕ) (kind : Kind) (s : Sketch) → (stepped line kind s).in_banner ≡ open_by kind s.in_banner
 open_step line (Banner in_banner cause) s = refl
 open_step line Idle s = refl
-open_step line Member s = join_open line s.block s
+open_step line (Member said) s = join_open line said s.block s
 open_step line (Heads Passed) s = refl
 open_step line (Heads (Wrong cause)) s = refl
 open_step line (Heads (Names name)) s = refl
 open_step line (Heads (Within topic)) s = refl
 
-block_join : (line : ℕ) (place : Option ℕ) (s : Sketch) (block : Option Topic) → IsBlock s.topics block s.block → IsBlock (joined line place s).topics block (joined line place s).block
-block_join line None s block is = is
-block_join line (Some place) s block is = is
+-- the place of a topic stays where another one comes to the end
+block_kept : (topics : List Topic) (more : Topic) (block : Option Topic) (place : Option ℕ) → IsBlock topics block place → IsBlock (with_key same_topic topics more) block place
+block_kept topics more None place is = is
+block_kept topics more (Some topic) place is =
+    elim (cases_Bool (list_any (same_topic more) topics)) [
+      | inl known ↦ subst (λ (ts : List Topic). IsBlock ts (Some topic) place) (sym (with_key-known same_topic topics more known)) is
+      | inr new ↦
+          let below = place_known same_topic topics topic is.1 in
+          let apart : eqb (position_or_len (same_topic topic) topics) (length topics) ≡ false = ne_eqb (position_or_len (same_topic topic) topics) (length topics) (λ (e : position_or_len (same_topic topic) topics ≡ length topics). omega (arith, e, below)) in
+          let same : position_or_len (same_topic topic) (topics ++ more ∷ []) ≡ position_or_len (same_topic topic) topics =
+          position_or_len_push (same_topic topic) topics more ∙ ap (λ (b : Bool). cond b (length topics + cond (same_topic topic more) 0 1) (position_or_len (same_topic topic) topics)) apart in
+          let still : list_any (same_topic topic) (topics ++ more ∷ []) ≡ true = list_any-append (same_topic topic) topics (more ∷ []) ∙ or_left (list_any (same_topic topic) topics) _ is.1 in
+          subst (λ (ts : List Topic). IsBlock ts (Some topic) place) (sym (with_key-new same_topic topics more new)) (is.0 ∙ ap (λ (k : ℕ). Some k) (sym same), still)
+    ]
+
+block_join_to : (line place : ℕ) (o : Option Topic) (s : Sketch) (block : Option Topic) → IsBlock s.topics block s.block → IsBlock (joined_to line place o s).topics block (joined_to line place o s).block
+block_join_to line place None s block is = is
+block_join_to line place (Some topic) s block is = block_kept s.topics topic block s.block is
+
+block_join : (line : ℕ) (said : Option GroupSays) (place : Option ℕ) (s : Sketch) (block : Option Topic) → IsBlock s.topics block s.block → IsBlock (joined line said place s).topics block (joined line said place s).block
+block_join line said None s block is = is
+block_join line said (Some place) s block is = block_join_to line place (group_at said place s.topics) s block is
 
 block_step : (line : ℕ) (kind : Kind) (s : Sketch) (block : Option Topic) → IsBlock s.topics block s.block → IsBlock (stepped line kind s).topics (block_by kind block) (stepped line kind s).block
 block_step line (Banner in_banner cause) s block is = is
 block_step line Idle s block is = is
-block_step line Member s block is = block_join line s.block s block is
+block_step line (Member said) s block is = block_join line said s.block s block is
 block_step line (Heads Passed) s block is = refl
 block_step line (Heads (Wrong cause)) s block is = refl
 block_step line (Heads (Names name)) s block is = refl
@@ -111,14 +137,18 @@ put_at-lines : (P : ℕ → Type 0) (known : Bool) (line place : ℕ) (blocks : 
 put_at-lines P true line place blocks p all = with_value-lines P line place blocks p all
 put_at-lines P false line place blocks p all = All-push (All P) blocks (line ∷ []) all (All-cons P line [] p (All-nil P))
 
-join-lines : (P : ℕ → Type 0) (line : ℕ) (place : Option ℕ) (s : Sketch) → P line → All (All P) s.blocks → All (All P) (joined line place s).blocks
-join-lines P line None s p all = all
-join-lines P line (Some place) s p all = with_value-lines P line place s.blocks p all
+join_to-lines : (P : ℕ → Type 0) (line place : ℕ) (o : Option Topic) (s : Sketch) → P line → All (All P) s.blocks → All (All P) (joined_to line place o s).blocks
+join_to-lines P line place None s p all = with_value-lines P line place s.blocks p all
+join_to-lines P line place (Some topic) s p all = put_at-lines P (list_any (same_topic topic) s.topics) line (position_or_len (same_topic topic) s.topics) s.blocks p all
+
+join-lines : (P : ℕ → Type 0) (line : ℕ) (said : Option GroupSays) (place : Option ℕ) (s : Sketch) → P line → All (All P) s.blocks → All (All P) (joined line said place s).blocks
+join-lines P line said None s p all = all
+join-lines P line said (Some place) s p all = join_to-lines P line place (group_at said place s.topics) s p all
 
 blocks-lines : (P : ℕ → Type 0) (line : ℕ) (kind : Kind) (s : Sketch) → P line → All (All P) s.blocks → All (All P) (stepped line kind s).blocks
 blocks-lines P line (Banner in_banner cause) s p all = all
 blocks-lines P line Idle s p all = all
-blocks-lines P line Member s p all = join-lines P line s.block s p all
+blocks-lines P line (Member said) s p all = join-lines P line said s.block s p all
 blocks-lines P line (Heads Passed) s p all = all
 blocks-lines P line (Heads (Wrong cause)) s p all = all
 blocks-lines P line (Heads (Names name)) s p all = all

@@ -15,9 +15,11 @@ pub mod ClauseParts
 pub mod RouteParts
 pub mod ListParts
 pub mod CommunityParts
+pub mod FilterParts
 pub mod ProcessParts
 pub mod TopicParts
 pub mod KindParts
+pub mod PlaceParts
 pub mod RouterNames
 pub mod WellFormedLemmas
 pub mod KindLemmas
@@ -29,3 +31,4 @@ pub mod ThingLemmas
 pub mod PlacedLemmas
 pub mod LowestFaults
 pub mod ConfigLemmas
+pub mod OddLemmas

@@ -1,14 +1,16 @@
 -- The lines of a file are numbered in order, and the first line of a topic that has blocks is a header.
-use Rattle.std.proofs.Common.{◌≡◌, ℕ, suc, ◌+◌, ◌-◌, ◌≤◌, Bool, false, cond, not, List, [], ◌∷◌, length, get_or, Option, Some, None, sym, ap, ◌∙◌, subst, arith, inl, inr}
-use Rattle.std.specs.Prelude.{◌⊎◌}
+use Rattle.std.proofs.Common.{◌≡◌, ℕ, suc, ◌+◌, ◌-◌, ◌≤◌, Bool, true, false, cond, not, List, [], ◌∷◌, length, get_or, Option, Some, None, sym, ap, ◌∙◌, subst, arith, inl, inr}
+use Rattle.std.specs.Prelude.{◌⊎◌, unwrap_or}
 use Rattle.std.specs.List.{cons_option}
 use Rattle.std.proofs.lemmas.Bool.{cases_Bool, cond_both, or_parts, both_ways, cond-false}
 use Rattle.nc_types.specs.declared.fault.Cause.TheVariants.{Syntax}
 use Rattle.nc_lines.specs.Lines.{words_of, is_indented, line_at}
 use Rattle.nc_lines.specs.Blocks.{is_idle, begins_banner, has_mark, is_open, is_passed, header_of}
+use Rattle.nc_read_filter.specs.Groups.{GroupSays, group_says}
 use Rattle.nc_reader.specs.declared.topic.Topic.{Topic}
+use Rattle.nc_reader.specs.declared.topic.Topic.TheVariants as topics
 use Rattle.nc_lines.specs.Groups.{Keyed, of_key}
-use Rattle.nc_reader.specs.Roles.{Role, Passed, Wrong, Names, Within, Placed, header_role, opened_by, block_of, member_role, role_of, roles_from}
+use Rattle.nc_reader.specs.Roles.{Role, Passed, Wrong, Names, Within, Placed, header_role, opened_by, block_of, group_topic, member_role, role_of, roles_from}
 use Rattle.nc_reader.specs.Topics.{same_topic, has_block}
 use Rattle.nc_reader.specs.Configuration.{spoken_at, spoken}
 use Rattle.nc_lines.proofs.Pairs.{Ascends, ascends_kept}
@@ -42,9 +44,27 @@ spoken_ascend lines =
 
 -- ---- headers
 
-member_of : (o : Option Topic) (topic : Topic) → member_role o ≡ Within topic → o ≡ Some topic
-member_of None topic e = absurd cc
-member_of (Some t) topic e = let same : t ≡ topic = cc in ap (λ (t : Topic). Some t) same
+-- what applies an access list to an interface has no header
+abbrev pub is_group : Topic → Bool
+is_group (topics.Group name inward) = true
+is_group topic = false
+
+own_topic : (t : Topic) (said : Option GroupSays) (topic : Topic) → is_group topic ≡ false → unwrap_or (group_topic t said) t ≡ topic → t ≡ topic
+own_topic t None topic other e = e
+own_topic (topics.Interface name) (Some g) topic other e = absurd (let clash : true ≡ false = ap is_group e ∙ other in cc)
+own_topic topics.Statics (Some g) topic other e = e
+own_topic (topics.Process asn) (Some g) topic other e = e
+own_topic (topics.Clause name number) (Some g) topic other e = e
+own_topic (topics.List name) (Some g) topic other e = e
+own_topic (topics.Communities name) (Some g) topic other e = e
+own_topic topics.Filters (Some g) topic other e = e
+own_topic (topics.Group name inward) (Some g) topic other e = e
+
+member_of : (o : Option Topic) (said : Option GroupSays) (topic : Topic) → is_group topic ≡ false → member_role o said ≡ Within topic → o ≡ Some topic
+member_of None said topic other e = absurd cc
+member_of (Some t) said topic other e =
+    let same : unwrap_or (group_topic t said) t ≡ topic = cc in
+    ap (λ (t : Topic). Some t) (own_topic t said topic other same)
 
 opener_of : (r : Role) (topic : Topic) → opened_by r ≡ Some topic → r ≡ Within topic
 opener_of Passed topic e = absurd cc
@@ -61,14 +81,14 @@ IsHeader line topic = (is_indented line ≡ false) × (header_role (words_of lin
 abbrev Stands : List (List ℕ) → List ℕ → Topic → Role → Type 0
 Stands earlier line topic r = r ≡ Within topic → IsHeader line topic ⊎ (block_of earlier ≡ Some topic)
 
-within_cases : (earlier : List (List ℕ)) (line : List ℕ) (later : List (List ℕ)) (topic : Topic) → Stands earlier line topic (role_of earlier line later)
+within_cases : (earlier : List (List ℕ)) (line : List ℕ) (later : List (List ℕ)) (topic : Topic) → is_group topic ≡ false → Stands earlier line topic (role_of earlier line later)
 unfolding role_of
-within_cases earlier line later topic =
+within_cases earlier line later topic other =
     cond_both (is_open earlier) _ _ (Stands earlier line topic) (λ _ e. absurd cc)
     (λ _. cond_both (begins_banner line) _ _ (Stands earlier line topic)
     (λ _. cond_both (not (has_mark line)) _ _ (Stands earlier line topic) (λ _ e. absurd cc) (λ _. cond_both _ (Wrong Syntax) Passed (Stands earlier line topic) (λ _ e. absurd cc) (λ _ e. absurd cc)))
     (λ _. cond_both (is_idle (words_of line)) _ _ (Stands earlier line topic) (λ _ e. absurd cc)
-    (λ _. cond_both (is_indented line) _ _ (Stands earlier line topic) (λ _ e. inr (member_of (block_of earlier) topic e)) (λ outer e. inl (outer, e)))))
+    (λ _. cond_both (is_indented line) _ _ (Stands earlier line topic) (λ _ e. inr (member_of (block_of earlier) (group_says (words_of line)) topic other e)) (λ outer e. inl (outer, e)))))
 
 header_plain : (earlier : List (List ℕ)) (line : List ℕ) (later : List (List ℕ)) → is_passed earlier line ≡ false → role_of earlier line later ≡ header_role (words_of line)
 unfolding role_of
@@ -110,25 +130,25 @@ starts_more whole topic n (Within t) rest first later =
     ]
 
 -- outside a block of the topic its next line is a header
-starts : (whole earlier lines : List (List ℕ)) (topic : Topic) → ((k : ℕ) → get_or whole (length earlier + k) [] ≡ get_or lines k []) → (block_of earlier ≡ Some topic → ⊥)
+starts : (whole earlier lines : List (List ℕ)) (topic : Topic) → is_group topic ≡ false → ((k : ℕ) → get_or whole (length earlier + k) [] ≡ get_or lines k []) → (block_of earlier ≡ Some topic → ⊥)
     → Starts whole topic (of_key same_topic topic (spoken (roles_from earlier lines)))
 unfolding roles_from
-starts whole earlier [] topic at outside = tt
-starts whole earlier (line ∷ later) topic at outside =
+starts whole earlier [] topic with_header at outside = tt
+starts whole earlier (line ∷ later) topic with_header at outside =
     let text : line_at (length earlier + 1) whole ≡ line = (let e : length earlier + 1 - 1 ≡ length earlier + 0 = omega arith in ap (λ (k : ℕ). get_or whole k []) e ∙ at 0) in
     starts_more whole topic (length earlier + 1) (role_of earlier line later) (spoken (roles_from (line ∷ earlier) later))
-    (λ is. elim (within_cases earlier line later topic is) [
+    (λ is. elim (within_cases earlier line later topic with_header is) [
       | inl opens ↦ subst (λ (text : List ℕ). IsHeader text topic) (sym text) opens
       | inr inside ↦ absurd (outside inside)
     ])
-    (λ other. starts whole (line ∷ earlier) later topic
+    (λ other. starts whole (line ∷ earlier) later topic with_header
     (λ k. let e : length (line ∷ earlier) + k ≡ length earlier + suc k = omega arith in ap (λ (k : ℕ). get_or whole k []) e ∙ at (suc k))
     (λ still. elim (block_next earlier line later topic still) [
       | inl before ↦ outside before
       | inr within ↦ other within
     ]))
 
--- the first line of a topic is a header
-pub begun : (lines : List (List ℕ)) (topic : Topic) → Starts lines topic (of_key same_topic topic (spoken (roles_from [] lines)))
+-- the first line of a topic that has a header is one
+pub begun : (lines : List (List ℕ)) (topic : Topic) → is_group topic ≡ false → Starts lines topic (of_key same_topic topic (spoken (roles_from [] lines)))
 unfolding header_of
-begun lines topic = starts lines [] lines topic (λ k. let e : 0 + k ≡ k = omega arith in ap (λ (k : ℕ). get_or lines k []) e) (λ e. absurd cc)
+begun lines topic other = starts lines [] lines topic other (λ k. let e : 0 + k ≡ k = omega arith in ap (λ (k : ℕ). get_or lines k []) e) (λ e. absurd cc)

@@ -21,8 +21,8 @@ use Rattle.nc_reader.specs.declared.topic.Topic.{Topic}
 use Rattle.nc_reader.specs.declared.topic.Topic.TheVariants as topics
 use Rattle.nc_reader.specs.Roles.{roles_from}
 use Rattle.nc_reader.specs.Topics.{same_topic}
-use Rattle.nc_reader.specs.Configuration.{spoken, topics_of, process_number, parts_of, wrong_at, faults_about, faults_of}
-use Rattle.nc_reader.specs.Things.{Part, AProcess, first_in, part_in, err_of}
+use Rattle.nc_reader.specs.Configuration.{spoken, topics_of, process_number, parts_of, wrong_at, faults_about, odd_faults, faults_of}
+use Rattle.nc_reader.specs.Things.{Part, AProcess, first_in, part_in, ok_of, err_of}
 use Rattle.nc_reader.proofs.LineOrder.{spoken_ascend}
 use Rattle.nc_reader.proofs.PieceLemmas.{LinesAscend, numbers_of}
 use Rattle.nc_reader.proofs.TopicLemmas.{topics_same}
@@ -65,10 +65,13 @@ module _ (lines : List (List ℕ)) where
   topic_lowest process (topics.Clause name number) ks up = lowest_one (err_of (part_in lines process (topics.Clause name number) ks))
   topic_lowest process (topics.List name) ks up = lowest_one (err_of (part_in lines process (topics.List name) ks))
   topic_lowest process (topics.Communities name) ks up = lowest_one (err_of (part_in lines process (topics.Communities name) ks))
+  topic_lowest process topics.Filters ks up = refl
+  topic_lowest process (topics.Group name inward) ks up = refl
 
-  -- so the lowest of all that is wrong is that of what the parts tell
-  pub lowest_same : lowest (faults_of lines (roles_from [] lines)) ≡ lowest (filter_map (λ r. wrong_at r.line r.role) (roles_from [] lines) ++ filter_map err_of (parts_of lines (roles_from [] lines)))
-  lowest_same =
+  -- so the lowest of what is wrong with lines and topics is that of what the parts tell
+  topics_lowest : lowest (filter_map (λ r. wrong_at r.line r.role) (roles_from [] lines) ++ flat_map (λ g. faults_about lines (process_number (roles_from [] lines)) g.key g.values) (topics_of (roles_from [] lines)))
+      ≡ lowest (filter_map (λ r. wrong_at r.line r.role) (roles_from [] lines) ++ filter_map err_of (parts_of lines (roles_from [] lines)))
+  topics_lowest =
       let rs = roles_from [] lines in
       let process : Option ℕ = process_number rs in
       let wrongs : List Fault = filter_map (λ r. wrong_at r.line r.role) rs in
@@ -79,3 +82,10 @@ module _ (lines : List (List ℕ)) where
       (λ g h. topic_lowest process g.key g.values (group_ascends same_topic topics_same (λ (k : ℕ). k) 0 (length lines) (spoken rs) (spoken_ascend lines) g h)) in
       lowest_append wrongs (flat_map about (topics_of rs)) ∙ ap (lower_of (lowest wrongs)) (each ∙ sym (ap (λ (fs : List Fault). lowest fs) (kept_map err_of part (topics_of rs))))
       ∙ sym (lowest_append wrongs (filter_map err_of (parts_of lines rs)))
+
+  -- and so is that of all, where what is wrong with entries of access lists is told too
+  pub lowest_same : lowest (faults_of lines (roles_from [] lines))
+      ≡ lowest ((filter_map (λ r. wrong_at r.line r.role) (roles_from [] lines) ++ filter_map err_of (parts_of lines (roles_from [] lines))) ++ odd_faults (filter_map ok_of (parts_of lines (roles_from [] lines))))
+  lowest_same =
+      let odd : List Fault = odd_faults (filter_map ok_of (parts_of lines (roles_from [] lines))) in
+      lowest_append _ odd ∙ ap (λ (o : Option Fault). lower_of o (lowest odd)) topics_lowest ∙ sym (lowest_append _ odd)

@@ -27,7 +27,7 @@ use Rattle.nc_reader.specs.declared.topic.Topic.{Topic}
 use Rattle.nc_reader.specs.declared.topic.Topic.TheVariants as topics
 use Rattle.nc_reader.specs.Roles.{Role, Within, said_role, header_role}
 use Rattle.nc_reader.specs.Things.{Part, element_at, process_pieces}
-use Rattle.nc_reader.proofs.HeaderCases.{read_by, no_hostname, no_interface, no_said, header_read}
+use Rattle.nc_reader.proofs.HeaderCases.{read_by, no_hostname, no_interface, no_filter, no_said, header_read}
 use Rattle.nc_reader.proofs.LineOrder.{IsHeader}
 use Rattle.nc_reader.proofs.PieceLemmas.{LinesAscend, IsWhole, Apart, AreElements, at_line, numbers_of}
 
@@ -46,7 +46,7 @@ module _ (asn : ℕ) where
   header_heads words =
       header_read own words
       (read_by (λ (r : Role). r ≡ Within own → header_says words ≡ Says asn) words (no_hostname own) (no_interface own (λ n e. absurd cc)) (λ e. absurd cc)
-      (λ rest. no_said topics.List own (λ s e. absurd cc) (list_name_says rest)) (λ rest. no_said topics.Communities own (λ s e. absurd cc) (community_name_says rest)) (heads (header_says words))
+      (λ rest. no_said topics.List own (λ s e. absurd cc) (list_name_says rest)) (λ rest. no_said topics.Communities own (λ s e. absurd cc) (community_name_says rest)) (no_filter own (λ e. absurd cc)) (heads (header_says words))
       (no_said (λ h. topics.Clause h.map_name h.number) own (λ s e. absurd cc) (clause_header_says words)))
 
 -- what the header of a process says in its block

@@ -1,5 +1,5 @@
 -- The router's name is that of a line of the file.
-use Rattle.std.proofs.Common.{◌≡◌, ℕ, true, not, ◌&&◌, List, [], ◌∷◌, Option, Some, None, ap, subst, inl, inr}
+use Rattle.std.proofs.Common.{◌≡◌, ℕ, Bool, true, false, not, ◌&&◌, List, [], ◌∷◌, Option, Some, None, ap, subst, inl, inr}
 use Rattle.std.specs.List.{filter_map, list_any}
 use Rattle.std.proofs.lemmas.Bool.{cond_both}
 use Rattle.nc_types.proofs.Members.{in_by_filter_map}
@@ -11,10 +11,11 @@ use Rattle.nc_lines.specs.Statements.{Reading, Outside, Faulty, Says}
 use Rattle.nc_read_policy.specs.Clauses.{header_says}
 use Rattle.nc_read_policy.specs.Lists.{list_name_says}
 use Rattle.nc_read_policy.specs.CommunityEntries.{community_name_says}
+use Rattle.nc_read_filter.specs.Groups.{GroupSays, group_says}
 use Rattle.nc_read_bgp.specs.Statements.{header_says as process_header_says}
 use Rattle.nc_reader.specs.declared.topic.Topic.{Topic}
 use Rattle.nc_reader.specs.declared.topic.Topic.TheVariants as topics
-use Rattle.nc_reader.specs.Roles.{Role, Passed, Wrong, Names, Within, Placed, hostname_role, interface_role, said_role, is_unsupported, read_role, block_of, member_role, role_of, roles_from}
+use Rattle.nc_reader.specs.Roles.{Role, Passed, Wrong, Names, Within, Placed, hostname_role, interface_role, filter_role, said_role, is_unsupported, read_role, block_of, member_role, role_of, roles_from}
 use Rattle.nc_reader.specs.Configuration.{name_at, name_of}
 use Rattle.nc_lines.proofs.Pairs.{Has}
 use Rattle.nc_reader.proofs.HeaderCases.{read_by}
@@ -40,14 +41,18 @@ said_named topic Outside = tt
 said_named topic (Faulty cause) = tt
 said_named topic (Says s) = tt
 
+filter_named : (speaks : Bool) → IsNamed (filter_role speaks)
+filter_named true = tt
+filter_named false = tt
+
 read_named : (words : List (List ℕ)) → IsNamed (read_role words)
 read_named words =
-    read_by IsNamed words hostname_named interface_named tt (λ rest. said_named topics.List (list_name_says rest)) (λ rest. said_named topics.Communities (community_name_says rest))
+    read_by IsNamed words hostname_named interface_named tt (λ rest. said_named topics.List (list_name_says rest)) (λ rest. said_named topics.Communities (community_name_says rest)) filter_named
     (said_named topics.Process (process_header_says words)) (said_named (λ h. topics.Clause h.map_name h.number) (header_says words))
 
-member_named : (o : Option Topic) → IsNamed (member_role o)
-member_named None = tt
-member_named (Some topic) = tt
+member_named : (o : Option Topic) (said : Option GroupSays) → IsNamed (member_role o said)
+member_named None said = tt
+member_named (Some topic) said = tt
 
 role_named : (earlier : List (List ℕ)) (line : List ℕ) (later : List (List ℕ)) → IsNamed (role_of earlier line later)
 unfolding role_of
@@ -57,7 +62,7 @@ role_named earlier line later =
     (λ _. cond_both (not (has_mark line)) _ _ IsNamed (λ _. tt)
     (λ _. cond_both (leaves_open line && not (list_any has_mark later)) (Wrong Syntax) Passed IsNamed (λ _. tt) (λ _. tt)))
     (λ _. cond_both (is_idle (words_of line)) _ _ IsNamed (λ _. tt)
-    (λ _. cond_both (is_indented line) _ _ IsNamed (λ _. member_named (block_of earlier))
+    (λ _. cond_both (is_indented line) _ _ IsNamed (λ _. member_named (block_of earlier) (group_says (words_of line)))
     (λ _. cond_both (is_unsupported (words_of line)) (Wrong Unsupported) (read_role (words_of line)) IsNamed (λ _. tt) (λ _. read_named (words_of line))))))
 
 roles_named : (earlier lines : List (List ℕ)) (r : Placed) → Has (roles_from earlier lines) r → IsNamed r.role

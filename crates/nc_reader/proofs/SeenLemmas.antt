@@ -1,21 +1,23 @@
 -- What one more line adds to what the definitions gather.
 use Rattle.std.proofs.Common.{◌≡◌, ℕ, Bool, true, cond, List, [], ◌∷◌, ◌++◌, Option, Some, None, refl, sym, ap, ◌∙◌, subst}
+use Rattle.std.specs.Prelude.{unwrap_or, option_and_then}
 use Rattle.std.specs.List.{filter_map, last_or, list_any, position_or_len}
 use Rattle.nc_types.specs.Faults.{lowest}
 use Rattle.nc_types.specs.declared.fault.Fault.{Fault}
 use Rattle.nc_types.specs.declared.fault.Cause.{Cause}
 use Rattle.nc_lines.specs.Groups.{Keyed, groups, with_key}
-use Rattle.nc_reader.specs.Roles.{Role, Passed, Wrong, Names, Within, Placed, member_role}
+use Rattle.nc_read_filter.specs.Groups.{GroupSays}
+use Rattle.nc_reader.specs.Roles.{Role, Passed, Wrong, Names, Within, Placed, group_topic, member_role}
 use Rattle.nc_reader.specs.declared.topic.Topic.{Topic}
 use Rattle.nc_reader.specs.Topics.{same_topic, has_block}
 use Rattle.nc_reader.specs.Configuration.{name_at, name_of, spoken_at, spoken, wrong_at}
-use Rattle.nc_reader.specs.Steps.{Kind, Banner, Idle, Member, Heads, Sketch, with_value, put_at, with_fault, headed, joined, stepped}
+use Rattle.nc_reader.specs.Steps.{Kind, Banner, Idle, Member, Heads, Sketch, with_value, put_at, with_fault, headed, put_line, joined_to, group_at, joined, stepped}
 use Rattle.nc_reader.proofs.PushLemmas.{last_or-push, filter_map-none, filter_map-some}
 use Rattle.nc_lines.proofs.FaultLemmas.{lowest-push}
 use Rattle.nc_lines.proofs.GroupLemmas.{keys_of, keys_of-push, with_key-known}
 use Rattle.nc_reader.proofs.GroupLemmas.{values_of, groups-more}
 use Rattle.nc_reader.proofs.KindLemmas.{role_by}
-use Rattle.nc_reader.proofs.TopicLemmas.{same_topic_equiv}
+use Rattle.nc_reader.proofs.TopicLemmas.{same_topic_equiv, topic_at}
 
 -- ---- what is gathered of the lines that were seen
 
@@ -76,11 +78,7 @@ named seen s line name h =
     }
 
 -- a line on a topic
-abbrev put_in : ℕ → Topic → Sketch → Sketch
-put_in line topic s =
-    record s { topics = with_key same_topic s.topics topic; blocks = put_at (list_any (same_topic topic) s.topics) line (position_or_len (same_topic topic) s.topics) s.blocks }
-
-within : (seen : List Placed) (s : Sketch) (line : ℕ) (topic : Topic) → Sees seen s → Sees (seen ++ record { line = line; role = Within topic } ∷ []) (put_in line topic s)
+within : (seen : List Placed) (s : Sketch) (line : ℕ) (topic : Topic) → Sees seen s → Sees (seen ++ record { line = line; role = Within topic } ∷ []) (put_line line topic s)
 within seen s line topic h =
     let r : Placed = record { line = line; role = Within topic } in
     let p : Keyed Topic ℕ = record { key = topic; value = line } in
@@ -107,20 +105,29 @@ abbrev pub IsBlock : List Topic → Option Topic → Option ℕ → Type 0
 IsBlock topics None place = place ≡ None
 IsBlock topics (Some topic) place = (place ≡ Some (position_or_len (same_topic topic) topics)) × (list_any (same_topic topic) topics ≡ true)
 
-joins : (seen : List Placed) (s : Sketch) (line : ℕ) (block : Option Topic) (place : Option ℕ) → IsBlock s.topics block place → Sees seen s → Sees (seen ++ record { line = line; role = member_role block } ∷ []) (joined line place s)
-joins seen s line None place is h = subst (λ (p : Option ℕ). Sees (seen ++ record { line = line; role = Passed } ∷ []) (joined line p s)) (sym is) (passed seen s line h)
-joins seen s line (Some topic) place is h =
-    let seen_more : List Placed = seen ++ record { line = line; role = Within topic } ∷ [] in
+joins : (seen : List Placed) (s : Sketch) (line : ℕ) (said : Option GroupSays) (block : Option Topic) (place : Option ℕ) → IsBlock s.topics block place → Sees seen s
+    → Sees (seen ++ record { line = line; role = member_role block said } ∷ []) (joined line said place s)
+joins seen s line said None place is h = subst (λ (p : Option ℕ). Sees (seen ++ record { line = line; role = Passed } ∷ []) (joined line said p s)) (sym is) (passed seen s line h)
+joins seen s line said (Some topic) place is h =
     let own : ℕ = position_or_len (same_topic topic) s.topics in
+    let role : Role = Within (unwrap_or (group_topic topic said) topic) in
     let put = within seen s line topic h in
-    let made : Sees seen_more (record s { blocks = with_value line own s.blocks }) =
+    let made : Sees (seen ++ record { line = line; role = Within topic } ∷ []) (record s { blocks = with_value line own s.blocks }) =
     record {
       name = put.name;
       topics = sym (with_key-known same_topic s.topics topic is.1) ∙ put.topics;
       blocks = sym (ap (λ (b : Bool). put_at b line own s.blocks) is.1) ∙ put.blocks;
       fault = put.fault;
     } in
-    subst (λ (p : Option ℕ). Sees seen_more (joined line p s)) (sym is.0) made
+    let by_topic : Sees (seen ++ record { line = line; role = role } ∷ []) (joined_to line own (group_topic topic said) s) = on own made (group_topic topic said) in
+    let by_place : Sees (seen ++ record { line = line; role = role } ∷ []) (joined_to line own (group_at said own s.topics) s) =
+    subst (λ (o : Option Topic). Sees (seen ++ record { line = line; role = role } ∷ []) (joined_to line own (option_and_then (λ (topic : Topic). group_topic topic said) o) s)) (sym (topic_at s.topics topic is.1)) by_topic in
+    subst (λ (p : Option ℕ). Sees (seen ++ record { line = line; role = role } ∷ []) (joined line said p s)) (sym is.0) by_place
+  where
+    on : (own : ℕ) → Sees (seen ++ record { line = line; role = Within topic } ∷ []) (record s { blocks = with_value line own s.blocks }) → (o : Option Topic)
+        → Sees (seen ++ record { line = line; role = Within (unwrap_or o topic) } ∷ []) (joined_to line own o s)
+    on own made None = made
+    on own made (Some t) = within seen s line t h
 
 heads : (seen : List Placed) (s : Sketch) (line : ℕ) (role : Role) → Sees seen s → Sees (seen ++ record { line = line; role = role } ∷ []) (headed line role s)
 heads seen s line Passed h = stated _ _ s.in_banner None (passed seen s line h)
@@ -134,5 +141,5 @@ pub sees_more : (seen : List Placed) (s : Sketch) (line : ℕ) (kind : Kind) (bl
 sees_more seen s line (Banner in_banner None) block is h = stated _ _ in_banner s.block (passed seen s line h)
 sees_more seen s line (Banner in_banner (Some cause)) block is h = stated _ _ in_banner s.block (faulty seen s line cause h)
 sees_more seen s line Idle block is h = passed seen s line h
-sees_more seen s line Member block is h = joins seen s line block s.block is h
+sees_more seen s line (Member said) block is h = joins seen s line said block s.block is h
 sees_more seen s line (Heads role) block is h = heads seen s line role h

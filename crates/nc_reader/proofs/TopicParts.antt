@@ -1,5 +1,5 @@
 -- What is known of each part of a file.
-use Rattle.std.proofs.Common.{◌≡◌, ℕ, ◌<◌, List, [], ◌∷◌, length, map, Option, Some, Result, Ok, Err, refl, sym, ap, ◌∙◌, subst, arith}
+use Rattle.std.proofs.Common.{◌≡◌, ℕ, ◌<◌, false, List, [], ◌∷◌, length, map, Option, Some, Result, Ok, Err, refl, sym, ap, ◌∙◌, subst, arith}
 use Rattle.std.specs.Prelude.{◌≢◌, ◌==◌, IfSome, unwrap_or}
 use Rattle.std.specs.List.{filter_map}
 use Rattle.std.specs.List.Sorted.{IsStrictlyIncreasing}
@@ -9,7 +9,9 @@ use Rattle.nc_types.specs.Config.{ElementView}
 use Rattle.nc_types.specs.WellFormed.{IsProcess}
 use Rattle.nc_types.specs.declared.fault.Fault.{Fault}
 use Rattle.nc_types.specs.declared.fault.Cause.TheVariants.{TwoProcesses}
-use Rattle.nc_lines.specs.Parts.{numbered}
+use Rattle.nc_lines.specs.Parts.{Numbered, numbered}
+use Rattle.nc_read_filter.specs.Filters.{filters_in}
+use Rattle.nc_read_filter.specs.Groups.{applied_in}
 use Rattle.nc_read_link.specs.Interfaces.{interface_in}
 use Rattle.nc_read_policy.specs.Clauses.{clause_in}
 use Rattle.nc_read_bgp.proofs.LawLemmas.{well_formed, have_lines_beside}
@@ -23,10 +25,10 @@ use Rattle.nc_lines.specs.Groups.{Group}
 use Rattle.nc_reader.specs.Roles.{roles_from}
 use Rattle.nc_reader.specs.Topics.{same_topic}
 use Rattle.nc_reader.specs.Configuration.{spoken, topics_of, process_number, parts_of}
-use Rattle.nc_reader.specs.Things.{Part, AnInterface, Routes, AProcess, AClause, Entries, Communities, part_in, pieces_in, routes_in, communities_in, ok_of}
+use Rattle.nc_reader.specs.Things.{Part, AnInterface, Routes, AProcess, AClause, Entries, Communities, Filters, AGroup, part_in, pieces_in, routes_in, communities_in, ok_of}
 use Rattle.nc_lines.proofs.Pairs.{Has, Pairs, pairs_kept, kept_map}
 use Rattle.nc_lines.proofs.Grouping.{grouped, groups_keys, group_ascends, groups_apart}
-use Rattle.nc_reader.proofs.LineOrder.{spoken_ascend, Starts, begun}
+use Rattle.nc_reader.proofs.LineOrder.{spoken_ascend, is_group, Starts, begun}
 use Rattle.nc_reader.proofs.PieceLemmas.{LinesAscend, Apart, AreElements, ok_mapped}
 use Rattle.nc_reader.proofs.TopicLemmas.{topics_same}
 use Rattle.nc_reader.proofs.Addresses.{IsCovered, block_covered}
@@ -36,6 +38,7 @@ use Rattle.nc_reader.proofs.RouteParts.{routes_elements}
 use Rattle.nc_reader.proofs.ListParts.{entries_elements, entries_ascend, some_entries}
 use Rattle.nc_reader.proofs.ProcessParts.{process_elements, process_made, process_is}
 use Rattle.nc_reader.proofs.CommunityParts.{communities_elements, some_communities}
+use Rattle.nc_reader.proofs.FilterParts.{filters_elements, group_elements, group_named}
 
 -- the topic that a part is of, in a file that has this process
 abbrev pub topic_in : Option ℕ → Part → Topic
@@ -45,6 +48,8 @@ topic_in process (AProcess p) = topics.Process (unwrap_or process 0)
 topic_in process (AClause p) = topics.Clause p.clause.map_name p.clause.number
 topic_in process (Entries name ps) = topics.List name
 topic_in process (Communities name ps) = topics.Communities name
+topic_in process (Filters ps odd) = topics.Filters
+topic_in process (AGroup p) = topics.Group p.group.iface p.group.inward
 
 -- what holds of the things of a part
 abbrev pub IsSound : Part → Type 0
@@ -54,6 +59,8 @@ IsSound (AProcess p) = IsProcess p.process × HaveLinesBeside p
 IsSound (AClause p) = Unit {0}
 IsSound (Entries name ps) = (0 < length ps) × IsStrictlyIncreasing (map (λ p. p.entry.seq) ps)
 IsSound (Communities name ps) = 0 < length ps
+IsSound (Filters ps odd) = Unit {0}
+IsSound (AGroup p) = Unit {0}
 
 pub record IsPartOf (count : ℕ) (process : Option ℕ) (t : Topic) (ks : List ℕ) (p : Part) : Type 0 where
   pub topic : topic_in process p ≡ t
@@ -61,15 +68,15 @@ pub record IsPartOf (count : ℕ) (process : Option ℕ) (t : Topic) (ks : List 
   pub sound : IsSound p
 
 module _ (lines : List (List ℕ)) (process : Option ℕ) (k : ℕ) (ks : List ℕ) (up : LinesAscend (length lines) (k ∷ ks)) where
-  -- what a topic makes whose first line is a header
-  made_of : (topic : Topic) (p : Part) → Starts lines topic (k ∷ ks) → part_in lines process topic (k ∷ ks) ≡ Ok p → IsPartOf (length lines) process topic (k ∷ ks) p
+  -- what a topic makes whose first line is a header, if it has one
+  made_of : (topic : Topic) (p : Part) → (is_group topic ≡ false → Starts lines topic (k ∷ ks)) → part_in lines process topic (k ∷ ks) ≡ Ok p → IsPartOf (length lines) process topic (k ∷ ks) p
   made_of (topics.Interface name) p begins e =
       let at = ok_mapped AnInterface (interface_in name (numbered lines (k ∷ ks))) p e in
       let is = interface_is name (numbered lines (k ∷ ks)) at.0 at.1 in
       subst (IsPartOf (length lines) process (topics.Interface name) (k ∷ ks)) at.2
       (record {
         topic = ap (λ p. topics.Interface p.interface.name) (sym is);
-        elements = interface_elements lines name k ks at.0 up begins.0 at.1;
+        elements = interface_elements lines name k ks at.0 up (begins refl).0 at.1;
         sound = subst (λ p. IfSome p.interface.address IsCovered) is (block_covered (numbered lines (k ∷ ks)));
       })
   made_of topics.Statics p begins e =
@@ -81,13 +88,13 @@ module _ (lines : List (List ℕ)) (process : Option ℕ) (k : ℕ) (ks : List �
       subst (IsPartOf (length lines) process (topics.Process asn) (k ∷ ks)) at.2
       (record {
         topic = ap (λ (o : Option ℕ). topics.Process (unwrap_or o 0)) (process_is process asn is.0);
-        elements = process_elements lines asn k ks at.0 up begins at.1;
+        elements = process_elements lines asn k ks at.0 up (begins refl) at.1;
         sound = (well_formed (numbered lines (k ∷ ks)) at.0 at.1, have_lines_beside (numbered lines (k ∷ ks)) at.0 at.1);
       })
   made_of (topics.Clause name number) p begins e =
       let at = ok_mapped AClause (clause_in (numbered lines (k ∷ ks))) p e in
       subst (IsPartOf (length lines) process (topics.Clause name number) (k ∷ ks)) at.2
-      (record { topic = clause_named lines name number k ks at.0 begins at.1; elements = clause_elements lines name number k ks at.0 up begins at.1; sound = tt })
+      (record { topic = clause_named lines name number k ks at.0 (begins refl) at.1; elements = clause_elements lines name number k ks at.0 up (begins refl) at.1; sound = tt })
   made_of (topics.List name) p begins e =
       let at = ok_mapped (Entries name) (list_in (numbered lines (k ∷ ks))) p e in
       subst (IsPartOf (length lines) process (topics.List name) (k ∷ ks)) at.2
@@ -100,6 +107,15 @@ module _ (lines : List (List ℕ)) (process : Option ℕ) (k : ℕ) (ks : List �
       let at = ok_mapped (Communities name) (communities_in lines (k ∷ ks)) p e in
       subst (IsPartOf (length lines) process (topics.Communities name) (k ∷ ks)) at.2
       (record { topic = refl; elements = communities_elements lines (k ∷ ks) up at.0 at.1; sound = some_communities lines k ks at.0 at.1 })
+  made_of topics.Filters p begins e =
+      let block : List Numbered = numbered lines (k ∷ ks) in
+      let same : Filters (filters_in block).entries (filters_in block).odd ≡ p = cc in
+      subst (IsPartOf (length lines) process topics.Filters (k ∷ ks)) same (record { topic = refl; elements = filters_elements lines (k ∷ ks) up; sound = tt })
+  made_of (topics.Group name inward) p begins e =
+      let block : List Numbered = numbered lines (k ∷ ks) in
+      let same : AGroup (record { group = applied_in name inward block; lines = k ∷ ks }) ≡ p = cc in
+      subst (IsPartOf (length lines) process (topics.Group name inward) (k ∷ ks)) same
+      (record { topic = group_named name inward block; elements = group_elements (length lines) k ks up; sound = tt })
 
 -- ---- the parts of a file
 
@@ -136,7 +152,7 @@ module _ (lines : List (List ℕ)) where
       let k : ℕ = of_it.1.0 in
       let ks : List ℕ = of_it.1.1 in
       let is : g.values ≡ k ∷ ks = of_it.1.2 in
-      let begins : Starts lines g.key (k ∷ ks) = subst (Starts lines g.key) (sym of_it.0 ∙ is) (begun lines g.key) in
+      let begins : is_group g.key ≡ false → Starts lines g.key (k ∷ ks) = λ other. subst (Starts lines g.key) (sym of_it.0 ∙ is) (begun lines g.key other) in
       let made : part_in lines process g.key (k ∷ ks) ≡ Ok p = ap (part_in lines process g.key) (sym is) ∙ ok_is (part_in lines process g.key g.values) p e in
       subst (λ (vs : List ℕ). IsPartOf (length lines) process g.key vs p) (sym is) (made_of lines process k ks (subst (LinesAscend (length lines)) is (group_up g h)) g.key p begins made)
 

@@ -12,6 +12,7 @@ use Rattle.nc_types.specs.Faults.{lowest}
 use Rattle.nc_types.specs.declared.fault.Fault.{Fault}
 use Rattle.nc_types.specs.declared.fault.Cause.TheVariants.{NoName}
 use Rattle.nc_types.specs.declared.config.Interface.{Interface}
+use Rattle.nc_types.specs.declared.filters.Group.{Group}
 use Rattle.nc_reader.specs.Roles.{roles_from}
 use Rattle.nc_reader.specs.Configuration.{name_of, process_number, faults_of, pieces_of, in_order, place_of, interfaces_in, processes_in, lists_in, community_lists_in, config_of, configuration}
 use Rattle.nc_reader.specs.Things.{Part, pieces_in}
@@ -21,7 +22,8 @@ use Rattle.nc_reader.proofs.PieceLemmas.{Apart, IsWhole}
 use Rattle.nc_reader.proofs.Addresses.{IsCovered, last_has}
 use Rattle.nc_reader.proofs.RouterNames.{router_named}
 use Rattle.nc_reader.proofs.TopicParts.{IsSound, AreTwo, parts_in, part_from, parts_two}
-use Rattle.nc_reader.proofs.KindParts.{AreApart, all_kinds, kinds_differ, by_ranks, ranks_among, pieces_apart, ranks_apart, interfaces_differ, clauses_differ, lists_differ, community_lists_differ, one_at_most, process_sound, interface_sound, list_sound, community_sound, all_places}
+use Rattle.nc_reader.proofs.KindParts.{AreApart, all_kinds, kinds_differ, by_ranks, ranks_among, pieces_apart, ranks_apart, interfaces_differ, clauses_differ, lists_differ, community_lists_differ, groups_differ, one_at_most, process_sound, interface_sound, list_sound, community_sound}
+use Rattle.nc_reader.proofs.PlaceParts.{all_places}
 
 -- ---- what is no fault
 
@@ -166,6 +168,7 @@ module _ (lines : List (List ℕ)) where
         clauses = all_pairs (λ (a b : ClauseView). (a.map_name ≢ b.map_name) ⊎ (a.number ≢ b.number)) _ (clauses_differ process parts two place);
         lists = all_pairs (λ (a b : PrefixListView). a.name ≢ b.name) _ (lists_differ process parts two place);
         community_lists = all_pairs (λ (a b : CommunityListView). a.name ≢ b.name) _ (community_lists_differ process parts two place);
+        groups = all_pairs (λ (g h : Group). (g.iface ≢ h.iface) ⊎ (g.inward ≢ h.inward)) _ (groups_differ process parts two place);
         covered = of_each (interfaces_in place) (λ (i : Interface). IfSome i.address IsCovered) (interface_sound place);
         process = last_sound (flat_map (processes_in place) parts) (λ x h. let at = in_by_flat_map (processes_in place) parts x h in process_sound place at.0 x (sound at.0 at.1) at.2);
         filled = of_each (lists_in place) (λ (l : PrefixListView). 0 < length l.entries) (λ p l s h. (list_sound place p l s h).0);

@@ -1,7 +1,8 @@
 -- The configuration that a file's lines make.
 use Rattle.std.specs.Prelude.{ℕ, ◌==◌, nat_lt, List, [], ◌∷◌, ◌++◌, length, map, Option, Some, None, Result, Ok, Err, count_by, if◌then◌else◌}
-use Rattle.std.specs.List.{filter_map, flat_map, cons_option, find, last_or, range_with_len}
+use Rattle.std.specs.List.{filter_map, flat_map, cons_option, find, last_or, list_any, range_with_len}
 use Rattle.std.specs.Option.{option_map_or, option_eq}
+use Rattle.std.specs.Str.{bytes_eq}
 use Rattle.nc_types.specs.Config.{ElementView, ProcessView, ClauseView, PrefixListView, CommunityListView, ConfigView}
 use Rattle.nc_types.specs.WellFormed.{first_line}
 use Rattle.nc_types.specs.Faults.{lowest}
@@ -13,8 +14,11 @@ use Rattle.nc_types.specs.declared.config.NetworkStatement.{NetworkStatement}
 use Rattle.nc_types.specs.declared.config.AggregateStatement.{AggregateStatement}
 use Rattle.nc_types.specs.declared.config.ListEntry.{ListEntry}
 use Rattle.nc_types.specs.declared.communities.CommunityEntry.{CommunityEntry}
-use Rattle.nc_types.specs.declared.fault.Cause.TheVariants.{NoName, TwoProcesses}
+use Rattle.nc_types.specs.declared.filters.FilterEntry.{FilterEntry}
+use Rattle.nc_types.specs.declared.filters.Group.{Group as Applied}
+use Rattle.nc_types.specs.declared.fault.Cause.TheVariants.{Unsupported, NoName, TwoProcesses}
 use Rattle.nc_lines.specs.Parts.{numbered}
+use Rattle.nc_read_filter.specs.declared.filters.OddLine.{OddLine}
 use Rattle.nc_read_bgp.specs.Laws.{faults_in, lacks_in}
 use Rattle.nc_read_bgp.specs.Processes.{ProcessMade}
 use Rattle.nc_reader.specs.declared.topic.Topic.{Topic}
@@ -22,7 +26,7 @@ use Rattle.nc_reader.specs.declared.topic.Topic.TheVariants as topics
 use Rattle.nc_lines.specs.Groups.{Keyed, Group, groups}
 use Rattle.nc_reader.specs.Roles.{Role, Wrong, Names, Within, Placed, roles_from}
 use Rattle.nc_reader.specs.Topics.{same_topic, process_among}
-use Rattle.nc_reader.specs.Things.{Part, AnInterface, Routes, AProcess, AClause, Entries, Communities, first_in, part_in, pieces_in, ok_of, err_of}
+use Rattle.nc_reader.specs.Things.{Part, AnInterface, Routes, AProcess, AClause, Entries, Communities, Filters, AGroup, first_in, part_in, pieces_in, ok_of, err_of}
 
 -- ---- the router's name
 
@@ -73,9 +77,28 @@ abbrev pub faults_about : List (List ℕ) → Option ℕ → Topic → List ℕ 
 faults_about lines process (topics.Process asn) ks = process_faults lines process asn ks
 faults_about lines process topic ks = cons_option (err_of (part_in lines process topic ks)) []
 
--- all that is wrong: with lines by themselves, and with topics
+-- the access list that a part applies to an interface
+abbrev pub applied_by : Part → Option (List ℕ)
+applied_by (AGroup p) = Some p.group.list
+applied_by part = None
+
+-- the lines that begin as an entry of an access list and have another rest
+abbrev pub odd_in : Part → List OddLine
+odd_in (Filters ps odd) = odd
+odd_in part = []
+
+-- such a line is wrong exactly where an interface applies its list
+abbrev pub odd_fault : List (List ℕ) → OddLine → Option Fault
+odd_fault applied o = if list_any (bytes_eq o.list) applied then Some (record { line = o.line; cause = Unsupported }) else None
+
+abbrev pub odd_faults : List Part → List Fault
+odd_faults parts = filter_map (odd_fault (filter_map applied_by parts)) (flat_map odd_in parts)
+
+-- all that is wrong: with lines by themselves, with topics, and with entries of access lists that are applied
 abbrev pub faults_of : List (List ℕ) → List Placed → List Fault
-faults_of lines rs = filter_map (λ r. wrong_at r.line r.role) rs ++ flat_map (λ g. faults_about lines (process_number rs) g.key g.values) (topics_of rs)
+faults_of lines rs =
+    (filter_map (λ r. wrong_at r.line r.role) rs ++ flat_map (λ g. faults_about lines (process_number rs) g.key g.values) (topics_of rs))
+    ++ odd_faults (filter_map ok_of (parts_of lines rs))
 
 -- the elements, part by part
 abbrev pub pieces_of : List Part → List ElementView
@@ -164,6 +187,20 @@ abbrev pub community_lists_in : (ℕ → ℕ) → Part → List CommunityListVie
 community_lists_in place (Communities name ps) = record { name = name; entries = map (λ p. community_with_place (place p.line) p.entry) ps } ∷ []
 community_lists_in place part = []
 
+abbrev pub filter_with_place : ℕ → FilterEntry → FilterEntry
+filter_with_place place e = record e { element = place }
+
+abbrev pub filters_in : (ℕ → ℕ) → Part → List FilterEntry
+filters_in place (Filters ps odd) = map (λ p. filter_with_place (place p.line) p.entry) ps
+filters_in place part = []
+
+abbrev pub group_with_place : ℕ → Applied → Applied
+group_with_place place g = record g { element = place }
+
+abbrev pub groups_in : (ℕ → ℕ) → Part → List Applied
+groups_in place (AGroup p) = group_with_place (place (first_in p.lines)) p.group ∷ []
+groups_in place part = []
+
 -- the configuration of a router of this name, of its parts
 abbrev pub config_of : ℕ → ℕ × List ℕ → List Part → ConfigView
 config_of count name parts =
@@ -179,6 +216,8 @@ config_of count name parts =
       clauses = flat_map (clauses_in place) parts;
       lists = flat_map (lists_in place) parts;
       community_lists = flat_map (community_lists_in place) parts;
+      filters = flat_map (filters_in place) parts;
+      groups = flat_map (groups_in place) parts;
     }
 
 -- the configuration, or its fault: that of the lowest faulty line, or the missing name

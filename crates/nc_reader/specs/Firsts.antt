@@ -12,4 +12,5 @@ IsFirst first.Hostname word = word ≡ codes "hostname"
 IsFirst first.Router word = word ≡ codes "router"
 IsFirst first.RouteMap word = word ≡ codes "route-map"
 IsFirst first.No word = word ≡ codes "no"
+IsFirst first.AccessList word = word ≡ codes "access-list"
 IsFirst first.Other word = (words : List (List ℕ)) → header_role (word ∷ words) ≡ Passed

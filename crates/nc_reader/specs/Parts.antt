@@ -21,13 +21,14 @@ use Rattle.nc_read_policy.specs.Outcomes.{entry_part}
 use Rattle.nc_reader.specs.declared.communities.CommunityLine.{CommunityLine}
 use Rattle.nc_reader.specs.declared.pieces.InterfaceLines.{InterfaceLines}
 use Rattle.nc_reader.specs.declared.pieces.ClauseLines.{ClauseLines}
+use Rattle.nc_reader.specs.declared.pieces.GroupLines.{GroupLines}
 use Rattle.nc_reader.specs.declared.routes.RouteKey.{RouteKey}
 use Rattle.nc_reader.specs.declared.routes.RouteLines.{RouteLines}
 use Rattle.nc_reader.specs.declared.things.Part.{Part as PartRead}
 use Rattle.nc_reader.specs.declared.things.Part.TheVariants as parts
 use Rattle.nc_reader.specs.declared.topic.Topic.{Topic}
 use Rattle.nc_lines.specs.Groups.{Keyed, keys_from, groups}
-use Rattle.nc_reader.specs.Things.{Routed, RoutePart, RouteKeyView, key_of, same_key, route_part, CommunityPart, ok_of, err_of, Part, AnInterface, Routes, AProcess, AClause, Entries, Communities, part_in}
+use Rattle.nc_reader.specs.Things.{Routed, RoutePart, RouteKeyView, key_of, same_key, route_part, CommunityPart, ok_of, err_of, Part, AnInterface, Routes, AProcess, AClause, Entries, Communities, Filters, AGroup, GroupPart, part_in}
 
 -- ---- faults
 
@@ -56,6 +57,10 @@ clause_part p = record { clause = clause_view p.clause; lines = p.lines.items }
 abbrev pub community_line : CommunityLine → CommunityPart
 community_line p = record { entry = p.entry; line = p.line }
 
+-- what applies an access list, with its lines
+abbrev pub group_part : GroupLines → GroupPart
+group_part p = record { group = p.group; lines = p.lines.items }
+
 abbrev pub part_view : PartRead → Part
 part_view (parts.AnInterface p) = AnInterface (interface_part p)
 part_view (parts.Routes ps) = Routes (map static_part ps.items)
@@ -63,6 +68,8 @@ part_view (parts.AProcess p) = AProcess (made_view p)
 part_view (parts.AClause p) = AClause (clause_part p)
 part_view (parts.Entries name ps) = Entries name (map entry_part ps.items)
 part_view (parts.Communities name ps) = Communities name (map community_line ps.items)
+part_view (parts.Filters ps odd) = Filters ps.items odd.items
+part_view (parts.AGroup p) = AGroup (group_part p)
 
 -- what was returned is this part, or this fault, unless memory ran out
 abbrev pub IsPart : Result PartRead ConfigFault → Result Part Fault → Type 0

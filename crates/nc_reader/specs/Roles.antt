@@ -1,7 +1,7 @@
 -- What each line is in its file.
-use Rattle.std.specs.Prelude.{ℕ, ◌+◌, Bool, false, not, ◌&&◌, ◌||◌, List, [], ◌∷◌, length, Option, Some, None, option_and_then, if◌then◌else◌, codes}
+use Rattle.std.specs.Prelude.{ℕ, ◌+◌, Bool, false, not, ◌&&◌, ◌||◌, List, [], ◌∷◌, length, Option, Some, None, unwrap_or, option_and_then, if◌then◌else◌, codes}
 use Rattle.std.specs.List.{list_any}
-use Rattle.std.specs.Option.{option_map_or}
+use Rattle.std.specs.Option.{option_map, option_map_or}
 use Rattle.std.specs.Str.{bytes_eq}
 use Rattle.nc_types.specs.WellFormed.{is_name}
 use Rattle.nc_types.specs.declared.fault.Cause.{Cause}
@@ -13,9 +13,11 @@ use Rattle.nc_read_bgp.specs.Statements.{header_says as process_header_says}
 use Rattle.nc_read_policy.specs.Clauses.{header_says}
 use Rattle.nc_read_policy.specs.Lists.{list_name_says}
 use Rattle.nc_read_policy.specs.CommunityEntries.{community_name_says}
+use Rattle.nc_read_filter.specs.Groups.{GroupSays, group_says}
+use Rattle.nc_read_filter.specs.Lists.{opens_list, begins_entry}
 use Rattle.nc_reader.specs.declared.topic.Topic.{Topic}
 use Rattle.nc_reader.specs.declared.topic.Topic.TheVariants as topics
-use Rattle.nc_reader.specs.Topics.{has_block}
+use Rattle.nc_reader.specs.Topics.{has_block, interface_name}
 
 -- what a line is
 pub data Role : Type 0 where
@@ -59,6 +61,10 @@ said_role topic Outside = Passed
 said_role topic (Faulty cause) = Wrong cause
 said_role topic (Says s) = Within (topic s)
 
+-- a statement that opens an access list or is an entry of one, or configures nothing
+abbrev pub filter_role : Bool → Role
+filter_role speaks = if speaks then Within topics.Filters else Passed
+
 -- the unindented statements that are read
 unfoldable pub read_role : List (List ℕ) → Role
 read_role words =
@@ -67,8 +73,10 @@ read_role words =
     (option_map_or (λ rest. Within topics.Statics) (after (codes "ip" ∷ codes "route" ∷ []) words)
     (option_map_or (λ rest. said_role topics.List (list_name_says rest)) (after (codes "ip" ∷ codes "prefix-list" ∷ []) words)
     (option_map_or (λ rest. said_role topics.Communities (community_name_says rest)) (after (codes "ip" ∷ codes "community-list" ∷ []) words)
+    (option_map_or (λ rest. filter_role (opens_list rest)) (after (codes "ip" ∷ codes "access-list" ∷ []) words)
+    (option_map_or (λ rest. filter_role (begins_entry rest)) (after (codes "access-list" ∷ []) words)
     (option_map_or (λ rest. said_role topics.Process (process_header_says words)) (after (codes "router" ∷ []) words)
-    (said_role (λ h. topics.Clause h.map_name h.number) (header_says words)))))))
+    (said_role (λ h. topics.Clause h.map_name h.number) (header_says words)))))))))
 
 -- what the words of an unindented statement make of it: what isn't supported is looked at first
 abbrev pub header_role : List (List ℕ) → Role
@@ -85,10 +93,14 @@ opened_by role = None
 abbrev pub block_of : List (List ℕ) → Option Topic
 block_of earlier = option_and_then (λ header. opened_by (header_role (words_of header))) (header_of earlier)
 
--- an indented line in the block of a topic, or in none
-abbrev pub member_role : Option Topic → Role
-member_role None = Passed
-member_role (Some topic) = Within topic
+-- of what an indented line speaks in the block of a topic, if not of that: it may apply an access list to an interface
+abbrev pub group_topic : Topic → Option GroupSays → Option Topic
+group_topic topic said = option_and_then (λ g. option_map (λ name. topics.Group name g.inward) (interface_name topic)) said
+
+-- an indented line in the block of a topic, or in none, by the access list that it may apply
+abbrev pub member_role : Option Topic → Option GroupSays → Role
+member_role None said = Passed
+member_role (Some topic) said = Within (unwrap_or (group_topic topic said) topic)
 
 -- the first line of a banner: it has a mark, and a second one stands in it or in a later line
 abbrev pub banner_role : List ℕ → List (List ℕ) → Role
@@ -101,7 +113,7 @@ role_of earlier line later =
     if is_open earlier then Passed
     else (if begins_banner line then banner_role line later
     else (if is_idle (words_of line) then Passed
-    else (if is_indented line then member_role (block_of earlier) else header_role (words_of line))))
+    else (if is_indented line then member_role (block_of earlier) (group_says (words_of line)) else header_role (words_of line))))
 
 -- a line's number, from 1, and what it is
 pub record Placed : Type 0 where

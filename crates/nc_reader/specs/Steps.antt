@@ -1,5 +1,5 @@
 -- What is gathered of the lines so far, and what one more line makes of it.
-use Rattle.std.specs.Prelude.{◌≡◌, ◌<◌, ℕ, Bool, true, false, not, ◌&&◌, List, [], ◌∷◌, ◌++◌, length, Option, Some, None, IfSome, if◌then◌else◌}
+use Rattle.std.specs.Prelude.{◌≡◌, ◌<◌, ℕ, Bool, true, false, not, ◌&&◌, List, [], ◌∷◌, ◌++◌, length, Option, Some, None, IfSome, slice_get, option_and_then, if◌then◌else◌}
 use Rattle.std.specs.List.{list_any, position_or_len}
 use Rattle.std.specs.Option.{option_map_or}
 use Rattle.nc_types.specs.Faults.{lower}
@@ -9,7 +9,8 @@ use Rattle.nc_types.specs.declared.fault.Cause.TheVariants.{Syntax, Unsupported}
 use Rattle.nc_lines.specs.Lines.{words_of, is_indented}
 use Rattle.nc_lines.specs.Blocks.{is_idle, begins_banner, has_mark, leaves_open}
 use Rattle.nc_lines.specs.Groups.{with_key, changed_at}
-use Rattle.nc_reader.specs.Roles.{Role, Passed, Wrong, Names, Within, header_role}
+use Rattle.nc_read_filter.specs.Groups.{GroupSays, group_says}
+use Rattle.nc_reader.specs.Roles.{Role, Passed, Wrong, Names, Within, header_role, group_topic}
 use Rattle.nc_reader.specs.declared.topic.Topic.{Topic}
 use Rattle.nc_reader.specs.Topics.{same_topic, has_block}
 
@@ -21,8 +22,8 @@ pub data Kind : Type 0 where
   Banner : Bool → Option Cause → Kind
   -- a blank line or a comment
   Idle : Kind
-  -- an indented line
-  Member : Kind
+  -- an indented line, and the access list that it applies if it stands in the block of an interface
+  Member : Option GroupSays → Kind
   -- an unindented statement
   Heads : Role → Kind
 
@@ -37,7 +38,7 @@ kind_of in_banner line later =
     if in_banner then Banner (not (has_mark line)) None
     else (if begins_banner line then Banner (leaves_open line) (banner_fault line later)
     else (if is_idle (words_of line) then Idle
-    else (if is_indented line then Member else Heads (header_role (words_of line)))))
+    else (if is_indented line then Member (group_says (words_of line)) else Heads (header_role (words_of line)))))
 
 -- ---- what is gathered
 
@@ -89,14 +90,27 @@ headed line (Within topic) s =
       block = if has_block topic then Some (position_or_len (same_topic topic) s.topics) else None;
     }
 
--- an indented line, in the block at this place or in none
-abbrev pub joined : ℕ → Option ℕ → Sketch → Sketch
-joined line None s = s
-joined line (Some place) s = record s { blocks = with_value line place s.blocks }
+-- one more line that speaks of a topic
+abbrev pub put_line : ℕ → Topic → Sketch → Sketch
+put_line line topic s = record s { topics = with_key same_topic s.topics topic; blocks = with_line topic line s.topics s.blocks }
+
+-- a line in the block at a place, or of another topic
+abbrev pub joined_to : ℕ → ℕ → Option Topic → Sketch → Sketch
+joined_to line place None s = record s { blocks = with_value line place s.blocks }
+joined_to line place (Some topic) s = put_line line topic s
+
+-- the topic of what applies an access list to the interface at a place
+abbrev pub group_at : Option GroupSays → ℕ → List Topic → Option Topic
+group_at said place topics = option_and_then (λ topic. group_topic topic said) (slice_get topics place)
+
+-- an indented line, in the block at this place or in none, by the access list that it may apply
+abbrev pub joined : ℕ → Option GroupSays → Option ℕ → Sketch → Sketch
+joined line said None s = s
+joined line said (Some place) s = joined_to line place (group_at said place s.topics) s
 
 -- one more line
 abbrev pub stepped : ℕ → Kind → Sketch → Sketch
 stepped line (Banner in_banner cause) s = record s { fault = with_fault line cause s.fault; in_banner = in_banner }
 stepped line Idle s = s
-stepped line Member s = joined line s.block s
+stepped line (Member said) s = joined line said s.block s
 stepped line (Heads role) s = headed line role s

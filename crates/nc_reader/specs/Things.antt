@@ -13,10 +13,15 @@ use Rattle.nc_types.specs.declared.config.Kind.TheVariants as kinds
 use Rattle.nc_types.specs.declared.config.Via.{Via}
 use Rattle.nc_types.specs.declared.config.Via.TheVariants.{Null, Hop, Through}
 use Rattle.nc_types.specs.declared.config.StaticRoute.{StaticRoute}
+use Rattle.nc_types.specs.declared.filters.Group.{Group as Applied}
 use Rattle.nc_lines.specs.Lines.{line_at}
 use Rattle.nc_lines.specs.Parts.{numbered, first_of}
 use Rattle.nc_read_link.specs.Interfaces.{InterfacePart, interface_in}
 use Rattle.nc_read_link.specs.Statics.{static_at}
+use Rattle.nc_read_filter.specs.declared.filters.FilterLine.{FilterLine}
+use Rattle.nc_read_filter.specs.declared.filters.OddLine.{OddLine}
+use Rattle.nc_read_filter.specs.Filters.{filters_in as filters_of}
+use Rattle.nc_read_filter.specs.Groups.{applied_in}
 use Rattle.nc_read_policy.specs.Clauses.{ClausePart, clause_in}
 use Rattle.nc_read_policy.specs.Lists.{EntryPart, list_in}
 use Rattle.nc_read_policy.specs.Results.{ok_map}
@@ -113,6 +118,13 @@ community_part lines line = ok_map (λ named. record { entry = named.1; line = l
 abbrev pub communities_in : List (List ℕ) → List ℕ → Result (List CommunityPart) Fault
 communities_in lines ks = all_read (map (community_part lines) ks)
 
+-- ---- access lists
+
+-- what applies an access list to an interface in a direction, with its lines
+pub record GroupPart : Type 0 where
+  pub group : Applied
+  pub lines : List ℕ
+
 -- ---- parts
 
 -- what a topic makes: one thing, or several, each with its lines
@@ -125,6 +137,9 @@ pub data Part : Type 0 where
   -- a prefix list and a community list: the name, and the entries
   Entries : List ℕ → List EntryPart → Part
   Communities : List ℕ → List CommunityPart → Part
+  -- the entries of all access lists, and the lines that are odd
+  Filters : List FilterLine → List OddLine → Part
+  AGroup : GroupPart → Part
 
 -- what the lines of a process make in a file that has this process: those of a second one are wrong from their first line on, whatever they say
 abbrev pub process_part : List (List ℕ) → Option ℕ → ℕ → List ℕ → Result Part Fault
@@ -140,6 +155,8 @@ part_in lines process (topics.Process asn) ks = process_part lines process asn k
 part_in lines process (topics.Clause name number) ks = ok_map AClause (clause_in (numbered lines ks))
 part_in lines process (topics.List name) ks = ok_map (Entries name) (list_in (numbered lines ks))
 part_in lines process (topics.Communities name) ks = ok_map (Communities name) (communities_in lines ks)
+part_in lines process topics.Filters ks = Ok (Filters (filters_of (numbered lines ks)).entries (filters_of (numbered lines ks)).odd)
+part_in lines process (topics.Group name inward) ks = Ok (AGroup (record { group = applied_in name inward (numbered lines ks); lines = ks }))
 
 -- ---- elements
 
@@ -152,7 +169,7 @@ process_pieces p =
     element_at kinds.Process p.own
     ∷ (map (element_at kinds.Neighbor) p.neighbors ++ (map (element_at kinds.Network) p.networks ++ map (element_at kinds.Aggregate) p.aggregates))
 
--- the elements that a part is: each entry of a list is one
+-- the elements that a part is: each entry of a list is one, and what applies a list
 abbrev pub pieces_in : Part → List ElementView
 pieces_in (AnInterface p) = element_at kinds.Interface p.lines ∷ []
 pieces_in (Routes ps) = map (λ p. element_at kinds.Static p.lines) ps
@@ -160,3 +177,5 @@ pieces_in (AProcess p) = process_pieces p
 pieces_in (AClause p) = element_at kinds.Clause p.lines ∷ []
 pieces_in (Entries name ps) = map (λ p. element_at kinds.ListEntry p.lines) ps
 pieces_in (Communities name ps) = map (λ p. element_at kinds.CommunityEntry (p.line ∷ [])) ps
+pieces_in (Filters ps odd) = map (λ p. element_at kinds.Filter (p.line ∷ [])) ps
+pieces_in (AGroup p) = element_at kinds.Group p.lines ∷ []

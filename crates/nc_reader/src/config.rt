@@ -48,6 +48,8 @@ fn finish(alloc: Global, lines: &Lines, parts: Parts) -> Result<RouterConfig, Co
         clauses: things.clauses,
         lists: things.lists,
         community_lists: things.community_lists,
+        filters: things.filters,
+        groups: things.groups,
     })
 }
 

@@ -8,8 +8,8 @@ ghost use Rattle.nc_reader.specs.Parts.{Notes};
 use nc_types::{ConfigFault, Fault};
 use std::alloc::AllocError;
 
-// Of the faults so far and one more, the one with the lowest line.
-fn lowest_of(told: Option<Fault>, fault: Fault) -> Fault
+/// Of the faults so far and one more, the one with the lowest line.
+pub(crate) fn lowest_of(told: Option<Fault>, fault: Fault) -> Fault
     ensures { (fs : List Fault) → told ≡ lowest fs → lowest (fs ++ fault ∷ []) ≡ Some result }
 {
     let Some(first) = told else {

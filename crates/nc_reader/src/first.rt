@@ -13,6 +13,7 @@ pub(crate) enum First {
     Router,
     RouteMap,
     No,
+    AccessList,
     /// A word with which no statement begins that is read or refused.
     Other,
 }
@@ -34,6 +35,8 @@ pub(crate) fn read_first(word: &[u8]) -> First
         First::RouteMap
     } else if is_word(word, "no") {
         First::No
+    } else if is_word(word, "access-list") {
+        First::AccessList
     } else {
         First::Other
     }

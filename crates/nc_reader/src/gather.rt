@@ -1,11 +1,15 @@
 //! One pass over the lines of a file, which gathers those that speak of one thing.
 
-ghost use Rattle.std.specs.Prelude.{◌≡◌, ◌<◌, ◌≤◌, drop, length, OnOk, IfOk};
+ghost use Rattle.std.specs.Prelude.{◌≡◌, ◌<◌, ◌≤◌, Some, drop, length, slice_get, option_and_then};
+ghost use Rattle.std.specs.Prelude.{OnOk, IfOk};
+ghost use Rattle.std.specs.List.{position_or_len};
+ghost use Rattle.std.specs.Option.{option_map};
+ghost use Rattle.nc_read_filter.specs.Readings.{group_view};
 ghost use Rattle.nc_reader.specs.Gathering.{Gathers, sketch};
 ghost use Rattle.nc_reader.specs.Readings.{role_of_header, topic_of};
 ghost use Rattle.nc_reader.specs.Steps.{Banner, Member, IsSteady, blank, with_fault};
-ghost use Rattle.nc_reader.specs.Steps.{headed, stepped, kind_of};
-ghost use Rattle.nc_reader.specs.Topics.{has_block};
+ghost use Rattle.nc_reader.specs.Steps.{headed, stepped, kind_of, put_line, joined_to, group_at};
+ghost use Rattle.nc_reader.specs.Topics.{has_block, interface_name, same_topic};
 ghost use Rattle.nc_lines.specs.Lines.{line_at};
 
 use crate::groups::{add, put};
@@ -14,6 +18,7 @@ use crate::role::{Role, read_role};
 use crate::topic::{Subject, Topic};
 use indexmap::IndexSet;
 use nc_lines::{Block, Lines};
+use nc_read_filter::GroupStatement;
 use nc_types::{Cause, Fault, Text};
 use std::alloc::{AllocError, Global};
 
@@ -51,7 +56,27 @@ fn has_block(subject: Subject<'_>) -> bool
 {
     match subject {
         Subject::Interface(_) | Subject::Process(_) | Subject::Clause(_, _) => true,
+        Subject::Filters => true,
         Subject::Statics | Subject::List(_) | Subject::Communities(_) => false,
+        Subject::Group(_, _) => false,
+    }
+}
+
+// The name of the interface at a place.
+fn interface_at(
+    alloc: Global,
+    topics: &IndexSet<Topic>,
+    place: usize,
+) -> Result<Option<Text>, AllocError>
+    ensures { IfOk result (λ name. name
+        ≡ option_and_then interface_name (slice_get topics.now.keys place)) }
+{
+    let Some(topic) = topics.as_slice().get(place) else {
+        return Ok(None);
+    };
+    match topic.interface() {
+        None => Ok(None),
+        Some(name) => Ok(Some(Text::new(alloc, name.bytes())?)),
     }
 }
 
@@ -94,13 +119,65 @@ impl Draft {
         self.in_banner = in_banner;
     }
 
-    // An indented line.
-    fn join(&mut self, line: u32) -> Result<(), AllocError>
+    // One more line that speaks of a topic.
+    fn put(&mut self, alloc: Global, line: u32, subject: Subject<'_>) -> Result<usize, AllocError>
         requires { IsSteady (sketch self.old) }
-        ensures { OnOk result (sketch self.new ≡ stepped line Member (sketch self.old)) }
+        ensures drawn { OnOk result (sketch self.new
+            ≡ put_line line (topic_of subject.entry) (sketch self.old)) }
+        ensures place { IfOk result (λ place. place
+            ≡ position_or_len (same_topic (topic_of subject.entry)) (sketch self.old).topics) }
     {
-        if let Some(place) = self.block {
+        let last = self.last;
+        let place = put(
+            alloc,
+            &mut self.topics,
+            &mut self.blocks,
+            last,
+            subject,
+            line,
+        )?;
+        Ok(place)
+    }
+
+    // An indented line in the block at a place, which would apply a list to an interface.
+    fn apply(
+        &mut self,
+        alloc: Global,
+        line: u32,
+        place: usize,
+        group: GroupStatement<'_>,
+    ) -> Result<(), AllocError>
+        requires steady { IsSteady (sketch self.old) }
+        requires known { place < length (sketch self.old).blocks }
+        ensures { OnOk result (sketch self.new ≡ joined_to line place
+            (group_at (Some (group_view group.entry)) place (sketch self.old).topics)
+            (sketch self.old)) }
+    {
+        let Some(name) = interface_at(alloc, &self.topics, place)? else {
             add(&mut self.blocks, place, line)?;
+            return Ok(());
+        };
+        self.put(alloc, line, Subject::Group(name.bytes(), group.inward))?;
+        Ok(())
+    }
+
+    // An indented line.
+    fn join(
+        &mut self,
+        alloc: Global,
+        line: u32,
+        group: Option<GroupStatement<'_>>,
+    ) -> Result<(), AllocError>
+        requires { IsSteady (sketch self.old) }
+        ensures { OnOk result (sketch self.new
+            ≡ stepped line (Member (option_map group_view group.entry)) (sketch self.old)) }
+    {
+        let Some(place) = self.block else {
+            return Ok(());
+        };
+        match group {
+            None => add(&mut self.blocks, place, line)?,
+            Some(group) => self.apply(alloc, line, place, group)?,
         }
         Ok(())
     }
@@ -122,15 +199,7 @@ impl Draft {
                 self.block = None;
             }
             Header::Speaks(subject) => {
-                let last = self.last;
-                let place = put(
-                    alloc,
-                    &mut self.topics,
-                    &mut self.blocks,
-                    last,
-                    subject,
-                    line,
-                )?;
+                let place = self.put(alloc, line, subject)?;
                 self.last = place;
                 self.block = if has_block(subject) {
                     Some(place)
@@ -157,7 +226,7 @@ impl Draft {
                 Ok(())
             }
             Role::Idle => Ok(()),
-            Role::Member => self.join(number),
+            Role::Member(group) => self.join(alloc, number, group),
             Role::Heads(header) => self.head(alloc, number, header),
         }
     }

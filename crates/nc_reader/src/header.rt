@@ -7,7 +7,8 @@ ghost use Rattle.nc_lines.specs.Lines.{words_of};
 ghost use Rattle.nc_read_policy.specs.Lists.{list_name_says};
 ghost use Rattle.nc_read_policy.specs.CommunityEntries.{community_name_says};
 ghost use Rattle.nc_reader.specs.declared.topic.Topic.TheVariants as topics;
-ghost use Rattle.nc_reader.specs.Roles.{said_role, header_role};
+ghost use Rattle.nc_read_filter.specs.Lists.{opens_list};
+ghost use Rattle.nc_reader.specs.Roles.{filter_role, said_role, header_role};
 ghost use Rattle.nc_reader.specs.Readings.{role_of_header};
 
 use crate::first::{First, read_first};
@@ -15,6 +16,7 @@ use crate::topic::Subject;
 use nc_lines::cut::cut_word;
 use nc_lines::statement::{Reading, begins_one, is_word};
 use nc_read_bgp::read_process_header;
+use nc_read_filter::{begins_entry, opens_list};
 use nc_read_policy::{read_clause_header, read_community_name, read_list_name};
 use nc_types::{Cause, NAME_LIMIT};
 
@@ -156,6 +158,29 @@ fn community_list(rest: &[u8]) -> Header<'_>
     }
 }
 
+// What is behind `ip access-list`: the header of a list.
+fn access_list(rest: &[u8]) -> Header<'_>
+    ensures { role_of_header result ≡ filter_role (opens_list (words_of rest.now)) }
+{
+    if opens_list(rest) {
+        Header::Speaks(Subject::Filters)
+    } else {
+        Header::Passed
+    }
+}
+
+// What is behind `access-list`: an entry of the list of a number.
+#[tactic(auto, unfolding(crate::specs::Roles::is_unsupported, crate::specs::Roles::read_role))]
+fn behind_access_list(rest: &[u8]) -> Header<'_>
+    ensures { role_of_header result ≡ header_role (codes "access-list" ∷ words_of rest.now) }
+{
+    if begins_entry(rest) {
+        Header::Speaks(Subject::Filters)
+    } else {
+        Header::Passed
+    }
+}
+
 // What is behind `ip`.
 #[tactic(auto, unfolding(crate::specs::Roles::is_unsupported, crate::specs::Roles::read_role))]
 fn behind_ip(rest: &[u8]) -> Header<'_>
@@ -172,6 +197,9 @@ fn behind_ip(rest: &[u8]) -> Header<'_>
     }
     if is_word(word, "community-list") {
         return community_list(rest);
+    }
+    if is_word(word, "access-list") {
+        return access_list(rest);
     }
     if is_word(word, "default-network") || is_word(word, "nat") {
         return Header::Wrong(Cause::Unsupported);
@@ -195,6 +223,7 @@ pub(crate) fn read_header<'a>(line: &'a [u8], word: &[u8], rest: &'a [u8]) -> He
         First::Router => router(line, rest),
         First::RouteMap => route_map(line, rest),
         First::No => behind_no(rest),
+        First::AccessList => behind_access_list(rest),
         First::Other => Header::Passed,
     }
 }

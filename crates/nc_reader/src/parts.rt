@@ -11,6 +11,7 @@ ghost use Rattle.nc_reader.specs.Whole.{AreParts};
 
 use crate::faults::note;
 use crate::gather::gather;
+use crate::odd::note_odd;
 use crate::things::{Part, read_part};
 use crate::topic::Topic;
 use nc_lines::{Block, Lines};
@@ -113,9 +114,10 @@ pub(crate) fn read_parts(alloc: Global, lines: &Lines) -> Result<Parts, AllocErr
         &gathered.lines,
         gathered.fault,
     )?;
+    let fault = note_odd(alloc, &read.parts, read.fault)?;
     Ok(Parts {
         name: gathered.name,
         made: read.parts,
-        fault: read.fault,
+        fault,
     })
 }

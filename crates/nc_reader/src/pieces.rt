@@ -5,8 +5,9 @@ ghost use Rattle.nc_reader.specs.Things.{first_in};
 
 use crate::communities::CommunityLine;
 use crate::routes::RouteLines;
+use nc_read_filter::FilterLine;
 use nc_read_policy::EntryLines;
-use nc_types::{Clause, CommunityEntry, Interface, ListEntry, StaticRoute};
+use nc_types::{Clause, CommunityEntry, FilterEntry, Group, Interface, ListEntry, StaticRoute};
 use std::alloc::{AllocError, Global};
 
 /// A thing of a configuration with its lines, before it has the place of its element.
@@ -173,5 +174,55 @@ impl Piece for CommunityLine {
         let mut lines = Vec::with_capacity(alloc, 1)?;
         lines.push(line)?;
         Ok((entry, lines))
+    }
+}
+
+impl Piece for FilterLine {
+    type Thing = FilterEntry;
+
+    ghost use Rattle.std.specs.Prelude.{[], ◌∷◌};
+    ghost use Rattle.nc_reader.specs.Configuration.{filter_with_place};
+
+    ghost lines_of = { λ p. p.line ∷ [] };
+
+    ghost placed = { λ place p. filter_with_place place p.entry };
+
+    fn first(&self) -> u32 {
+        self.line
+    }
+
+    fn split(self, alloc: Global, place: u32) -> Result<(FilterEntry, Vec<u32>), AllocError> {
+        let FilterLine { mut entry, line } = self;
+        entry.element = place;
+        let mut lines = Vec::with_capacity(alloc, 1)?;
+        lines.push(line)?;
+        Ok((entry, lines))
+    }
+}
+
+/// What applies an access list to an interface with the lines of its statements, ascending from 1.
+#[derive(Drop)]
+pub(crate) struct GroupLines {
+    pub(crate) group: Group,
+    pub(crate) lines: Vec<u32>,
+}
+
+impl Piece for GroupLines {
+    type Thing = Group;
+
+    ghost use Rattle.nc_reader.specs.Configuration.{group_with_place};
+
+    ghost lines_of = { λ p. p.lines.items };
+
+    ghost placed = { λ place p. group_with_place place p.group };
+
+    fn first(&self) -> u32 {
+        first_in(&self.lines)
+    }
+
+    fn split(self, _alloc: Global, place: u32) -> Result<(Group, Vec<u32>), AllocError> {
+        let GroupLines { mut group, lines } = self;
+        group.element = place;
+        Ok((group, lines))
     }
 }

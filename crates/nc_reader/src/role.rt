@@ -12,6 +12,7 @@ use nc_lines::Lines;
 use nc_lines::banner::{has_mark, leaves_open};
 use nc_lines::cut::{cut_word, first_byte, is_indented};
 use nc_lines::statement::is_word;
+use nc_read_filter::{GroupStatement, read_group};
 use nc_types::Cause;
 
 /// What a line is.
@@ -21,8 +22,9 @@ pub(crate) enum Role<'a> {
     Banner(bool, Option<Cause>),
     /// A blank line or a comment.
     Idle,
-    /// An indented line.
-    Member,
+    /// An indented line, and the access list that it applies if it stands in the block of an
+    /// interface.
+    Member(Option<GroupStatement<'a>>),
     /// An unindented statement.
     Heads(Header<'a>),
 }
@@ -81,7 +83,7 @@ pub(crate) fn read_role(lines: &Lines, number: u32, in_banner: bool) -> Role<'_>
         return match first_byte(line) {
             None => Role::Idle,
             Some(b'!') => Role::Idle,
-            Some(_) => Role::Member,
+            Some(_) => Role::Member(read_group(line)),
         };
     }
     let Some((word, rest)) = cut_word(line) else {

@@ -1,16 +1,18 @@
 //! What the lines that speak of one topic make.
 
-ghost use Rattle.std.specs.Prelude.{◌≡◌, All};
+ghost use Rattle.std.specs.Prelude.{◌≡◌, None, All};
+ghost use Rattle.nc_reader.specs.declared.topic.Topic.TheVariants as topics;
 ghost use Rattle.nc_reader.specs.Gathering.{IsLine};
 ghost use Rattle.nc_reader.specs.Parts.{IsPart};
 ghost use Rattle.nc_reader.specs.Things.{part_in, process_part};
 
 use crate::communities::{CommunityLine, read_communities};
-use crate::pieces::{ClauseLines, InterfaceLines, first_in};
+use crate::pieces::{ClauseLines, GroupLines, InterfaceLines, first_in};
 use crate::routes::{RouteLines, read_routes};
 use crate::topic::Topic;
 use nc_lines::{Block, Lines};
 use nc_read_bgp::{ProcessPart, read_process};
+use nc_read_filter::{FilterLine, FilterLines, OddLine, read_applied, read_filters};
 use nc_read_link::read_interface;
 use nc_read_policy::{EntryLines, read_clause, read_list};
 use nc_types::{Cause, ConfigFault, Text};
@@ -28,6 +30,9 @@ pub(crate) enum Part {
     Entries(Text, Vec<EntryLines>),
     /// A community list: its name and its entries.
     Communities(Text, Vec<CommunityLine>),
+    /// The entries of all access lists, and the lines that begin as one and have another rest.
+    Filters(Vec<FilterLine>, Vec<OddLine>),
+    AGroup(GroupLines),
 }
 
 // Reads the process of this number in a file that has this process: the lines of a second one are
@@ -50,6 +55,33 @@ fn read_process_part(
     }
     let made = read_process(alloc, lines, block)?;
     Ok(Part::AProcess(made))
+}
+
+// Reads the access lists.
+fn read_filters_part(alloc: Global, lines: &Lines, block: &Block) -> Result<Part, ConfigFault>
+    requires { All (IsLine lines.now) block.now.lines.items }
+    ensures { IsPart result (part_in lines.now None topics.Filters block.now.lines.items) }
+{
+    let made = read_filters(alloc, lines, block)?;
+    let FilterLines { entries, odd } = made;
+    Ok(Part::Filters(entries, odd))
+}
+
+// Reads what applies an access list to the interface of this name in a direction.
+fn read_group_part(
+    alloc: Global,
+    lines: &Lines,
+    name: &[u8],
+    inward: bool,
+    block: &Block,
+) -> Result<Part, ConfigFault>
+    requires { All (IsLine lines.now) block.now.lines.items }
+    ensures { IsPart result
+        (part_in lines.now None (topics.Group name.now inward) block.now.lines.items) }
+{
+    let group = read_applied(alloc, lines, name, inward, block)?;
+    let lines = Vec::from_slice(alloc, &block.lines)?;
+    Ok(Part::AGroup(GroupLines { group, lines }))
 }
 
 /// Reads what the lines of a topic make, in a file that has this process.
@@ -91,6 +123,14 @@ pub(crate) fn read_part(
         Topic::Communities(name) => {
             let entries = read_communities(alloc, lines, &block.lines)?;
             Ok(Part::Communities(Text::new(alloc, name.bytes())?, entries))
+        }
+        Topic::Filters => {
+            let part = read_filters_part(alloc, lines, block)?;
+            Ok(part)
+        }
+        Topic::Group(name, inward) => {
+            let part = read_group_part(alloc, lines, name.bytes(), *inward, block)?;
+            Ok(part)
         }
     }
 }

@@ -1,8 +1,9 @@
 //! Of what the lines of a file speak.
 
 ghost use Rattle.std.specs.Prelude.{◌≡◌, IfOk};
+ghost use Rattle.std.specs.Option.{option_map};
 ghost use Rattle.nc_reader.specs.Readings.{topic_of};
-ghost use Rattle.nc_reader.specs.Topics.{same_topic, asn_in};
+ghost use Rattle.nc_reader.specs.Topics.{same_topic, asn_in, interface_name};
 
 use nc_types::Text;
 use std::alloc::{AllocError, Global};
@@ -22,6 +23,11 @@ pub(crate) enum Topic {
     List(Text),
     /// The community list of this name.
     Communities(Text),
+    /// The access lists, all of them.
+    Filters,
+    /// What applies an access list to the interface of this name, where packets come in, or else
+    /// where they go out.
+    Group(Text, bool),
 }
 
 /// A topic as a statement writes it.
@@ -33,6 +39,8 @@ pub(crate) enum Subject<'a> {
     Clause(&'a [u8], u16),
     List(&'a [u8]),
     Communities(&'a [u8]),
+    Filters,
+    Group(&'a [u8], bool),
 }
 
 impl Topic {
@@ -47,6 +55,8 @@ impl Topic {
             Subject::Clause(map, number) => Topic::Clause(Text::new(alloc, map)?, number),
             Subject::List(name) => Topic::List(Text::new(alloc, name)?),
             Subject::Communities(name) => Topic::Communities(Text::new(alloc, name)?),
+            Subject::Filters => Topic::Filters,
+            Subject::Group(name, inward) => Topic::Group(Text::new(alloc, name)?, inward),
         })
     }
 
@@ -56,6 +66,16 @@ impl Topic {
     {
         match self {
             Topic::Process(asn) => Some(*asn),
+            _ => None,
+        }
+    }
+
+    /// The name of an interface.
+    pub(crate) fn interface(&self) -> Option<&Text>
+        ensures { option_map (λ name. name.now) result ≡ interface_name self.now }
+    {
+        match self {
+            Topic::Interface(name) => Some(name),
             _ => None,
         }
     }
@@ -71,6 +91,8 @@ impl Topic {
             (Topic::Clause(own, m), Subject::Clause(map, n)) => own.bytes() == map && *m == n,
             (Topic::List(own), Subject::List(name)) => own.bytes() == name,
             (Topic::Communities(own), Subject::Communities(name)) => own.bytes() == name,
+            (Topic::Filters, Subject::Filters) => true,
+            (Topic::Group(own, i), Subject::Group(name, j)) => own.bytes() == name && *i == j,
             _ => false,
         }
     }
