@@ -6,7 +6,7 @@
 //! is active takes a binary search. The crate stands on `nc_types` for the network and on
 //! `nc_tables` for the tables and for the definition of what stands in them; the proofs take the
 //! laws of lists in order from `nc_base_rib`. Its contract promises that [`main_tables`] gives
-//! exactly these tables.
+//! exactly these tables, and that [`in_order`] gives prefixes in order, each once.
 #![tactic(auto)]
 
 mod discards;
@@ -14,4 +14,5 @@ mod prefixes;
 mod rows;
 mod tables;
 
+pub use prefixes::in_order;
 pub use tables::main_tables;

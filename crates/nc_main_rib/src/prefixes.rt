@@ -45,8 +45,12 @@ fn add_of_aggregates(
     Ok(())
 }
 
-// The distinct prefixes in order.
-fn in_order(mut prefixes: Vec<Prefix>) -> Result<Vec<Prefix>, AllocError>
+/// Prefixes in order (address, then length), each once.
+///
+/// # Errors
+///
+/// Memory that runs out.
+pub fn in_order(mut prefixes: Vec<Prefix>) -> Result<Vec<Prefix>, AllocError>
     ensures { IfOk result (λ sorted. sorted.items ≡ in_order prefix_cmp (distinct prefixes.items)) }
 {
     prefixes.sort()?;

@@ -1,5 +1,5 @@
 -- Where what neighbors say leaves the choice as it stands, the same is chosen anew.
-use Rattle.std.proofs.Common.{◌≡◌, ◌⊎◌, ℕ, suc, ◌+◌, ◌<◌, Bool, true, false, cond, not, ◌&&◌, ◌||◌, ◌==◌, List, [], ◌∷◌, ◌++◌, Option, Some, None, append_assoc, refl, sym, ap, subst, ◌∙◌, eq-eqb, eqb-true, inl, inr}
+use Rattle.std.proofs.Common.{◌≡◌, ◌⊎◌, ℕ, suc, ◌<◌, Bool, true, false, not, ◌||◌, ◌==◌, List, [], ◌∷◌, ◌++◌, Option, Some, None, append_assoc, refl, sym, ap, subst, ◌∙◌, eq-eqb, eqb-true, inl, inr}
 use Rattle.std.specs.List.{list_any}
 use Rattle.std.specs.Option.{option_map, option_map_or}
 use Rattle.std.specs.Ordering.{is_lt}
@@ -11,7 +11,6 @@ use Rattle.nc_types.proofs.Members.{In, passes_some}
 use Rattle.nc_tables.specs.declared.base.BaseRow.{BaseRow}
 use Rattle.nc_tables.specs.declared.bgp.SessionRow.{SessionRow}
 use Rattle.nc_tables.specs.declared.bgp.Chosen.{Chosen}
-use Rattle.nc_tables.specs.declared.bgp.BgpFrom.{BgpFrom}
 use Rattle.nc_tables.specs.declared.bgp.BgpFrom.TheVariants.{Entry}
 use Rattle.nc_tables.specs.Choice.{is_equal_to, preference_cmp}
 use Rattle.nc_tables.specs.Rounds.{BgpRowView, Accepted, made_from, chosen_at, accepted_at, learnt_from, entry_at, origin_at, aggregate_at, candidates_at, chosen_by, chosen_anew}

@@ -1,5 +1,5 @@
 -- How many candidates are chosen.
-use Rattle.std.proofs.Common.{◌≡◌, ℕ, ◌≤◌, Bool, true, false, cond, List, [], ◌∷◌, map, filter, take, length, Option, Some, None, arith}
+use Rattle.std.proofs.Common.{ℕ, ◌≤◌, Bool, true, false, cond, List, [], ◌∷◌, filter, take, length, Option, Some, None, arith}
 use Rattle.std.specs.List.{cons_option, filter_map}
 use Rattle.std.proofs.lemmas.List.{length-map, length-take}
 use Rattle.nc_tables.specs.declared.bgp.Chosen.{Chosen}

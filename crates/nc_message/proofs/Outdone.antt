@@ -1,5 +1,5 @@
 -- What is learnt of a peer's candidate whose path isn't shorter than that of the best that stands is beaten, whatever the sender's map does.
-use Rattle.std.proofs.Common.{◌≡◌, ◌⊎◌, ℕ, suc, ◌<◌, ◌≤◌, Bool, true, false, cond, not, ◌&&◌, ◌||◌, ◌==◌, List, [], ◌∷◌, ◌++◌, length, IfSome, Option, Some, None, refl, sym, ap, subst, ◌∙◌, arith, inl, inr}
+use Rattle.std.proofs.Common.{◌≡◌, ◌⊎◌, ℕ, suc, ◌<◌, ◌≤◌, Bool, true, false, cond, not, ◌&&◌, ◌||◌, ◌==◌, List, length, IfSome, Option, Some, None, refl, sym, ap, subst, ◌∙◌, arith, inl, inr}
 use Rattle.std.specs.Option.{option_and_then, option_map, option_map_or}
 use Rattle.std.specs.Str.{bytes_eq}
 use Rattle.std.specs.declared.cmp.Ordering.{Ordering}

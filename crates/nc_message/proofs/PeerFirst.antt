@@ -1,7 +1,6 @@
 -- The message over a session, by what its peer has chosen.
 use Rattle.std.proofs.Common.{◌≡◌, ℕ, ◌≤◌, List, [], Option, Some, None, length, refl, sym, ap, ◌∙◌}
 use Rattle.std.specs.Option.{option_and_then, option_map}
-use Rattle.std.specs.List.{slice_index_or}
 use Rattle.std.proofs.lemmas.List.{get_or_past}
 use Rattle.nc_types.specs.Cidr.{Cidr}
 use Rattle.nc_types.specs.Config.{ConfigView}
@@ -9,7 +8,7 @@ use Rattle.nc_types.specs.Network.{up_at}
 use Rattle.nc_tables.specs.declared.base.BaseRow.{BaseRow}
 use Rattle.nc_tables.specs.declared.bgp.Chosen.{Chosen}
 use Rattle.nc_tables.specs.declared.bgp.SessionRow.{SessionRow}
-use Rattle.nc_tables.specs.Rounds.{BgpRowView, Link, best_at, chosen_in, link_at, message_at, message_of, session_by}
+use Rattle.nc_tables.specs.Rounds.{BgpRowView, Link, accepted_of, best_at, chosen_in, entry_at, learnt_from, link_at, message_at, accepted_at, message_of, session_by}
 use Rattle.nc_tables.specs.Sessions.{end_at, first_of, session_in}
 use Rattle.nc_message.specs.Peers.{best_over}
 
@@ -77,3 +76,24 @@ module _ (routers : List ConfigView) (tables : List (List BaseRow)) (sessions : 
   one_sent k e b some =
       ap (option_and_then (message_of k)) (some ∙ over_link k (sym e))
       ∙ ap (option_and_then (λ (l : Link). option_and_then (message_of l) (best_at table l.session.peer.0 prefix))) e
+
+  -- ---- the candidate that is learnt of it
+
+  abbrev learnt_by : Option Link → Option Chosen
+  learnt_by o = option_map (learnt_from place) (option_and_then (accepted_of tables router) (option_and_then (λ (k : Link). option_and_then (message_of k) (best_at table k.session.peer.0 prefix)) o))
+
+  learnt_is : learnt_by (link_at routers sessions router place) ≡ entry_at routers tables sessions table router place prefix
+  unfolding message_at accepted_at
+  learnt_is = refl
+
+  pub none_learnt_alone : None ≡ link_at routers sessions router place → None ≡ entry_at routers tables sessions table router place prefix
+  none_learnt_alone e = ap learnt_by e ∙ learnt_is
+
+  pub none_learnt_silent : (k : Link) → Some k ≡ link_at routers sessions router place → None ≡ best_at table k.session.peer.0 prefix → None ≡ entry_at routers tables sessions table router place prefix
+  none_learnt_silent k e silent =
+      ap (λ (o : Option Chosen). option_map (learnt_from place) (option_and_then (accepted_of tables router) (option_and_then (message_of k) o))) silent ∙ ap learnt_by e ∙ learnt_is
+
+  pub one_learnt : (k : Link) → Some k ≡ link_at routers sessions router place → (b : Chosen) → Some b ≡ best_at table k.session.peer.0 prefix
+      → option_map (learnt_from place) (option_and_then (accepted_of tables router) (message_of k b)) ≡ entry_at routers tables sessions table router place prefix
+  one_learnt k e b some =
+      ap (λ (o : Option Chosen). option_map (learnt_from place) (option_and_then (accepted_of tables router) (option_and_then (message_of k) o))) some ∙ ap learnt_by e ∙ learnt_is

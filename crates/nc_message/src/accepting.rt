@@ -2,21 +2,23 @@
 
 ghost use Rattle.std.specs.Prelude.{◌≡◌, ◌==◌, ◌&&◌, ◌<◌, not, nat_lt, IfSome, length};
 ghost use Rattle.std.specs.List.{list_any};
-ghost use Rattle.std.specs.Option.{option_map};
+ghost use Rattle.std.specs.Option.{option_and_then, option_map};
 ghost use Rattle.nc_tables.specs.Base.{is_own};
 ghost use Rattle.nc_tables.specs.Choice.{is_learnt};
 ghost use Rattle.nc_tables.specs.Reach.{hits};
-ghost use Rattle.nc_tables.specs.Rounds.{accepted_at, accepted_of, is_looped};
+ghost use Rattle.nc_tables.specs.Rounds.{accepted_at, accepted_of, is_looped, message_of};
 ghost use Rattle.nc_sessions.specs.Views.{link_view};
 ghost use Rattle.nc_message.specs.Given.{AreGiven, IsBetween};
+ghost use Rattle.nc_message.specs.Links.{IsHeard};
 ghost use Rattle.nc_message.specs.Views.{message_view, taken_view, IsKnown, IsTold, IsTaken};
 
 use crate::given::Given;
-use crate::messages::{Sent, carried, message_at, sent_length};
+use crate::links::Heard;
+use crate::messages::{Sent, carried, message_at, message_of, sent_length};
 use crate::rows::is_own;
 use nc_policy::Passing;
 use nc_sessions::Link;
-use nc_tables::{BgpFrom, BgpTable};
+use nc_tables::{BgpFrom, BgpTable, Chosen};
 use nc_types::{Addr, Prefix, RouterId};
 use nc_underlay::has_hit;
 
@@ -133,6 +135,28 @@ fn accepted_of<'a>(given: &Given<'a>, router: RouterId, sent: Sent<'a>) -> Optio
         .policies
         .pass(given.network, router, map, prefix, count, &held)?;
     Some(Taken { sent, into })
+}
+
+/// What a router accepts over a session of the sender's best candidate: the message that is sent of
+/// it, where one is, by the rules of [`accepted_at`]. Takes no memory.
+pub(crate) fn accepted_over<'a>(
+    given: &Given<'a>,
+    router: RouterId,
+    heard: Heard<'a>,
+    best: &'a Chosen,
+) -> Option<Taken<'a>>
+    requires given { AreGiven given.now }
+    requires between { IsBetween given.now.network.now router.0 (link_view heard.link) }
+    requires sender { IsHeard given.now.base.now router.0 heard }
+    ensures accepted { option_map taken_view result
+        ≡ option_and_then (accepted_of given.now.base.now router.0)
+        (message_of (link_view heard.entry.link) best.entry.now) }
+    ensures best { IfSome result (λ t. t.sent.best.now ≡ best.entry.now) }
+    ensures known { IfSome result (λ t. IsKnown given.now.base.now router.0 t.sent) }
+    ensures taken { IfSome result IsTaken }
+{
+    let sent = message_of(given, heard, best)?;
+    accepted_of(given, router, sent)
 }
 
 /// What a router accepts of the message to the neighbor statement at a place for a prefix, as

@@ -1,11 +1,12 @@
 //! All candidates of a prefix at a router, told without their routes in memory.
 
 ghost use Rattle.std.specs.Prelude.{◌≡◌, ◌≢◌, ◌++◌, ◌+◌, ◌<◌, ◌^◌, [], ◌∷◌, All, length, position};
-ghost use Rattle.std.specs.Prelude.{IfOk, IfSome, OnOk, Some, slice_index_or};
+ghost use Rattle.std.specs.Prelude.{IfOk, IfSome, OnOk, Some, option_to_list, slice_index_or};
 ghost use Rattle.std.specs.List.{AllPairs};
 ghost use Rattle.nc_types.specs.Config.{process_view};
 ghost use Rattle.nc_types.specs.WellFormed.{IsProcess};
 ghost use Rattle.nc_tables.specs.Base.{same_prefix};
+ghost use Rattle.nc_tables.specs.LocRibs.{IsNumbered};
 ghost use Rattle.nc_tables.specs.Rounds.{begun, candidates_at, entry_at, has_longer, made_from};
 ghost use Rattle.nc_tables.specs.Sessions.{process_of};
 ghost use Rattle.nc_message.specs.Beginning.{has_base_row, networks_of, aggregates_of};
@@ -14,7 +15,7 @@ ghost use Rattle.nc_message.specs.Given.{AreGiven, IsOf};
 use crate::given::Given;
 use crate::rows::has_row;
 use crate::told::{Told, told_at};
-use nc_tables::{BgpFrom, BgpTable};
+use nc_tables::{BgpFrom, LocRibs, Numbered};
 use nc_types::{Neighbor, Prefix, Process, RouterId};
 use std::alloc::{AllocError, Global};
 
@@ -98,54 +99,80 @@ fn add_network(
 fn add_aggregate(
     candidates: &mut Vec<Told<'_>>,
     given: &Given<'_>,
-    table: &BgpTable,
+    ribs: &LocRibs,
     router: RouterId,
     process: &Process,
     prefix: Prefix,
 ) -> Result<(), AllocError>
     requires given { AreGiven given.now }
-    requires table { length table.now ≡ length given.now.network.now }
+    requires ribs { length ribs.now.rows ≡ length given.now.network.now }
     requires router { router.0 < length given.now.network.now }
     requires process { process_of given.now.network.now router.0
         ≡ Some (process_view process.now) }
     requires single { AllPairs (λ a b. a.prefix ≢ b.prefix) process.now.aggregates.items }
     requires few { length process.now.aggregates.items < 2 ^ 32 }
     ensures { OnOk result (candidates.new.items ≡ candidates.old.items
-        ++ aggregates_of (has_longer (slice_index_or table.now router.0 []) prefix) prefix
+        ++ aggregates_of (has_longer (slice_index_or ribs.now.rows router.0 []) prefix) prefix
         process.now.aggregates.items) }
 {
     let Some(place) = aggregate_of(given, router, process, prefix) else {
         return Ok(());
     };
-    if !table.has_longer(router, prefix) {
+    if !ribs.has_longer(router, prefix) {
         return Ok(());
     }
     add_begun(candidates, prefix, BgpFrom::Aggregate(place as u32))?;
     Ok(())
 }
 
+// Adds what a router learns of a prefix by the neighbor statement at a place.
+fn add_entry<'a>(
+    candidates: &mut Vec<Told<'a>>,
+    given: &Given<'a>,
+    ribs: &'a LocRibs,
+    router: RouterId,
+    place: u32,
+    of: Numbered,
+) -> Result<(), AllocError>
+    requires given { AreGiven given.now }
+    requires ribs { length ribs.now.rows ≡ length given.now.network.now }
+    requires number { IsNumbered ribs.now.prefixes of }
+    ensures made { OnOk result (candidates.new.items ≡ candidates.old.items
+        ++ option_to_list (entry_at given.now.network.now given.now.base.now
+        given.now.sessions.now ribs.now.rows router.0 place of.prefix)) }
+    ensures own { All (IsOf of.prefix) candidates.old.items
+        → OnOk result (All (IsOf of.prefix) candidates.new.items) }
+{
+    match told_at(given, ribs, router, place, of) {
+        Some(told) => {
+            candidates.push(told)?;
+            Ok(())
+        }
+        None => Ok(()),
+    }
+}
+
 // Adds what a router learns of a prefix by its neighbor statements.
 fn add_entries<'a>(
     candidates: &mut Vec<Told<'a>>,
     given: &Given<'a>,
-    table: &'a BgpTable,
+    ribs: &'a LocRibs,
     router: RouterId,
     neighbors: &[Neighbor],
-    prefix: Prefix,
+    of: &Numbered,
 ) -> Result<(), AllocError>
     requires given { AreGiven given.now }
-    requires table { length table.now ≡ length given.now.network.now }
+    requires ribs { length ribs.now.rows ≡ length given.now.network.now }
+    requires number { IsNumbered ribs.now.prefixes of.now }
     requires few { length neighbors.now < 2 ^ 32 }
     ensures made { OnOk result (candidates.new.items ≡ candidates.old.items
         ++ made_from (λ place n. entry_at given.now.network.now given.now.base.now
-        given.now.sessions.now table.now router.0 place prefix) 0 neighbors.now) }
-    ensures own { All (IsOf prefix) candidates.old.items
-        → OnOk result (All (IsOf prefix) candidates.new.items) }
+        given.now.sessions.now ribs.now.rows router.0 place of.now.prefix) 0 neighbors.now) }
+    ensures own { All (IsOf of.now.prefix) candidates.old.items
+        → OnOk result (All (IsOf of.now.prefix) candidates.new.items) }
 {
     'neighbors: for place in 0..neighbors.len() {
-        if let Some(told) = told_at(given, table, router, place as u32, prefix) {
-            candidates.push(told)?;
-        }
+        add_entry(candidates, given, ribs, router, place as u32, *of)?;
     }
     Ok(())
 }
@@ -154,13 +181,14 @@ fn add_entries<'a>(
 pub(crate) fn candidates<'a>(
     alloc: Global,
     given: &Given<'a>,
-    table: &'a BgpTable,
+    ribs: &'a LocRibs,
     router: RouterId,
     process: &Process,
-    prefix: Prefix,
+    of: &Numbered,
 ) -> Result<Vec<Told<'a>>, AllocError>
     requires given { AreGiven given.now }
-    requires table { length table.now ≡ length given.now.network.now }
+    requires ribs { length ribs.now.rows ≡ length given.now.network.now }
+    requires number { IsNumbered ribs.now.prefixes of.now }
     requires router { router.0 < length given.now.network.now }
     requires few { length process.now.neighbors.items + (length process.now.networks.items
         + length process.now.aggregates.items) < 2 ^ 32 }
@@ -168,14 +196,14 @@ pub(crate) fn candidates<'a>(
         ≡ Some (process_view process.now) }
     requires formed { IsProcess (process_view process.now) }
     ensures candidates { IfOk result (λ told. told.items
-        ≡ candidates_at given.now.network.now given.now.base.now given.now.sessions.now table.now
-        router.0 (process_view process.now) prefix) }
-    ensures own { IfOk result (λ told. All (IsOf prefix) told.items) }
+        ≡ candidates_at given.now.network.now given.now.base.now given.now.sessions.now ribs.now.rows
+        router.0 (process_view process.now) of.now.prefix) }
+    ensures own { IfOk result (λ told. All (IsOf of.now.prefix) told.items) }
 {
     let neighbors = &process.neighbors;
     let mut told = Vec::with_capacity(alloc, neighbors.len())?;
-    add_network(&mut told, given, router, process, prefix)?;
-    add_aggregate(&mut told, given, table, router, process, prefix)?;
-    add_entries(&mut told, given, table, router, neighbors, prefix)?;
+    add_network(&mut told, given, router, process, of.prefix)?;
+    add_aggregate(&mut told, given, ribs, router, process, of.prefix)?;
+    add_entries(&mut told, given, ribs, router, neighbors, of)?;
     Ok(told)
 }

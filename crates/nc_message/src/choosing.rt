@@ -5,6 +5,7 @@ ghost use Rattle.std.specs.List.{filter_map};
 ghost use Rattle.nc_types.specs.Config.{process_view};
 ghost use Rattle.nc_types.specs.declared.TheConstants.{MULTIPATH_LIMIT};
 ghost use Rattle.nc_types.specs.WellFormed.{IsProcess};
+ghost use Rattle.nc_tables.specs.LocRibs.{IsNumbered};
 ghost use Rattle.nc_tables.specs.Rounds.{candidates_at, chosen_anew, chosen_by};
 ghost use Rattle.nc_tables.specs.Sessions.{process_of};
 ghost use Rattle.nc_message.specs.Given.{AreGiven};
@@ -13,8 +14,8 @@ use crate::candidates::candidates;
 use crate::given::Given;
 use crate::told::Told;
 use nc_select::choose;
-use nc_tables::{BgpTable, Chosen};
-use nc_types::{Prefix, Process, RouterId};
+use nc_tables::{Chosen, LocRibs, Numbered};
+use nc_types::{Process, RouterId};
 use std::alloc::{AllocError, Global};
 
 // The candidates that stand at these places, in the places' order, made in memory.
@@ -40,13 +41,14 @@ fn made_at(
 fn chosen_by(
     alloc: Global,
     given: &Given<'_>,
-    table: &BgpTable,
+    ribs: &LocRibs,
     router: RouterId,
     process: &Process,
-    prefix: Prefix,
+    of: &Numbered,
 ) -> Result<Vec<Chosen>, AllocError>
     requires given { AreGiven given.now }
-    requires table { length table.now ≡ length given.now.network.now }
+    requires ribs { length ribs.now.rows ≡ length given.now.network.now }
+    requires number { IsNumbered ribs.now.prefixes of.now }
     requires router { router.0 < length given.now.network.now }
     requires few { length process.now.neighbors.items + (length process.now.networks.items
         + length process.now.aggregates.items) < 2 ^ 32 }
@@ -54,19 +56,19 @@ fn chosen_by(
         ≡ Some (process_view process.now) }
     requires formed { IsProcess (process_view process.now) }
     ensures chosen { IfOk result (λ chosen. chosen.items ≡ chosen_by (process_view process.now)
-        (candidates_at given.now.network.now given.now.base.now given.now.sessions.now table.now
-        router.0 (process_view process.now) prefix)) }
-    ensures own { IfOk result (λ chosen. All (λ x. x.route.prefix ≡ prefix) chosen.items) }
+        (candidates_at given.now.network.now given.now.base.now given.now.sessions.now ribs.now.rows
+        router.0 (process_view process.now) of.now.prefix)) }
+    ensures own { IfOk result (λ chosen. All (λ x. x.route.prefix ≡ of.now.prefix) chosen.items) }
     ensures few { IfOk result (λ chosen. length chosen.items ≤ MULTIPATH_LIMIT) }
 {
-    let told = candidates(alloc, given, table, router, process, prefix)?;
+    let told = candidates(alloc, given, ribs, router, process, of)?;
     let places = choose(alloc, &told, process.max_paths, process.relax)?;
     let chosen = made_at(alloc, &told, &places)?;
     Ok(chosen)
 }
 
 /// What a router chooses of a prefix, best first, given what is chosen now: of its networks that
-/// have a row in its base table, of its aggregates that are active, and of what it learns from its
+/// have a row in its base ribs, of its aggregates that are active, and of what it learns from its
 /// neighbors. Each table has a list for each router of the network, which has the router.
 ///
 /// # Errors
@@ -75,23 +77,24 @@ fn chosen_by(
 pub fn chosen_anew(
     alloc: Global,
     given: &Given<'_>,
-    table: &BgpTable,
+    ribs: &LocRibs,
     router: RouterId,
-    prefix: Prefix,
+    of: &Numbered,
 ) -> Result<Vec<Chosen>, AllocError>
     requires given { AreGiven given.now }
-    requires table { length table.now ≡ length given.now.network.now }
+    requires ribs { length ribs.now.rows ≡ length given.now.network.now }
+    requires number { IsNumbered ribs.now.prefixes of.now }
     requires router { router.0 < length given.now.network.now }
     ensures chosen { IfOk result (λ chosen. chosen.items
-        ≡ chosen_anew given.now.network.now given.now.base.now given.now.sessions.now table.now
-        router.0 prefix) }
-    ensures own { IfOk result (λ chosen. All (λ x. x.route.prefix ≡ prefix) chosen.items) }
+        ≡ chosen_anew given.now.network.now given.now.base.now given.now.sessions.now ribs.now.rows
+        router.0 of.now.prefix) }
+    ensures own { IfOk result (λ chosen. All (λ x. x.route.prefix ≡ of.now.prefix) chosen.items) }
     ensures few { IfOk result (λ chosen. length chosen.items ≤ MULTIPATH_LIMIT) }
 {
     let _count = given.network.element_count();
     let Some(process) = &given.network.routers()[router.0 as usize].process else {
         return Ok(Vec::new(alloc));
     };
-    let chosen = chosen_by(alloc, given, table, router, process, prefix)?;
+    let chosen = chosen_by(alloc, given, ribs, router, process, of)?;
     Ok(chosen)
 }

@@ -1,10 +1,11 @@
 //! What neighbors say now, that may change what is chosen.
 
-ghost use Rattle.std.specs.Prelude.{◌≡◌, ◌<◌, ◌++◌, filter, length, not, true, IfSome, OnOk, Some};
+ghost use Rattle.std.specs.Prelude.{◌≡◌, ◌<◌, ◌++◌, All, filter, length, map, not, true, IfSome, OnOk, Some};
 ghost use Rattle.std.specs.List.{list_any};
 ghost use Rattle.std.specs.Option.{option_map, option_map_or};
 ghost use Rattle.nc_types.specs.Config.{ProcessView, process_view};
 ghost use Rattle.nc_tables.specs.Choice.{is_learnt};
+ghost use Rattle.nc_tables.specs.LocRibs.{IsNumbered};
 ghost use Rattle.nc_tables.specs.Rounds.{entry_at, link_at};
 ghost use Rattle.nc_sessions.specs.Views.{link_view};
 ghost use Rattle.nc_message.specs.Given.{AreGiven, IsBetween};
@@ -13,11 +14,11 @@ ghost use Rattle.nc_message.specs.Idle.{is_beaten, is_from, is_idle, IsOutdone};
 use crate::compared::Compared;
 use crate::given::{Given, link_of};
 use crate::links::Heard;
-use crate::messages::best_at;
+use crate::rows::best_of;
 use crate::told::{Told, told_at};
 use nc_select::{is_equal_to, preference_cmp};
 use nc_sessions::Link;
-use nc_tables::{BgpFrom, BgpTable, Chosen};
+use nc_tables::{BgpFrom, Chosen, LocRibs, Numbered};
 use nc_types::{DEFAULT_PREFERENCE, Prefix, Process, RouterId};
 use std::alloc::AllocError;
 
@@ -82,26 +83,27 @@ fn is_beaten(process: &Process, best: &Chosen, told: &Told<'_>) -> bool
 // it, or what the best candidate beats.
 fn is_in_vain(
     given: &Given<'_>,
-    table: &BgpTable,
+    ribs: &LocRibs,
     router: RouterId,
     place: u32,
     heard: &Option<Heard<'_>>,
     best: &Chosen,
-    prefix: Prefix,
+    of: Numbered,
 ) -> bool
-    requires table { length table.now ≡ length given.now.network.now }
+    requires ribs { length ribs.now.rows ≡ length given.now.network.now }
+    requires number { IsNumbered ribs.now.prefixes of }
     requires heard { option_map (λ h. link_view h.link) heard.now
         ≡ link_at given.now.network.now given.now.sessions.now router.0 place }
     requires between { IfSome heard.now
         (λ h. IsBetween given.now.network.now router.0 (link_view h.link)) }
     ensures { result ≡ true → (p : ProcessView) → option_map_or (is_beaten p best.now)
-        (entry_at given.now.network.now given.now.base.now given.now.sessions.now table.now router.0
-        place prefix) true ≡ true }
+        (entry_at given.now.network.now given.now.base.now given.now.sessions.now ribs.now.rows router.0
+        place of.prefix) true ≡ true }
 {
     let Some(heard) = heard else {
         return true;
     };
-    match best_at(table, heard.link.session.peer, prefix) {
+    match best_of(ribs, heard.link.session.peer, of) {
         None => true,
         Some(sent) => is_outdone(best, &heard.link, sent),
     }
@@ -111,25 +113,26 @@ fn is_in_vain(
 // session these are the ends, leaves what stands chosen as it is: something stands chosen, nothing
 // of it comes from the neighbor, and the neighbor's message isn't accepted, or the best that stands
 // beats what is learnt from it.
-fn is_idle(
-    given: &Given<'_>,
-    table: &BgpTable,
+fn is_idle<'a>(
+    given: &Given<'a>,
+    ribs: &'a LocRibs,
     router: RouterId,
     place: u32,
     heard: &Option<Heard<'_>>,
-    prefix: Prefix,
+    of: &Numbered,
 ) -> bool
     requires given { AreGiven given.now }
-    requires table { length table.now ≡ length given.now.network.now }
+    requires ribs { length ribs.now.rows ≡ length given.now.network.now }
     requires router { router.0 < length given.now.network.now }
+    requires number { IsNumbered ribs.now.prefixes of.now }
     requires heard { option_map (λ h. link_view h.link) heard.now
         ≡ link_at given.now.network.now given.now.sessions.now router.0 place }
     requires between { IfSome heard.now
         (λ h. IsBetween given.now.network.now router.0 (link_view h.link)) }
     ensures { result ≡ is_idle given.now.network.now given.now.base.now given.now.sessions.now
-        table.now router.0 place prefix }
+        ribs.now.rows router.0 place of.now.prefix }
 {
-    let chosen = table.chosen(router, prefix);
+    let chosen = ribs.chosen(router, *of);
     let Some(best) = chosen.first() else {
         return false;
     };
@@ -139,10 +142,10 @@ fn is_idle(
     let Some(process) = &given.network.routers()[router.0 as usize].process else {
         return false;
     };
-    if is_in_vain(given, table, router, place, heard, best, prefix) {
+    if is_in_vain(given, ribs, router, place, heard, best, *of) {
         return true;
     }
-    match told_at(given, table, router, place, prefix) {
+    match told_at(given, ribs, router, place, *of) {
         None => true,
         Some(told) => is_beaten(process, best, &told),
     }
@@ -156,25 +159,26 @@ fn is_idle(
 /// # Errors
 ///
 /// Memory that runs out; no more of it is taken than the list needs.
-pub fn add_counting(
+pub fn add_counting<'a>(
     prefixes: &mut Vec<Prefix>,
-    given: &Given<'_>,
-    table: &BgpTable,
+    given: &Given<'a>,
+    ribs: &'a LocRibs,
     router: RouterId,
     place: u32,
-    changed: &[Prefix],
+    changed: &[Numbered],
 ) -> Result<(), AllocError>
     requires given { AreGiven given.now }
-    requires table { length table.now ≡ length given.now.network.now }
+    requires ribs { length ribs.now.rows ≡ length given.now.network.now }
     requires router { router.0 < length given.now.network.now }
+    requires numbers { All (IsNumbered ribs.now.prefixes) changed.now }
     ensures { OnOk result (prefixes.new.items ≡ prefixes.old.items
         ++ filter (λ p. not (is_idle given.now.network.now given.now.base.now
-        given.now.sessions.now table.now router.0 place p)) changed.now) }
+        given.now.sessions.now ribs.now.rows router.0 place p)) (map (λ n. n.prefix) changed.now)) }
 {
     let heard = link_of(given, router, place);
-    'changed: for prefix in changed {
-        if !is_idle(given, table, router, place, &heard, *prefix) {
-            prefixes.push(*prefix)?;
+    'changed: for of in changed {
+        if !is_idle(given, ribs, router, place, &heard, of) {
+            prefixes.push(of.prefix)?;
         }
     }
     Ok(())

@@ -16,7 +16,6 @@ mod accepting;
 mod candidates;
 mod choosing;
 mod compared;
-mod entries;
 mod given;
 mod idle;
 mod learnt;
@@ -27,7 +26,6 @@ mod told;
 
 pub use accepting::{Taken, accepted_at, next_hop};
 pub use choosing::chosen_anew;
-pub use entries::entry;
 pub use given::Given;
 pub use idle::add_counting;
 pub use links::{Heard, Links, Sender};

@@ -30,8 +30,8 @@ pub struct Sent<'a> {
     pub out: Passing<'a>,
 }
 
-/// The best candidate that a router has chosen of a prefix.
-pub(crate) fn best_at(table: &BgpTable, router: RouterId, prefix: Prefix) -> Option<&Chosen>
+// The best candidate that a router has chosen of a prefix.
+fn best_at(table: &BgpTable, router: RouterId, prefix: Prefix) -> Option<&Chosen>
     requires { router.0 < length table.now }
     ensures best { option_map (λ b. b.now) result ≡ best_at table.now router.0 prefix }
     ensures own { IfSome result (λ b. b.now.route.prefix ≡ prefix) }
@@ -119,8 +119,12 @@ pub(crate) fn carried<'a>(sent: &Sent<'a>) -> Held<'a>
     sent.out.communities(&sent.best.route.communities)
 }
 
-// The message over a session of the sender's best candidate.
-fn message_of<'a>(given: &Given<'a>, heard: Heard<'a>, best: &'a Chosen) -> Option<Sent<'a>>
+/// The message over a session of the sender's best candidate.
+pub(crate) fn message_of<'a>(
+    given: &Given<'a>,
+    heard: Heard<'a>,
+    best: &'a Chosen,
+) -> Option<Sent<'a>>
     requires given { AreGiven given.now }
     requires sender { slice_get given.now.network.now heard.link.session.peer.0
         ≡ Some (link_view heard.link).sender.config }

@@ -1,14 +1,17 @@
 //! What tables and interfaces say of a prefix or an address.
 
-ghost use Rattle.std.specs.Prelude.{◌≡◌, ◌<◌, length};
+ghost use Rattle.std.specs.Prelude.{◌≡◌, ◌<◌, IfSome, length};
 ghost use Rattle.std.specs.List.{list_any};
+ghost use Rattle.std.specs.Option.{option_map};
 ghost use Rattle.nc_tables.specs.Base.{is_own, same_prefix};
+ghost use Rattle.nc_tables.specs.LocRibs.{IsNumbered};
 ghost use Rattle.nc_tables.specs.Reach.{rows_of};
+ghost use Rattle.nc_tables.specs.Rounds.{best_at};
 ghost use Rattle.nc_sessions.specs.Views.{link_view};
 ghost use Rattle.nc_message.specs.Given.{IsBetween};
 
 use nc_sessions::Link;
-use nc_tables::BaseTables;
+use nc_tables::{BaseTables, Chosen, LocRibs, Numbered};
 use nc_types::{Addr, Network, Prefix, RouterId};
 use nc_underlay::own_interface;
 
@@ -28,4 +31,14 @@ pub(crate) fn is_own(network: &Network, router: RouterId, link: &Link, addr: Add
     ensures { result ≡ is_own (link_view link.now).receiver.config.interfaces addr.0 }
 {
     own_interface(network, router, addr).is_some()
+}
+
+/// The best candidate that a router has chosen of a prefix, while the network settles.
+pub(crate) fn best_of(ribs: &LocRibs, router: RouterId, of: Numbered) -> Option<&Chosen>
+    requires router { router.0 < length ribs.now.rows }
+    requires number { IsNumbered ribs.now.prefixes of }
+    ensures best { option_map (λ b. b.now) result ≡ best_at ribs.now.rows router.0 of.prefix }
+    ensures own { IfSome result (λ b. b.now.route.prefix ≡ of.prefix) }
+{
+    ribs.chosen(router, of).first()
 }

@@ -2,15 +2,17 @@
 
 ghost use Rattle.std.specs.Prelude.{◌≡◌, length, IfOk, IfSome};
 ghost use Rattle.std.specs.Str.{bytes_eq};
+ghost use Rattle.nc_tables.specs.LocRibs.{IsNumbered};
 ghost use Rattle.nc_tables.specs.Rounds.{begun, entry_at, learnt_from};
 ghost use Rattle.nc_message.specs.Given.{AreGiven};
 ghost use Rattle.nc_message.specs.Views.{taken_view, HasId, IsTaken};
 
-use crate::accepting::{Taken, accepted_at};
-use crate::given::Given;
+use crate::accepting::{Taken, accepted_over};
+use crate::given::{Given, link_of};
 use crate::learnt::{Walk, learnt_from, length_of, metric_of, origin_of, preference_of, sender_id};
+use crate::rows::best_of;
 use nc_select::Candidate;
-use nc_tables::{BgpFrom, BgpTable, Chosen, Path, Route};
+use nc_tables::{BgpFrom, Chosen, LocRibs, Numbered, Path, Route};
 use nc_types::{Addr, Communities, DEFAULT_PREFERENCE, OriginCode, Prefix, RouterId};
 use std::alloc::{AllocError, Global};
 use std::marker::Model;
@@ -188,22 +190,25 @@ impl<'a> Candidate for Told<'a> {
     }
 }
 
-/// The candidate of a prefix that a router learns by the neighbor statement at a place, given the
-/// table of what is chosen now, which has a list for each router; `None` where nothing is accepted,
-/// as [`accepted_at`] tells it. Takes no memory.
+/// The candidate of a prefix that a router learns by the neighbor statement at a place, given what is
+/// chosen now by each router; `None` where nothing is accepted, as [`crate::accepted_at`] tells it.
+/// Takes no memory.
 pub(crate) fn told_at<'a>(
     given: &Given<'a>,
-    table: &'a BgpTable,
+    ribs: &'a LocRibs,
     router: RouterId,
     place: u32,
-    prefix: Prefix,
+    of: Numbered,
 ) -> Option<Told<'a>>
     requires given { AreGiven given.now }
-    requires table { length table.now ≡ length given.now.network.now }
+    requires ribs { length ribs.now.rows ≡ length given.now.network.now }
+    requires number { IsNumbered ribs.now.prefixes of }
     ensures told { result ≡ entry_at given.now.network.now given.now.base.now
-        given.now.sessions.now table.now router.0 place prefix }
-    ensures own { IfSome result (λ x. x.route.prefix ≡ prefix) }
+        given.now.sessions.now ribs.now.rows router.0 place of.prefix }
+    ensures own { IfSome result (λ x. x.route.prefix ≡ of.prefix) }
 {
-    let taken = accepted_at(given, table, router, place, prefix)?;
+    let heard = link_of(given, router, place)?;
+    let best = best_of(ribs, heard.link.session.peer, of)?;
+    let taken = accepted_over(given, router, heard, best)?;
     Some(Told::learnt(place, taken))
 }

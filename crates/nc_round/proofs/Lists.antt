@@ -1,5 +1,5 @@
 -- Lists: what is decided of their members, and pairs of what is made of their items.
-use Rattle.std.proofs.Common.{◌≡◌, ◌⊎◌, ℕ, ◌<◌, ◌≤◌, Bool, true, false, List, [], ◌∷◌, length, map, get_or, All, Option, Some, None, refl, sym, ap, subst, ◌∙◌, arith, inl, inr}
+use Rattle.std.proofs.Common.{◌≡◌, ◌⊎◌, ℕ, ◌<◌, ◌≤◌, Bool, true, false, ◌||◌, List, [], ◌∷◌, length, map, get_or, All, Option, Some, None, refl, sym, ap, subst, ◌∙◌, arith, inl, inr}
 use Rattle.std.specs.List.{AllPairs, cons_option, filter_map, flat_map, list_any, range_with_len}
 use Rattle.std.proofs.lemmas.Bool.{cases_lt}
 use Rattle.std.proofs.lemmas.List.{get_or_past}
@@ -72,3 +72,8 @@ module _ {X Y : Type 0} where
   pairs_over R f [] pairs = λ i j d less lt. absurd (omega arith)
   pairs_over R f (x ∷ xs) pairs =
       pairs_cons R (f x) (map f xs) (all_over (R (f x)) f xs (pairs_head (λ (a b : X). R (f a) (f b)) x xs pairs)) (pairs_over R f xs (pairs_tail (λ (a b : X). R (f a) (f b)) x xs pairs))
+
+-- whether a test passes something made of one of some items
+pub any_map : {X Y : Type 0} (test : Y → Bool) (f : X → Y) (xs : List X) → list_any test (map f xs) ≡ list_any (λ x. test (f x)) xs
+any_map test f [] = refl
+any_map test f (x ∷ xs) = ap (λ (b : Bool). test (f x) || b) (any_map test f xs)

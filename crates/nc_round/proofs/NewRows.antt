@@ -11,7 +11,8 @@ use Rattle.nc_types.proofs.Members.{In, in_left, in_right, in_map, in_by_contain
 use Rattle.nc_types.proofs.Sameness.{same_prefix_is}
 use Rattle.nc_tables.specs.declared.bgp.Chosen.{Chosen}
 use Rattle.nc_tables.specs.Base.{prefix_cmp}
-use Rattle.nc_tables.specs.Rounds.{BgpRowView, AreBgpRows, chosen_in, chosen_at, chosen_anew, prefixes}
+use Rattle.nc_tables.specs.LocRibs.{AreChosen}
+use Rattle.nc_tables.specs.Rounds.{BgpRowView, chosen_in, chosen_at, chosen_anew, prefixes}
 use Rattle.nc_tables.specs.Settling.{same_list, same_candidate}
 use Rattle.nc_tables.proofs.ByPrefix.{same_itself}
 use Rattle.nc_tables.proofs.InOrder.{same_rows}
@@ -174,13 +175,13 @@ module _ (i : Given) (table : List (List BgpRowView)) (keys : List Key) (enough 
   }
 
   -- a table that has everywhere what the next one has is the next one
-  pub is_next : (new : List (List BgpRowView)) → length new ≡ length table → All AreBgpRows new → ((router : ℕ) (p : Cidr) → chosen_at new router p ≡ target router p) → new ≡ next i table
+  pub is_next : (new : List (List BgpRowView)) → length new ≡ length table → All AreChosen new → ((router : ℕ) (p : Cidr) → chosen_at new router p ≡ target router p) → new ≡ next i table
   is_next new count rows same =
       same_lists new (next i table) (count ∙ enough.count ∙ sym (next_count i.network.now i.base.now i.sessions.now table)) at
     where
       at : (k : ℕ) (d : List BgpRowView) → k < length new → get_or new k d ≡ get_or (next i table) k d
       at k d lt =
-          let are : AreBgpRows (get_or new k d) = rows k d lt in
+          let are : AreChosen (get_or new k d) = rows k d lt in
           let mine : get_or new k d ≡ get_or new k [] = get_or_default new k d [] lt in
           let other : k < length (next i table) = subst (λ (n : ℕ). k < n) (count ∙ enough.count ∙ sym (next_count i.network.now i.base.now i.sessions.now table)) lt in
           same_rows (get_or new k d) (get_or (next i table) k d)

@@ -97,7 +97,7 @@ pairs_by_rises : {X : Type 0} (before : X → X → Type 0) (xs : List X) → Ri
 pairs_by_rises before [] r = λ i j d less lt. absurd (omega arith)
 pairs_by_rises before (x ∷ xs) r = pairs_cons before x xs (λ k d lt. r.0 (get_or xs k d) (in_at xs k d lt)) (pairs_by_rises before xs r.1)
 
-prefixes_up : (routers : List ConfigView) → AllPairs (λ p q. prefix_cmp p q ≡ Less) (prefixes routers)
+pub prefixes_up : (routers : List ConfigView) → AllPairs (λ p q. prefix_cmp p q ≡ Less) (prefixes routers)
 prefixes_up routers = pairs_by_rises (λ p q. prefix_cmp p q ≡ Less) (prefixes routers) (distinct_ascend (flat_map prefixes_in routers))
 
 pub in_prefixes : (routers : List ConfigView) (c : ConfigView) (p : Cidr) → In c routers → In p (prefixes_in c) → In p (prefixes routers)
@@ -213,6 +213,10 @@ module _ (routers : List ConfigView) (tables : List (List BaseRow)) (sessions : 
   next_inside router p lt i =
       ap (λ (rows : List BgpRowView). chosen_in rows p) (next_at router lt) ∙ found_anew (chosen_anew routers tables sessions table router) (prefixes routers) p (inl i)
 
+  -- of a prefix that no router begins nothing is chosen anew
+  pub unknown_anew : ((router : ℕ) (p : Cidr) → (In p (prefixes routers) → ⊥) → chosen_at table router p ≡ []) → (router : ℕ) (p : Cidr) → (In p (prefixes routers) → ⊥) → chosen_anew routers tables sessions table router p ≡ []
+  unknown_anew known router p none = nothing_anew router p (λ peer. known peer p none) (λ c e j. none (in_prefixes routers c p (in_by_get routers router c e) j))
+
   -- so is it of each prefix, where nothing else is chosen before
   pub next_chosen : ((router : ℕ) (p : Cidr) → (In p (prefixes routers) → ⊥) → chosen_at table router p ≡ []) → (router : ℕ) (p : Cidr) → router < length routers → chosen_at next router p ≡ chosen_anew routers tables sessions table router p
   next_chosen known router p lt =
@@ -221,4 +225,4 @@ module _ (routers : List ConfigView) (tables : List (List BaseRow)) (sessions : 
     where
       on : In p (prefixes routers) ⊎ (In p (prefixes routers) → ⊥) → In p (prefixes routers) ⊎ (chosen_anew routers tables sessions table router p ≡ [])
       on (inl i) = inl i
-      on (inr none) = inr (nothing_anew router p (λ peer. known peer p none) (λ c e j. none (in_prefixes routers c p (in_by_get routers router c e) j)))
+      on (inr none) = inr (unknown_anew known router p none)

@@ -11,7 +11,8 @@ use Rattle.nc_types.specs.declared.config.AggregateStatement.{AggregateStatement
 use Rattle.nc_types.proofs.Members.{In, in_left, in_right, in_either, in_map, in_by_map, in_by_get, in_by_contains, contains_by_in, all_in, all_by_in}
 use Rattle.nc_types.proofs.Sameness.{same_prefix_is}
 use Rattle.nc_tables.specs.declared.bgp.SessionRow.{SessionRow}
-use Rattle.nc_tables.specs.Rounds.{BgpRowView, AreBgpRows, chosen_in, chosen_at, is_longer_in, session_by, entry_at, chosen_anew, prefixes_in, prefixes, no_routes}
+use Rattle.nc_tables.specs.LocRibs.{AreChosen}
+use Rattle.nc_tables.specs.Rounds.{BgpRowView, chosen_in, chosen_at, is_longer_in, session_by, entry_at, chosen_anew, prefixes_in, prefixes, no_routes}
 use Rattle.nc_tables.specs.Sessions.{process_of}
 use Rattle.nc_tables.proofs.ByPrefix.{same_itself}
 use Rattle.nc_message.specs.declared.given.Given.{Given}
@@ -59,7 +60,7 @@ uses_one routers formed router p e = on (slice_get routers router) refl e
 -- ---- what changed
 
 module _ (i : Given) (before table : List (List BgpRowView)) (changed rows : List Key)
-    (are : AreGiven i) (formed : All IsWellFormed i.network.now) (rows_table : All AreBgpRows table) (made : IsRoundOf i.network.now i.base.now i.sessions.now before table changed) where
+    (are : AreGiven i) (formed : All IsWellFormed i.network.now) (rows_table : All AreChosen table) (made : IsRoundOf i.network.now i.base.now i.sessions.now before table changed) where
   abbrev routers : List ConfigView
   routers = i.network.now
 

@@ -1,4 +1,5 @@
 pub mod Keys
+pub mod Rows
 pub mod Given
 pub mod Waking
 pub mod Changes

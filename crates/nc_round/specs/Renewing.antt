@@ -3,6 +3,7 @@ use Rattle.std.specs.Prelude.{◌≡◌, ℕ, ◌<◌, ◌≤◌, List, [], Opti
 use Rattle.nc_types.specs.declared.TheConstants.{MULTIPATH_LIMIT}
 use Rattle.nc_types.specs.Cidr.{Cidr}
 use Rattle.nc_tables.specs.declared.bgp.Chosen.{Chosen}
+use Rattle.nc_tables.specs.LocRibs.{IsNumbered}
 use Rattle.nc_tables.specs.Rounds.{BgpRowView, chosen_at, chosen_anew, prefixes}
 use Rattle.nc_tables.specs.Settling.{same_list, same_candidate}
 use Rattle.nc_message.specs.declared.given.Given.{Given}
@@ -16,12 +17,13 @@ pub record RowChange : Type 0 where
   pub chosen : List Chosen
 
 abbrev pub row_change : NewRow → RowChange
-row_change n = record { key = (n.router, n.prefix); chosen = n.chosen.items }
+row_change n = record { key = (n.router, n.of.prefix); chosen = n.chosen.items }
 
--- the candidates are of the prefix, and no more than are used at once; the router is one of so many
-pub record IsNew (count : ℕ) (n : NewRow) : Type 0 where
+-- the candidates are of the prefix, which has its number among these, and no more than are used at once; the router is one of so many
+pub record IsNew (count : ℕ) (prefixes : List Cidr) (n : NewRow) : Type 0 where
   pub router : n.router.0 < count
-  pub own : All (λ x. x.route.prefix ≡ n.prefix) n.chosen.items
+  pub number : IsNumbered prefixes n.of
+  pub own : All (λ x. x.route.prefix ≡ n.of.prefix) n.chosen.items
   pub few : length n.chosen.items ≤ MULTIPATH_LIMIT
 
 -- what is chosen anew of a row, if it differs

@@ -1,6 +1,7 @@
 //! Rounds of BGP, and the table that no round changes.
 //!
-//! A round makes the rows of the next table from the candidates that come from this one. Only
+//! A round makes the rows of the next table from the candidates that come from this one. Prefixes
+//! that any router begins are numbered once, and what a router chooses is found by the number. Only
 //! rows are made anew that may differ: those of a prefix at the routers that hear of a row of it
 //! that changed, and those of the aggregates around such a row. Each router looks at what changed at
 //! the peers of its sessions, and a row stays as it is where what is told of it now isn't accepted or

@@ -1,10 +1,10 @@
-use nc_tables::Chosen;
-use nc_types::{Prefix, RouterId};
+use nc_tables::{Chosen, Numbered};
+use nc_types::RouterId;
 
 /// What is chosen anew of a prefix at a router, where it differs.
 #[derive(Drop)]
 pub(crate) struct NewRow {
     pub(crate) router: RouterId,
-    pub(crate) prefix: Prefix,
+    pub(crate) of: Numbered,
     pub(crate) chosen: Vec<Chosen>,
 }

@@ -4,16 +4,18 @@ ghost use Rattle.std.specs.Prelude.{◌≡◌, ◌↔◌, ◌<◌, ◌++◌, ℕ
 ghost use Rattle.std.specs.List.{cons_option, filter_map};
 ghost use Rattle.nc_types.specs.Cidr.{Cidr};
 ghost use Rattle.nc_tables.specs.declared.bgp.Chosen.{Chosen};
-ghost use Rattle.nc_tables.specs.Rounds.{chosen_at};
+ghost use Rattle.nc_tables.specs.LocRibs.{IsNumbered};
+ghost use Rattle.nc_tables.specs.Rounds.{chosen_at, prefixes};
 ghost use Rattle.nc_message.specs.Given.{AreGiven};
 ghost use Rattle.nc_round.specs.Given.{next};
 ghost use Rattle.nc_round.specs.Changes.{IsDifference};
-ghost use Rattle.nc_round.specs.Renewing.{row_change, change_at, AreEnough, IsNew, Leads};
+ghost use Rattle.nc_round.specs.Rows.{row_key, AreRows};
+ghost use Rattle.nc_round.specs.Renewing.{row_change, change_at, AreEnough, IsKnown, IsNew, Leads};
 
-use crate::changed::Changed;
+use crate::changed::{Changed, ChangedRow};
 use crate::new_row::NewRow;
 use nc_message::{Given, chosen_anew};
-use nc_tables::{BgpTable, Chosen, same_candidate};
+use nc_tables::{Chosen, LocRibs, Numbered, same_candidate};
 use nc_types::{Prefix, RouterId};
 use std::alloc::{AllocError, Global};
 
@@ -32,80 +34,114 @@ fn same_chosen(a: &[Chosen], b: &[Chosen]) -> bool
     true
 }
 
-// Adds what is chosen anew of a row, if it differs.
-fn add_new(
+// Adds what is chosen anew of a prefix at a router, if it differs.
+fn add_of(
     alloc: Global,
     news: &mut Vec<NewRow>,
     given: Given<'_>,
-    table: &BgpTable,
-    row: (RouterId, Prefix),
+    ribs: &LocRibs,
+    router: RouterId,
+    of: &Numbered,
 ) -> Result<(), AllocError>
     requires given { AreGiven given }
-    requires table { length table.now ≡ length given.network.now }
-    requires router { row.0.0 < length given.network.now }
-    requires news { All (IsNew (length given.network.now)) news.old.items }
+    requires ribs { length ribs.now.rows ≡ length given.network.now }
+    requires number { IsNumbered ribs.now.prefixes of.now }
+    requires router { router.0 < length given.network.now }
+    requires news { All (IsNew (length given.network.now) ribs.now.prefixes) news.old.items }
     ensures rows { OnOk result (map row_change news.new.items ≡ map row_change news.old.items
-        ++ cons_option (change_at given.entry table.now row) []) }
-    ensures news { All (IsNew (length given.entry.network.now)) news.new.items }
+        ++ cons_option (change_at given.entry ribs.now.rows (router, of.now.prefix)) []) }
+    ensures news { All (IsNew (length given.entry.network.now) ribs.now.prefixes) news.new.items }
 {
-    let (router, prefix) = row;
-    let chosen = chosen_anew(alloc, &given, table, router, prefix)?;
-    if same_chosen(&chosen, table.chosen(router, prefix)) {
+    let chosen = chosen_anew(alloc, &given, ribs, router, of)?;
+    if same_chosen(&chosen, ribs.chosen(router, *of)) {
         return Ok(());
     }
     news.push(NewRow {
         router,
-        prefix,
+        of: *of,
         chosen,
     })?;
     Ok(())
+}
+
+// Adds what is chosen anew of a row, if it differs. Of a prefix that no router begins nothing is.
+fn add_new(
+    alloc: Global,
+    news: &mut Vec<NewRow>,
+    given: Given<'_>,
+    ribs: &LocRibs,
+    row: (RouterId, Prefix),
+) -> Result<(), AllocError>
+    requires given { AreGiven given }
+    requires ribs { length ribs.now.rows ≡ length given.network.now }
+    requires prefixes { ribs.now.prefixes ≡ prefixes given.network.now }
+    requires known { IsKnown given ribs.now.rows }
+    requires router { row.0.0 < length given.network.now }
+    requires news { All (IsNew (length given.network.now) ribs.now.prefixes) news.old.items }
+    ensures rows { OnOk result (map row_change news.new.items ≡ map row_change news.old.items
+        ++ cons_option (change_at given.entry ribs.now.rows row) []) }
+    ensures news { All (IsNew (length given.entry.network.now) ribs.now.prefixes) news.new.items }
+{
+    let (router, prefix) = row;
+    match ribs.numbered(prefix) {
+        Some(of) => add_of(alloc, news, given, ribs, router, &of),
+        None => Ok(()),
+    }
 }
 
 // What is chosen anew of rows, of each that differs.
 fn news_of(
     alloc: Global,
     given: Given<'_>,
-    table: &BgpTable,
+    ribs: &LocRibs,
     keys: &[(RouterId, Prefix)],
 ) -> Result<Vec<NewRow>, AllocError>
     requires given { AreGiven given }
-    requires table { length table.now ≡ length given.network.now }
+    requires ribs { length ribs.now.rows ≡ length given.network.now }
+    requires prefixes { ribs.now.prefixes ≡ prefixes given.network.now }
+    requires known { IsKnown given ribs.now.rows }
     requires keys { All (λ k. k.0.0 < length given.network.now) keys.now }
     ensures rows { IfOk result (λ news. map row_change news.items
-        ≡ filter_map (change_at given.entry table.now) keys.now) }
-    ensures news { IfOk result (λ news. All (IsNew (length given.entry.network.now)) news.items) }
+        ≡ filter_map (change_at given.entry ribs.now.rows) keys.now) }
+    ensures news { IfOk result
+        (λ news. All (IsNew (length given.entry.network.now) ribs.now.prefixes) news.items) }
 {
     let mut news = Vec::new(alloc);
     'keys: for row in keys {
-        add_new(alloc, &mut news, given, table, *row)?;
+        add_new(alloc, &mut news, given, ribs, *row)?;
     }
     Ok(news)
 }
 
 // Which rows these are.
-fn keys_of(alloc: Global, news: &[NewRow]) -> Result<Vec<(RouterId, Prefix)>, AllocError>
-    ensures { IfOk result (λ keys. keys.items ≡ map (λ n. (row_change n).key) news.now) }
+fn rows_of(alloc: Global, news: &[NewRow]) -> Result<Vec<ChangedRow>, AllocError>
+    ensures keys { IfOk result
+        (λ rows. map row_key rows.items ≡ map (λ n. (row_change n).key) news.now) }
+    ensures numbers { IfOk result (λ rows. (count : ℕ) (prefixes : List Cidr)
+        → All (IsNew count prefixes) news.now → AreRows prefixes rows.items) }
 {
-    let mut keys = Vec::new(alloc);
+    let mut rows = Vec::with_capacity(alloc, news.len())?;
     'news: for new in news {
-        keys.push((new.router, new.prefix))?;
+        rows.push(ChangedRow {
+            router: new.router,
+            of: new.of,
+        })?;
     }
-    Ok(keys)
+    Ok(rows)
 }
 
-// Puts new rows into a table, in order, so that rows behind others are added at the end.
-fn put_all(table: &mut BgpTable, mut news: Vec<NewRow>) -> Result<(), AllocError>
-    requires { All (IsNew (length table.old)) news.items }
-    ensures count { length table.new ≡ length table.old }
-    ensures leads { OnOk result ((target : ℕ → Cidr → List Chosen)
-        → Leads target table.old (map row_change news.items)
-        → (router : ℕ) (p : Cidr) → chosen_at table.new router p ≡ target router p) }
+// Puts what is chosen anew in its places.
+fn put_all(ribs: &mut LocRibs, mut news: Vec<NewRow>)
+    requires { All (IsNew (length ribs.old.rows) ribs.old.prefixes) news.items }
+    ensures prefixes { ribs.new.prefixes ≡ ribs.old.prefixes }
+    ensures count { length ribs.new.rows ≡ length ribs.old.rows }
+    ensures leads { (target : ℕ → Cidr → List Chosen)
+        → Leads target ribs.old.rows (map row_change news.items)
+        → (router : ℕ) (p : Cidr) → chosen_at ribs.new.rows router p ≡ target router p }
 {
-    news.reverse();
     'news: while let Some(new) = news.pop() {
-        table.put(new.router, new.prefix, new.chosen)?;
+        ribs.put(new.router, new.of, new.chosen);
     }
-    Ok(())
 }
 
 /// The next table and the rows in which it differs, where these are all rows that may differ. The
@@ -113,17 +149,21 @@ fn put_all(table: &mut BgpTable, mut news: Vec<NewRow>) -> Result<(), AllocError
 pub(crate) fn renew(
     alloc: Global,
     given: Given<'_>,
-    mut table: BgpTable,
+    mut ribs: LocRibs,
     keys: &[(RouterId, Prefix)],
-) -> Result<(BgpTable, Changed), AllocError>
+) -> Result<(LocRibs, Changed), AllocError>
     requires given { AreGiven given }
-    requires keys { AreEnough given table keys.now }
-    ensures table { IfOk result (λ r. r.0 ≡ next given.entry table) }
-    ensures changed { IfOk result (λ r. IsDifference table r.0 r.1.rows.items) }
+    requires prefixes { ribs.prefixes ≡ prefixes given.network.now }
+    requires keys { AreEnough given ribs.rows keys.now }
+    ensures prefixes { IfOk result (λ r. r.0.prefixes ≡ ribs.prefixes) }
+    ensures table { IfOk result (λ r. r.0.rows ≡ next given.entry ribs.rows) }
+    ensures changed { IfOk result
+        (λ r. IsDifference ribs.rows r.0.rows (map row_key r.1.rows.items)) }
+    ensures numbers { IfOk result (λ r. AreRows ribs.prefixes r.1.rows.items) }
 {
-    let news = news_of(alloc, given, &table, keys)?;
-    let rows = keys_of(alloc, &news)?;
-    put_all(&mut table, news)?;
-    let _count = table.count();
-    Ok((table, Changed { rows }))
+    let news = news_of(alloc, given, &ribs, keys)?;
+    let rows = rows_of(alloc, &news)?;
+    put_all(&mut ribs, news);
+    let _count = ribs.count();
+    Ok((ribs, Changed { rows }))
 }

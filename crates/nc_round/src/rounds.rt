@@ -1,28 +1,55 @@
-ghost use Rattle.std.specs.Prelude.{◌≡◌, List, IfOk, length};
-ghost use Rattle.nc_tables.specs.Rounds.{BgpRowView, no_routes};
+ghost use Rattle.std.specs.Prelude.{◌≡◌, List, IfOk, length, map};
+ghost use Rattle.nc_tables.specs.Rounds.{BgpRowView, no_routes, prefixes};
 ghost use Rattle.nc_message.specs.Given.{AreGiven};
 ghost use Rattle.nc_round.specs.Given.{next};
+ghost use Rattle.nc_round.specs.Keys.{Key};
+ghost use Rattle.nc_round.specs.Rows.{row_key, AreRows};
 ghost use Rattle.nc_round.specs.Changes.{IsDifference, IsRoundOf};
 
 use crate::changed::Changed;
 use crate::renewal::renew;
-use crate::waking::{begun_in_order, woken_in_order};
+use crate::waking::{begun, begun_in_order, woken_in_order};
+use nc_main_rib::in_order;
 use nc_message::Given;
-use nc_tables::BgpTable;
+use nc_tables::LocRibs;
+use nc_types::{Network, Prefix, RouterId};
 use std::alloc::{AllocError, Global};
+
+// The prefixes of rows.
+fn prefixes_of(alloc: Global, keys: &[(RouterId, Prefix)]) -> Result<Vec<Prefix>, AllocError>
+    ensures { IfOk result (λ prefixes. prefixes.items ≡ map (λ (k : Key). k.1) keys.now) }
+{
+    let prefixes = keys.iter().map(|key| key.1).collect(alloc)?;
+    Ok(prefixes)
+}
+
+// No route anywhere, of the prefixes that any router begins.
+fn none_chosen(alloc: Global, network: &Network) -> Result<LocRibs, AllocError>
+    ensures prefixes { IfOk result (λ ribs. ribs.prefixes ≡ prefixes network.now) }
+    ensures rows { IfOk result (λ ribs. ribs.rows ≡ no_routes network.now) }
+{
+    let keys = begun(alloc, network)?;
+    let all = prefixes_of(alloc, &keys)?;
+    let sorted = in_order(all)?;
+    let ribs = LocRibs::new(alloc, sorted, network.routers().len())?;
+    Ok(ribs)
+}
 
 /// The first round, from no route anywhere: the table that it makes, and the rows that it has.
 ///
 /// # Errors
 ///
 /// Memory that runs out.
-pub fn first_round(alloc: Global, given: Given<'_>) -> Result<(BgpTable, Changed), AllocError>
+pub fn first_round(alloc: Global, given: Given<'_>) -> Result<(LocRibs, Changed), AllocError>
     requires given { AreGiven given }
-    ensures table { IfOk result (λ r. r.0 ≡ next given.entry (no_routes given.entry.network.now)) }
-    ensures changed { IfOk result (λ r. IsDifference (no_routes given.entry.network.now) r.0
-        r.1.rows.items) }
+    ensures prefixes { IfOk result (λ r. r.0.prefixes ≡ prefixes given.entry.network.now) }
+    ensures table { IfOk result
+        (λ r. r.0.rows ≡ next given.entry (no_routes given.entry.network.now)) }
+    ensures changed { IfOk result (λ r. IsDifference (no_routes given.entry.network.now) r.0.rows
+        (map row_key r.1.rows.items)) }
+    ensures numbers { IfOk result (λ r. AreRows r.0.prefixes r.1.rows.items) }
 {
-    let none = BgpTable::without_routes(alloc, given.network)?;
+    let none = none_chosen(alloc, given.network)?;
     let keys = begun_in_order(alloc, given.network)?;
     let made = renew(alloc, given, none, &keys)?;
     Ok(made)
@@ -40,15 +67,20 @@ pub fn first_round(alloc: Global, given: Given<'_>) -> Result<(BgpTable, Changed
 pub fn round_changed(
     alloc: Global,
     given: Given<'_>,
-    old: BgpTable,
+    old: LocRibs,
     changed: Changed,
-) -> Result<(BgpTable, Changed), AllocError>
+) -> Result<(LocRibs, Changed), AllocError>
     requires given { AreGiven given }
+    requires prefixes { old.prefixes ≡ prefixes given.network.now }
     requires made { (before : List (List BgpRowView))
-        × IsRoundOf given.network.now given.base.now given.sessions.now before old
-        changed.rows.items }
-    ensures table { IfOk result (λ r. r.0 ≡ next given.entry old) }
-    ensures changed { IfOk result (λ r. IsDifference old r.0 r.1.rows.items) }
+        × IsRoundOf given.network.now given.base.now given.sessions.now before old.rows
+        (map row_key changed.rows.items) }
+    requires numbers { AreRows old.prefixes changed.rows.items }
+    ensures prefixes { IfOk result (λ r. r.0.prefixes ≡ old.prefixes) }
+    ensures table { IfOk result (λ r. r.0.rows ≡ next given.entry old.rows) }
+    ensures changed { IfOk result
+        (λ r. IsDifference old.rows r.0.rows (map row_key r.1.rows.items)) }
+    ensures numbers { IfOk result (λ r. AreRows old.prefixes r.1.rows.items) }
 {
     let _count = old.count();
     let _routers = given.network.routers();

@@ -26,16 +26,16 @@ pub fn settle_table(
     if rounds == 0 {
         return Ok(None);
     }
-    let (mut table, mut changed) = first_round(alloc, given)?;
+    let (mut ribs, mut changed) = first_round(alloc, given)?;
     'rounds: for _more in 0..rounds - 1 {
         if changed.rows.is_empty() {
-            return Ok(Some(table));
+            return Ok(Some(ribs.into_table(alloc)?));
         }
-        let next = round_changed(alloc, given, table, changed)?;
-        (table, changed) = next;
+        let next = round_changed(alloc, given, ribs, changed)?;
+        (ribs, changed) = next;
     }
     if changed.rows.is_empty() {
-        return Ok(Some(table));
+        return Ok(Some(ribs.into_table(alloc)?));
     }
     Ok(None)
 }

@@ -8,11 +8,13 @@ ghost use Rattle.nc_types.specs.Config.{config_view};
 ghost use Rattle.nc_tables.specs.Rounds.{is_longer_in, prefixes_in};
 ghost use Rattle.nc_message.specs.Given.{AreGiven};
 ghost use Rattle.nc_round.specs.Keys.{Key, key, AreInOrder};
+ghost use Rattle.nc_round.specs.Rows.{listed, prefixes_of, row_key, AreListed, AreRows};
 ghost use Rattle.nc_round.specs.Waking.{aggregates_of, begun_from, heard_over, woken_at, IsWoken};
 
 use crate::by_router::{by_router, changed_at};
+use crate::changed::ChangedRow;
 use nc_message::{Given, add_counting};
-use nc_tables::{BgpTable, SessionRow, is_longer_in};
+use nc_tables::{LocRibs, Numbered, SessionRow, is_longer_in};
 use nc_types::{AggregateStatement, Network, NetworkStatement, Prefix, RouterConfig, RouterId};
 use std::alloc::{AllocError, Global};
 
@@ -32,40 +34,42 @@ fn aggregates_of(network: &Network, router: RouterId) -> &[AggregateStatement]
 fn add_heard(
     prefixes: &mut Vec<Prefix>,
     given: &Given<'_>,
-    table: &BgpTable,
+    ribs: &LocRibs,
     router: RouterId,
     rows: &[SessionRow],
-    lists: &[Vec<Prefix>],
+    lists: &[Vec<Numbered>],
 ) -> Result<(), AllocError>
     requires given { AreGiven given.now }
-    requires table { length table.now ≡ length given.now.network.now }
+    requires ribs { length ribs.now.rows ≡ length given.now.network.now }
+    requires numbers { AreListed ribs.now.prefixes lists.now }
     requires router { router.0 < length given.now.network.now }
     ensures { OnOk result (prefixes.new.items ≡ prefixes.old.items
-        ++ flat_map (heard_over given.now table.now (map (λ l. l.items) lists.now) router.0)
+        ++ flat_map (heard_over given.now ribs.now.rows (listed lists.now) router.0)
         rows.now) }
 {
     'rows: for row in rows {
         let changed = changed_at(lists, row.peer);
-        add_counting(prefixes, given, table, router, row.neighbor, changed)?;
+        add_counting(prefixes, &*given, &*ribs, router, row.neighbor, changed)?;
     }
     Ok(())
 }
 
 // Whether one of some prefixes is a longer one inside another.
-fn has_inside(prefixes: &[Prefix], outer: Prefix) -> bool
-    ensures { result ≡ list_any (λ q. is_longer_in q outer) prefixes.now }
+fn has_inside(changed: &[Numbered], outer: Prefix) -> bool
+    ensures { result ≡ list_any (λ n. is_longer_in n.prefix outer) changed.now }
 {
-    prefixes.iter().any(|prefix| is_longer_in(*prefix, outer))
+    changed.iter().any(|of| is_longer_in(of.prefix, outer))
 }
 
 // Adds the prefixes of the aggregates around what changed at a router itself.
 fn add_around(
     prefixes: &mut Vec<Prefix>,
     aggregates: &[AggregateStatement],
-    changed: &[Prefix],
+    changed: &[Numbered],
 ) -> Result<(), AllocError>
     ensures { OnOk result (prefixes.new.items ≡ prefixes.old.items ++ map (λ a. a.prefix)
-        (filter (λ a. list_any (λ q. is_longer_in q a.prefix) changed.now) aggregates.now)) }
+        (filter (λ a. list_any (λ q. is_longer_in q a.prefix) (prefixes_of changed.now))
+        aggregates.now)) }
 {
     'aggregates: for aggregate in aggregates {
         if has_inside(changed, aggregate.prefix) {
@@ -104,24 +108,25 @@ fn wake(
     woken: &mut Vec<(RouterId, Prefix)>,
     noted: &mut Vec<Prefix>,
     given: &Given<'_>,
-    table: &BgpTable,
-    lists: &[Vec<Prefix>],
+    ribs: &LocRibs,
+    lists: &[Vec<Numbered>],
     router: RouterId,
 ) -> Result<(), AllocError>
     requires given { AreGiven given.now }
-    requires table { length table.now ≡ length given.now.network.now }
+    requires ribs { length ribs.now.rows ≡ length given.now.network.now }
+    requires numbers { AreListed ribs.now.prefixes lists.now }
     requires router { router.0 < length given.now.network.now }
     ensures kept { OnOk result ((k : Key) → Contains woken.old.items k
         → Contains woken.new.items k) }
-    ensures woken { OnOk result ((p : Cidr) → Contains (woken_at given.now table.now
-        (map (λ l. l.items) lists.now) router.0) p → Contains woken.new.items (router, p)) }
+    ensures woken { OnOk result ((p : Cidr) → Contains (woken_at given.now ribs.now.rows
+        (listed lists.now) router.0) p → Contains woken.new.items (router, p)) }
     ensures within { OnOk result ((n : ℕ) → router.0 < n
         → All (λ k. k.0.0 < n) woken.old.items → All (λ k. k.0.0 < n) woken.new.items) }
 {
     let rows = given.sessions.rows(router);
     let aggregates = aggregates_of(given.network, router);
     noted.clear();
-    add_heard(noted, given, table, router, rows, lists)?;
+    add_heard(noted, given, ribs, router, rows, lists)?;
     add_around(noted, aggregates, changed_at(lists, router))?;
     keep_once(noted);
     wake_each(woken, router, noted)?;
@@ -132,14 +137,15 @@ fn wake(
 fn woken(
     alloc: Global,
     given: &Given<'_>,
-    table: &BgpTable,
-    lists: &[Vec<Prefix>],
+    ribs: &LocRibs,
+    lists: &[Vec<Numbered>],
 ) -> Result<Vec<(RouterId, Prefix)>, AllocError>
     requires given { AreGiven given.now }
-    requires table { length table.now ≡ length given.now.network.now }
+    requires ribs { length ribs.now.rows ≡ length given.now.network.now }
+    requires numbers { AreListed ribs.now.prefixes lists.now }
     ensures woken { IfOk result (λ keys. (router : ℕ) (p : Cidr)
         → router < length given.now.network.now
-        → Contains (woken_at given.now table.now (map (λ l. l.items) lists.now) router) p
+        → Contains (woken_at given.now ribs.now.rows (listed lists.now) router) p
         → Contains keys.items (key router p)) }
     ensures within { IfOk result (λ keys.
         All (λ k. k.0.0 < length given.now.network.now) keys.items) }
@@ -148,7 +154,7 @@ fn woken(
     let mut noted = Vec::new(alloc);
     'routers: for router in 0..given.network.routers().len() {
         let router = RouterId(router as u32);
-        wake(&mut keys, &mut noted, given, table, lists, router)?;
+        wake(&mut keys, &mut noted, given, ribs, lists, router)?;
     }
     Ok(keys)
 }
@@ -167,22 +173,23 @@ fn in_order(mut keys: Vec<(RouterId, Prefix)>) -> Vec<(RouterId, Prefix)>
 pub(crate) fn woken_in_order(
     alloc: Global,
     given: &Given<'_>,
-    table: &BgpTable,
-    changed: &[(RouterId, Prefix)],
+    ribs: &LocRibs,
+    changed: &[ChangedRow],
 ) -> Result<Vec<(RouterId, Prefix)>, AllocError>
     requires given { AreGiven given.now }
-    requires table { length table.now ≡ length given.now.network.now }
+    requires ribs { length ribs.now.rows ≡ length given.now.network.now }
+    requires numbers { AreRows ribs.now.prefixes changed.now }
     ensures ordered { IfOk result (λ keys. AreInOrder keys.items) }
     ensures woken { IfOk result (λ keys. (router : ℕ) (p : Cidr)
         → router < length given.now.network.now
-        → (All (λ k. k.0.0 < length given.now.network.now) changed.now)
-        → IsWoken given.now table.now changed.now router p
+        → (All (λ k. k.0.0 < length given.now.network.now) (map row_key changed.now))
+        → IsWoken given.now ribs.now.rows (map row_key changed.now) router p
         → Contains keys.items (key router p)) }
     ensures within { IfOk result (λ keys.
         All (λ k. k.0.0 < length given.now.network.now) keys.items) }
 {
     let lists = by_router(alloc, given.network.routers().len(), changed)?;
-    let keys = woken(alloc, given, table, &lists)?;
+    let keys = woken(alloc, given, ribs, &lists)?;
     Ok(in_order(keys))
 }
 
@@ -235,8 +242,8 @@ fn wake_begun(
     }
 }
 
-// The rows of the prefixes that each router begins itself.
-fn begun(alloc: Global, network: &Network) -> Result<Vec<(RouterId, Prefix)>, AllocError>
+/// The rows of the prefixes that each router begins itself.
+pub(crate) fn begun(alloc: Global, network: &Network) -> Result<Vec<(RouterId, Prefix)>, AllocError>
     ensures { IfOk result (λ begun. begun.items ≡ begun_from 0 network.now) }
 {
     let mut woken = Vec::new(alloc);

@@ -1,18 +1,17 @@
--- Rows of BGP in order: in two lists of them the same is found exactly where they are the same, and putting one keeps them in order.
-use Rattle.std.proofs.Common.{◌≡◌, ◌<◌, ◌≤◌, Bool, true, false, cond, List, [], ◌∷◌, length, get_or, All, Some, Option, refl, sym, ap, subst, ◌∙◌, arith}
+-- Rows of BGP in order: in two lists of them the same is found exactly where they are the same, and one before others keeps them in order.
+use Rattle.std.proofs.Common.{◌≡◌, ◌<◌, Bool, true, false, cond, List, [], ◌∷◌, length, get_or, All, Some, Option, refl, sym, ap, subst, ◌∙◌, arith}
 use Rattle.std.specs.List.{AllPairs, find}
 use Rattle.std.specs.Option.{option_map_or}
 use Rattle.std.specs.Ordering.{ordering_reverse, is_eq}
 use Rattle.std.specs.declared.cmp.Ordering.{Ordering}
 use Rattle.std.specs.declared.cmp.Ordering.TheVariants.{Less, Equal, Greater}
 use Rattle.std.proofs.lemmas.List.Elements.{All-nil, All-cons, All-head, All-tail}
-use Rattle.nc_types.specs.Cidr.{Cidr, IsCidr}
-use Rattle.nc_types.specs.declared.TheConstants.{MULTIPATH_LIMIT}
+use Rattle.nc_types.specs.Cidr.{Cidr}
 use Rattle.nc_types.proofs.Sameness.{same_prefix_is}
 use Rattle.nc_tables.specs.declared.bgp.Chosen.{Chosen}
 use Rattle.nc_tables.specs.Base.{prefix_cmp, same_prefix}
-use Rattle.nc_tables.specs.Rounds.{BgpRowView, chosen_in, AreBgpRows}
-use Rattle.nc_tables.specs.Edit.{row_before, by_order, put}
+use Rattle.nc_tables.specs.Rounds.{BgpRowView, chosen_in}
+use Rattle.nc_tables.specs.LocRibs.{row_before}
 use Rattle.nc_tables.proofs.SideBySide.{prefix_total, same_by_cmp}
 use Rattle.nc_tables.proofs.ByPrefix.{same_itself, less_differs_back, pairs_cons, pairs_head, pairs_tail}
 use Rattle.nc_tables.proofs.Finding.{found_none}
@@ -102,10 +101,10 @@ same_rows (x ∷ xs) (y ∷ ys) up_x up_y some_x some_y same =
     on Equal e rest = let is = equal_is x.prefix y.prefix e in ap (λ (r : BgpRowView). r ∷ xs) (first is) ∙ ap (λ (rs : List BgpRowView). y ∷ rs) (rest (others is))
     on Greater e rest = absurd (not_before y ys (x ∷ xs) (All-head (λ (row : BgpRowView). 0 < length row.chosen) y ys some_y) (from_one y.prefix x xs (back x.prefix y.prefix Greater e) up_x) (sym (same y.prefix)))
 
--- ---- what is found after a row is put
+-- ---- what is found with one row more
 
 module _ (p : Cidr) (cs : List Chosen) where
-  found_before : (rows : List BgpRowView) (q : Cidr) → (same_prefix p q ≡ true → chosen_in rows q ≡ []) → chosen_in (row_before p cs rows) q ≡ cond (same_prefix p q) cs (chosen_in rows q)
+  pub found_before : (rows : List BgpRowView) (q : Cidr) → (same_prefix p q ≡ true → chosen_in rows q ≡ []) → chosen_in (row_before p cs rows) q ≡ cond (same_prefix p q) cs (chosen_in rows q)
   found_before rows q none = on cs (same_prefix p q) refl
     where
       on : (l : List Chosen) (b : Bool) → same_prefix p q ≡ b → chosen_in (row_before p l rows) q ≡ cond b l (chosen_in rows q)
@@ -114,69 +113,19 @@ module _ (p : Cidr) (cs : List Chosen) where
       on (x ∷ xs) true e = at_head (record { prefix = p; chosen = x ∷ xs }) rows q e
       on (x ∷ xs) false e = past_head (record { prefix = p; chosen = x ∷ xs }) rows q e
 
-  pub chosen_put : (rows : List BgpRowView) → Up rows → (q : Cidr) → chosen_in (put p cs rows) q ≡ cond (same_prefix p q) cs (chosen_in rows q)
-  chosen_put [] up q = found_before [] q (λ e. refl)
-  chosen_put (row ∷ rows) up q = on (prefix_cmp p row.prefix) refl (chosen_put rows (pairs_tail IsBelow row rows up) q)
-    where
-      later : prefix_cmp p row.prefix ≡ Greater → (b : Bool) → same_prefix row.prefix q ≡ b → chosen_in (put p cs rows) q ≡ cond (same_prefix p q) cs (chosen_in rows q)
-          → chosen_in (row ∷ put p cs rows) q ≡ cond (same_prefix p q) cs (chosen_in (row ∷ rows) q)
-      later e true same rest =
-          let differs : same_prefix p q ≡ false = ap (same_prefix p) (sym (same_prefix_is row.prefix q same)) ∙ less_differs_back row.prefix p (back p row.prefix Greater e) in
-          at_head row (put p cs rows) q same ∙ sym (at_head row rows q same) ∙ ap (λ (b : Bool). cond b cs (chosen_in (row ∷ rows) q)) (sym differs)
-      later e false other rest = past_head row (put p cs rows) q other ∙ rest ∙ ap (cond (same_prefix p q) cs) (sym (past_head row rows q other))
-
-      here : prefix_cmp p row.prefix ≡ Equal → (b : Bool) → same_prefix p q ≡ b → cond b cs (chosen_in rows q) ≡ cond b cs (chosen_in (row ∷ rows) q)
-      here e true same = refl
-      here e false other = sym (past_head row rows q (ap (λ (r : Cidr). same_prefix r q) (sym (equal_is p row.prefix e)) ∙ other))
-
-      on : (o : Ordering) → prefix_cmp p row.prefix ≡ o → chosen_in (put p cs rows) q ≡ cond (same_prefix p q) cs (chosen_in rows q)
-          → chosen_in (by_order o (row_before p cs (row ∷ rows)) (row_before p cs rows) (row ∷ put p cs rows)) q ≡ cond (same_prefix p q) cs (chosen_in (row ∷ rows) q)
-      on Less e rest = found_before (row ∷ rows) q (λ same. none_above q (row ∷ rows) (subst (λ (r : Cidr). AreAbove r (row ∷ rows)) (same_prefix_is p q same) (from_one p row rows e up)))
-      on Equal e rest =
-          found_before rows q (λ same. none_above q rows (subst (λ (r : Cidr). AreAbove r rows) (sym (equal_is p row.prefix e) ∙ same_prefix_is p q same) (behind row rows up)))
-          ∙ here e (same_prefix p q) refl
-      on Greater e rest = later e (same_prefix row.prefix q) refl rest
-
   -- ---- rows are kept in order
 
   module _ (P : BgpRowView → Type 0) (own : 0 < length cs → P (record { prefix = p; chosen = cs })) where
-    all_before : (rows : List BgpRowView) → All P rows → All P (row_before p cs rows)
+    pub all_before : (rows : List BgpRowView) → All P rows → All P (row_before p cs rows)
     all_before rows each = on cs own
       where
         on : (l : List Chosen) → (0 < length l → P (record { prefix = p; chosen = l })) → All P (row_before p l rows)
         on [] here = each
         on (x ∷ xs) here = All-cons P (record { prefix = p; chosen = x ∷ xs }) rows (here (omega arith)) each
 
-    pub all_put : (rows : List BgpRowView) → All P rows → All P (put p cs rows)
-    all_put [] each = all_before [] each
-    all_put (row ∷ rows) each = on (prefix_cmp p row.prefix) (all_put rows (All-tail P row rows each))
-      where
-        on : (o : Ordering) → All P (put p cs rows) → All P (by_order o (row_before p cs (row ∷ rows)) (row_before p cs rows) (row ∷ put p cs rows))
-        on Less rest = all_before (row ∷ rows) each
-        on Equal rest = all_before rows (All-tail P row rows each)
-        on Greater rest = All-cons P row (put p cs rows) (All-head P row rows each) rest
-
-  up_before : (rows : List BgpRowView) → AreAbove p rows → Up rows → Up (row_before p cs rows)
+  pub up_before : (rows : List BgpRowView) → AreAbove p rows → Up rows → Up (row_before p cs rows)
   up_before rows above up = on cs
     where
       on : (l : List Chosen) → Up (row_before p l rows)
       on [] = up
       on (x ∷ xs) = pairs_cons IsBelow (record { prefix = p; chosen = x ∷ xs }) rows above up
-
-  up_put : (rows : List BgpRowView) → Up rows → Up (put p cs rows)
-  up_put [] up = up_before [] (All-nil (λ (row : BgpRowView). prefix_cmp p row.prefix ≡ Less)) up
-  up_put (row ∷ rows) up = on (prefix_cmp p row.prefix) refl (up_put rows (pairs_tail IsBelow row rows up))
-    where
-      on : (o : Ordering) → prefix_cmp p row.prefix ≡ o → Up (put p cs rows) → Up (by_order o (row_before p cs (row ∷ rows)) (row_before p cs rows) (row ∷ put p cs rows))
-      on Less e rest = up_before (row ∷ rows) (from_one p row rows e up) up
-      on Equal e rest = up_before rows (subst (λ (q : Cidr). AreAbove q rows) (sym (equal_is p row.prefix e)) (behind row rows up)) (pairs_tail IsBelow row rows up)
-      on Greater e rest = pairs_cons IsBelow row (put p cs rows) (all_put (IsBelow row) (λ some. back p row.prefix Greater e) rows (behind row rows up)) rest
-
-  pub rows_put : (rows : List BgpRowView) → AreBgpRows rows → IsCidr p.base p.len → length cs ≤ MULTIPATH_LIMIT → All (λ (x : Chosen). x.route.prefix ≡ p) cs → AreBgpRows (put p cs rows)
-  rows_put rows are valid few own = record {
-    ordered = up_put rows are.ordered;
-    valid = all_put (λ (row : BgpRowView). IsCidr row.prefix.base row.prefix.len) (λ some. valid) rows are.valid;
-    some = all_put (λ (row : BgpRowView). 0 < length row.chosen) (λ some. some) rows are.some;
-    few = all_put (λ (row : BgpRowView). length row.chosen ≤ MULTIPATH_LIMIT) (λ some. few) rows are.few;
-    own = all_put (λ (row : BgpRowView). All (λ (x : Chosen). x.route.prefix ≡ row.prefix) row.chosen) (λ some. own) rows are.own;
-  }

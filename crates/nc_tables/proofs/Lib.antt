@@ -11,13 +11,13 @@ pub mod BgpRows
 pub mod LongerIn
 pub mod ByPrefix
 pub mod InOrder
-mod RowEdits
 pub mod TableEdits
+pub mod Choices
 pub mod RowCount
 pub mod Ordered
 pub mod Owner
 mod ByLevels
 pub mod SamePath
 pub mod SameTables
-mod NoRoutes
+pub mod NoRoutes
 pub mod Settled

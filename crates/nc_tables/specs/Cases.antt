@@ -55,7 +55,7 @@ process asn paths neighbors networks aggregates =
 
 abbrev pub router : List Interface → List StaticRoute → Option ProcessView → List ClauseView → List PrefixListView → ConfigView
 router interfaces statics own clauses lists =
-    record { name = []; name_line = 1; line_count = 1; elements = []; interfaces = interfaces; statics = statics; process = own; clauses = clauses; lists = lists; community_lists = [] }
+    record { name = []; name_line = 1; line_count = 1; elements = []; interfaces = interfaces; statics = statics; process = own; clauses = clauses; lists = lists; community_lists = []; filters = []; groups = [] }
 
 -- ---- routes and candidates
 

@@ -7,11 +7,13 @@ pub mod Sessions
 pub mod Policy
 pub mod Choice
 pub mod Rounds
-pub mod Edit
+pub mod LocRibs
 pub mod Main
 pub mod Forwarding
 pub mod Levels
+pub mod Filters
 pub mod State
+pub mod Flows
 pub mod Settling
 pub mod Cases
 pub mod CaseStatics
@@ -24,6 +26,7 @@ pub mod CaseSessions
 pub mod CaseMessages
 pub mod CaseRounds
 pub mod CaseForwarding
+pub mod CaseFilters
 pub mod CaseNetworks
 pub mod CaseChain
 pub mod CaseRelations

@@ -2,6 +2,7 @@
 
 ghost use Rattle.std.specs.Prelude.{◌≡◌, ◌<◌, ℕ, List, Some, length, MatchOption};
 ghost use Rattle.nc_types.specs.Config.{ConfigView};
+ghost use Rattle.nc_tables.specs.declared.TheConstants.{EXTERNAL_DISTANCE, INTERNAL_DISTANCE, LOCAL_DISTANCE};
 ghost use Rattle.nc_tables.specs.declared.base.BaseRow.{BaseRow};
 ghost use Rattle.nc_tables.specs.declared.bgp.SessionRow.{SessionRow};
 ghost use Rattle.nc_tables.specs.declared.bgp.MainRow.{MainRow};
@@ -48,4 +49,11 @@ pub fn settling_is_lawful()
         (sessions : List (List SessionRow)) (rounds : ℕ) (table : List (List BgpRowView))
         → IsStable routers tables sessions rounds table
         → settled_table routers tables sessions rounds ≡ Some table }
+{}
+
+/// The law of the distances: each that stands in the code under a name is the one that is meant. It does nothing.
+pub fn distances_are_numbers()
+    ensures external { EXTERNAL_DISTANCE ≡ 20 }
+    ensures internal { INTERNAL_DISTANCE ≡ 200 }
+    ensures local { LOCAL_DISTANCE ≡ 200 }
 {}

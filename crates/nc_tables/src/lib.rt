@@ -3,11 +3,12 @@
 //! A table has the rows of each router, in order: base rows, sessions, BGP rows or main rows. The crate makes a
 //! table of its rows and answers which rows are those of a prefix or of the longest prefix that covers an
 //! address, which session a neighbor statement has, what is chosen of a prefix, and whether a longer prefix inside
-//! another is chosen. `Stable` holds a network with all its tables. It stands on `nc_types`. Its contract promises that a table has exactly the rows that it was
+//! another is chosen. `LocRibs` has what routers choose while a network settles, by the numbers of prefixes, and gives the
+//! table of it. `Stable` holds a network with all its tables. It stands on `nc_types`. Its contract promises that a table has exactly the rows that it was
 //! made of, that each look-up answers as its definition does, and that the tables of a `Stable` are those of its
 //! network. What the rows of a network are is said by the definitions in `specs/`, which the crates above are
 //! proved against: `Base` and `Reach` for base tables and where they lead, `Sessions`, `Policy`, `Choice` and
-//! `Rounds` for BGP, `Main` and `Forwarding` for main tables and paths, and `State` for all together. `Levels` and
+//! `Rounds` and `LocRibs` for BGP, `Main` and `Forwarding` for main tables and paths, `Filters` and `Flows` for access lists, and `State` for all together. `Levels` and
 //! `Settling` have forms of reach, forwarding and the stable state that compute over many hops and rounds;
 //! [`levels_are_lawful`] and [`settling_is_lawful`] promise that they are the same. The definitions are computed on
 //! small networks in the files `Case*`.
@@ -15,12 +16,14 @@
 
 mod base;
 mod bgp;
+mod filters;
 mod inside;
 mod laws;
 mod longest;
 mod mains;
 mod path;
 mod policy;
+mod ribs;
 mod routes;
 mod sessions;
 mod stable;
@@ -29,12 +32,14 @@ pub use base::{BaseFrom, BaseRow, BaseTables};
 pub use bgp::{
     BgpFrom, BgpRow, Chosen, MainFrom, MainRow, Route, SessionRow, same_candidate, same_route,
 };
+pub use filters::Passing;
 pub use inside::is_longer_in;
-pub use laws::{levels_are_lawful, settling_is_lawful};
+pub use laws::{distances_are_numbers, levels_are_lawful, settling_is_lawful};
 pub use longest::{HasPrefix, Rows, rows_on};
 pub use mains::MainTables;
 pub use path::{Numbers, Path};
 pub use policy::{Names, Place};
+pub use ribs::{LocRibs, Numbered};
 pub use routes::BgpTable;
 pub use sessions::Sessions;
 pub use stable::Stable;

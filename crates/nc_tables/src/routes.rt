@@ -1,18 +1,14 @@
-ghost use Rattle.std.specs.Prelude.{◌≡◌, ◌<◌, ◌≤◌, ◌==◌, ◌&&◌, ℕ, [], All, IfErr, IfOk, OnErr, OnOk, length, map, nat_lt, slice_index_or, if◌then◌else◌};
-ghost use Rattle.std.specs.List.{insert, list_any, HoldsAt};
+ghost use Rattle.std.specs.Prelude.{◌≡◌, ◌<◌, [], All, IfErr, IfOk, length, map, nat_lt, slice_index_or};
+ghost use Rattle.std.specs.List.{list_any, HoldsAt};
 ghost use Rattle.std.specs.List.Sorted.{IsPartitionPoint, IsSearchInRange};
 ghost use Rattle.std.specs.declared.cmp.Ordering.TheVariants.{Less, Equal, Greater};
-ghost use Rattle.nc_types.specs.Cidr.{Cidr};
-ghost use Rattle.nc_types.specs.declared.TheConstants.{MULTIPATH_LIMIT};
 ghost use Rattle.nc_tables.specs.Base.{prefix_cmp, same_prefix};
-ghost use Rattle.nc_tables.specs.Rounds.{bgp_row_view, chosen_at, chosen_in, has_longer, no_routes, AreBgpRows};
-ghost use Rattle.nc_tables.specs.Edit.{put};
+ghost use Rattle.nc_tables.specs.Rounds.{bgp_row_view, chosen_in, has_longer, AreBgpRows};
 
 use crate::bgp::{BgpRow, Chosen};
 use crate::inside;
 use crate::longest::{HasPrefix, rows_at};
-use nc_types::{Network, Prefix, RouterId};
-use std::alloc::{AllocError, Global};
+use nc_types::{Prefix, RouterId};
 use std::marker::Model;
 
 impl HasPrefix for BgpRow {
@@ -42,46 +38,6 @@ fn place_of(rows: &[BgpRow], prefix: Prefix) -> Result<usize, usize>
     Err(place)
 }
 
-// Adds a row at a place. The rows behind it move at once, as they don't where it is inserted.
-fn add_row(rows: &mut Vec<BgpRow>, place: usize, row: BgpRow) -> Result<(), AllocError>
-    requires { place ≤ length rows.old.items }
-    ensures added { OnOk result (rows.new.items ≡ insert rows.old.items place row) }
-    ensures kept { OnErr result (rows.new.items ≡ rows.old.items) }
-{
-    rows.push(row)?;
-    rows[place..].rotate_right(1);
-    Ok(())
-}
-
-// Sets, adds or takes out the row of a prefix, among the rows of a router.
-fn put_row(rows: &mut Vec<BgpRow>, prefix: Prefix, chosen: Vec<Chosen>) -> Result<(), AllocError>
-    requires rows { AreBgpRows (map bgp_row_view rows.old.items) }
-    requires few { length chosen.items ≤ MULTIPATH_LIMIT }
-    requires own { All (λ x. x.route.prefix ≡ prefix) chosen.items }
-    ensures put { OnOk result (map bgp_row_view rows.new.items
-        ≡ put prefix chosen.items (map bgp_row_view rows.old.items)) }
-    ensures rows { AreBgpRows (map bgp_row_view rows.new.items) }
-{
-    let _len = prefix.len();
-    match place_of(rows, prefix) {
-        Ok(place) => {
-            if chosen.is_empty() {
-                rows.remove(place);
-                return Ok(());
-            }
-            rows[place].chosen = chosen;
-            Ok(())
-        }
-        Err(place) => {
-            if chosen.is_empty() {
-                return Ok(());
-            }
-            add_row(rows, place, BgpRow { prefix, chosen })?;
-            Ok(())
-        }
-    }
-}
-
 /// The BGP tables of the routers of a network: the rows of each router, one for each prefix that it has a
 /// candidate for, in order of prefix (address, then length).
 #[derive(Drop)]
@@ -109,52 +65,12 @@ impl BgpTable {
         BgpTable { rows }
     }
 
-    /// The tables in which no router has a route, a list for each router of a network.
-    ///
-    /// # Errors
-    ///
-    /// Memory that runs out.
-    pub fn without_routes(alloc: Global, network: &Network) -> Result<BgpTable, AllocError>
-        ensures { IfOk result (λ none. none ≡ no_routes network.now) }
-    {
-        let mut rows = Vec::new(alloc);
-        'routers: for _router in network.routers() {
-            rows.push(Vec::new(alloc))?;
-        }
-        Ok(BgpTable { rows })
-    }
-
     /// How many routers the tables have rows of; those of each are as the rows of a router are.
     pub fn count(&self) -> usize
         ensures count { result ≡ length self.now }
         ensures valid { All AreBgpRows self.now }
     {
         self.rows.len()
-    }
-
-    /// From now on this is chosen of a prefix at a router, which has a number below that of the
-    /// routers: at most [`nc_types::MULTIPATH_LIMIT`] candidates, each of that prefix. Its row is
-    /// found by a binary search and is set, added or taken out in its place; all else stays.
-    ///
-    /// # Errors
-    ///
-    /// Memory that runs out.
-    pub fn put(
-        &mut self,
-        router: RouterId,
-        prefix: Prefix,
-        chosen: Vec<Chosen>,
-    ) -> Result<(), AllocError>
-        requires router { router.0 < length self.old }
-        requires few { length chosen.items ≤ MULTIPATH_LIMIT }
-        requires own { All (λ x. x.route.prefix ≡ prefix) chosen.items }
-        ensures count { length self.new ≡ length self.old }
-        ensures put { OnOk result ((r : ℕ) (p : Cidr) → chosen_at self.new r p
-            ≡ (if (r == router.0) && same_prefix prefix p then chosen.items
-            else chosen_at self.old r p)) }
-    {
-        put_row(&mut self.rows[router.0 as usize], prefix, chosen)?;
-        Ok(())
     }
 
     /// The rows of a router, which has a number below that of the routers.

@@ -16,7 +16,7 @@ of_first holds p o = option_map_or (λ k. cond holds (begun p (Aggregate k) ∷ 
 pub returns-in_default : goal.returns-in_default
 returns-in_default c =
     let p = c.args.prefix in
-    let holds = has_longer (slice_index_or c.args.table.now c.args.router.0 []) c.args.prefix in
+    let holds = has_longer (slice_index_or c.args.ribs.now.rows c.args.router.0 []) c.args.prefix in
     let items = c.args.candidates.now.items in
     let all = c.args.process.now.aggregates.items in
     sym (
@@ -28,7 +28,7 @@ returns-in_default c =
 pub returns-then-not-has_longer : goal.returns-then-not-has_longer
 returns-then-not-has_longer c =
     let p = c.args.prefix in
-    let holds = has_longer (slice_index_or c.args.table.now c.args.router.0 []) c.args.prefix in
+    let holds = has_longer (slice_index_or c.args.ribs.now.rows c.args.router.0 []) c.args.prefix in
     let items = c.args.candidates.now.items in
     let all = c.args.process.now.aggregates.items in
     let place = c.in-Some.place in
@@ -42,7 +42,7 @@ returns-then-not-has_longer c =
 pub returns : goal.returns
 returns c =
     let p = c.args.prefix in
-    let holds = has_longer (slice_index_or c.args.table.now c.args.router.0 []) c.args.prefix in
+    let holds = has_longer (slice_index_or c.args.ribs.now.rows c.args.router.0 []) c.args.prefix in
     let items = c.args.candidates.now.items in
     let all = c.args.process.now.aggregates.items in
     let place = c.in-Some.place in

@@ -7,7 +7,7 @@ use Rattle.nc_message.proofs.candidates.add_entries.Given as goal
 abbrev pub invariant-neighbors : goal.invariant-neighbors
 invariant-neighbors l = record {
   made :
-      l.candidates.items ++ made_from (λ place n. entry_at l.given.network.now l.given.base.now l.given.sessions.now l.table l.router.0 place l.prefix) l.place (drop l.place l.neighbors)
-      ≡ l.fn.candidates.items ++ made_from (λ place n. entry_at l.given.network.now l.given.base.now l.given.sessions.now l.table l.router.0 place l.prefix) 0 l.neighbors;
-  own : All (IsOf l.prefix) l.fn.candidates.items → All (IsOf l.prefix) l.candidates.items;
+      l.candidates.items ++ made_from (λ place n. entry_at l.given.network.now l.given.base.now l.given.sessions.now l.ribs.rows l.router.0 place l.of.prefix) l.place (drop l.place l.neighbors)
+      ≡ l.fn.candidates.items ++ made_from (λ place n. entry_at l.given.network.now l.given.base.now l.given.sessions.now l.ribs.rows l.router.0 place l.of.prefix) 0 l.neighbors;
+  own : All (IsOf l.of.prefix) l.fn.candidates.items → All (IsOf l.of.prefix) l.candidates.items;
 }

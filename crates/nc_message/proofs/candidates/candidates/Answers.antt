@@ -30,10 +30,10 @@ joined start first second third x y z none one two three =
 
 pub returns-clause-candidates : goal.returns-clause-candidates
 returns-clause-candidates c =
-    let p = c.args.prefix in
-    let rows = slice_index_or c.args.table.now c.args.router.0 [] in
+    let p = c.args.of.now.prefix in
+    let rows = slice_index_or c.args.ribs.now.rows c.args.router.0 [] in
     let process = c.args.process.now in
-    let make : ℕ → Neighbor → Option Chosen = λ place n. entry_at c.args.given.now.network.now c.args.given.now.base.now c.args.given.now.sessions.now c.args.table.now c.args.router.0 place p in
+    let make : ℕ → Neighbor → Option Chosen = λ place n. entry_at c.args.given.now.network.now c.args.given.now.base.now c.args.given.now.sessions.now c.args.ribs.now.rows c.args.router.0 place p in
     let holds = has_base_row c.args.given.now.base.now c.args.router.0 p in
     let longer = has_longer rows p in
     joined c.in_ok-told.told.items (networks_of holds p process.networks.items) (aggregates_of longer p process.aggregates.items) (made_from make 0 c.deref.result.now)
@@ -46,9 +46,9 @@ returns-clause-candidates c =
 
 pub returns-clause-own : goal.returns-clause-own
 returns-clause-own c =
-    let p = c.args.prefix in
+    let p = c.args.of.now.prefix in
     let holds = has_base_row c.args.given.now.base.now c.args.router.0 p in
-    let longer = has_longer (slice_index_or c.args.table.now c.args.router.0 []) p in
+    let longer = has_longer (slice_index_or c.args.ribs.now.rows c.args.router.0 []) p in
     let none : All (IsOf p) c.in_ok-told.told.items = subst (All (IsOf p)) (sym c.in_ok-told.ensures.items) (All-nil (IsOf p)) in
     let first : All (IsOf p) (networks_of holds p c.args.process.now.networks.items) = kept_all (IsOf p) (λ (n : NetworkStatement). same_prefix n.prefix p) holds (λ (k : ℕ). begun p (Origin k)) (λ k. refl) c.args.process.now.networks.items in
     let second : All (IsOf p) (aggregates_of longer p c.args.process.now.aggregates.items) = kept_all (IsOf p) (λ (a : AggregateStatement). same_prefix a.prefix p) longer (λ (k : ℕ). begun p (Aggregate k)) (λ k. refl) c.args.process.now.aggregates.items in

@@ -40,7 +40,7 @@ chosen_by-requires-clause-process c =
 pub returns-clause-chosen : goal.returns-clause-chosen
 returns-clause-chosen c =
     let routers = c.args.given.now.network.now in
-    let chosen : ProcessView → List Chosen = λ p. chosen_by p (candidates_at routers c.args.given.now.base.now c.args.given.now.sessions.now c.args.table.now c.args.router.0 p c.args.prefix) in
+    let chosen : ProcessView → List Chosen = λ p. chosen_by p (candidates_at routers c.args.given.now.base.now c.args.given.now.sessions.now c.args.ribs.now.rows c.args.router.0 p c.args.of.now.prefix) in
     let at = config_at routers c.routers.result.now c.args.router.0 c.index-routers-router.result c.routers.ensures.routers c.requires.router c.index-routers-router.is in
     c.in_ok-chosen.ensures.chosen
     ∙ sym (

@@ -42,13 +42,13 @@ choose-requires c =
       arith,
       ap (length {A = Chosen}) c.deref.ensures.value,
       ap (length {A = Chosen}) c.in_ok-told.ensures.candidates,
-      few_candidates c.args.given.now.network.now c.args.given.now.base.now c.args.given.now.sessions.now c.args.table.now c.args.router.0 (process_view c.args.process.now) c.args.prefix,
+      few_candidates c.args.given.now.network.now c.args.given.now.base.now c.args.given.now.sessions.now c.args.ribs.now.rows c.args.router.0 (process_view c.args.process.now) c.args.of.now.prefix,
       c.requires.few,
     )
 
 pub returns-clause-chosen : goal.returns-clause-chosen
 returns-clause-chosen c =
-    let all = candidates_at c.args.given.now.network.now c.args.given.now.base.now c.args.given.now.sessions.now c.args.table.now c.args.router.0 (process_view c.args.process.now) c.args.prefix in
+    let all = candidates_at c.args.given.now.network.now c.args.given.now.base.now c.args.given.now.sessions.now c.args.ribs.now.rows c.args.router.0 (process_view c.args.process.now) c.args.of.now.prefix in
     c.in_ok-chosen.ensures
     ∙ ap (λ (l : List Chosen). filter_map (slice_get l) c.deref-3.result.now) (c.deref-2.ensures.value ∙ c.in_ok-told.ensures.candidates)
     ∙ ap (filter_map (slice_get all))
@@ -57,7 +57,7 @@ returns-clause-chosen c =
 
 pub returns-clause-own : goal.returns-clause-own
 returns-clause-own c =
-    let p = c.args.prefix in
+    let p = c.args.of.now.prefix in
     let told = c.deref-2.result.now in
     let places = c.deref-3.result.now in
     let own : All (IsOf p) told = subst (All (IsOf p)) (sym c.deref-2.ensures.value) c.in_ok-told.ensures.own in

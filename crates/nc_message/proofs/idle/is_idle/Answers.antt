@@ -1,8 +1,8 @@
-use Rattle.std.proofs.Common.{◌≡◌, ℕ, Bool, true, false, cond, not, ◌&&◌, List, [], ◌∷◌, Option, Some, None, slice_get, refl, sym, ap, ◌∙◌}
+use Rattle.std.proofs.Common.{◌≡◌, ℕ, Bool, true, false, not, ◌&&◌, List, [], ◌∷◌, Option, Some, None, slice_get, refl, sym, ap, ◌∙◌}
 use Rattle.std.specs.List.{list_any}
 use Rattle.std.specs.Option.{option_map, option_map_or, option_and_then}
 use Rattle.nc_types.specs.Cidr.{Cidr}
-use Rattle.nc_types.specs.Config.{ConfigView, ProcessView, config_view, process_view}
+use Rattle.nc_types.specs.Config.{ConfigView, ProcessView, process_view}
 use Rattle.nc_types.specs.declared.config.RouterConfig.{RouterConfig}
 use Rattle.nc_tables.specs.declared.base.BaseRow.{BaseRow}
 use Rattle.nc_tables.specs.declared.bgp.SessionRow.{SessionRow}
@@ -58,19 +58,19 @@ process_in o = option_and_then (λ (k : ConfigView). k.process) o
 pub returns-in_default : goal.returns-in_default
 returns-in_default c =
     let i = c.args.given.now in
-    idle_if_none i.network.now i.base.now i.sessions.now c.args.table.now c.args.router.0 c.args.place c.args.prefix c.chosen-chosen.result.now c.chosen-chosen.ensures.chosen c.in_default.ensures.value
+    idle_if_none i.network.now i.base.now i.sessions.now c.args.ribs.now.rows c.args.router.0 c.args.place c.args.of.now.prefix c.chosen-chosen.result.now c.chosen-chosen.ensures.chosen c.in_default.ensures.value
 
 pub returns-then-has_from : goal.returns-then-has_from
 returns-then-has_from c =
     let i = c.args.given.now in
-    idle_if_from i.network.now i.base.now i.sessions.now c.args.table.now c.args.router.0 c.args.place c.args.prefix c.chosen-chosen.result.now c.chosen-chosen.ensures.chosen (sym c.has_from.ensures ∙ c.if-has_from.true)
+    idle_if_from i.network.now i.base.now i.sessions.now c.args.ribs.now.rows c.args.router.0 c.args.place c.args.of.now.prefix c.chosen-chosen.result.now c.chosen-chosen.ensures.chosen (sym c.has_from.ensures ∙ c.if-has_from.true)
 
 pub returns-in_default-process : goal.returns-in_default-process
 returns-in_default-process c =
     let i = c.args.given.now in
     let routers = i.network.now in
     let at = config_at routers c.routers.result.now c.args.router.0 c.index-routers-router.result c.routers.ensures.routers c.requires.router c.index-routers-router.is in
-    idle_if_alone i.network.now i.base.now i.sessions.now c.args.table.now c.args.router.0 c.args.place c.args.prefix c.chosen-chosen.result.now c.chosen-chosen.ensures.chosen
+    idle_if_alone i.network.now i.base.now i.sessions.now c.args.ribs.now.rows c.args.router.0 c.args.place c.args.of.now.prefix c.chosen-chosen.result.now c.chosen-chosen.ensures.chosen
     (ap process_in at ∙ ap (option_map process_view) (ap (λ (r : RouterConfig). r.process) c.index-routers-router.is ∙ c.in_default-process.is))
 
 pub returns-in-None : goal.returns-in-None
@@ -80,7 +80,7 @@ returns-in-None c =
     let at = config_at routers c.routers.result.now c.args.router.0 c.index-routers-router.result c.routers.ensures.routers c.requires.router c.index-routers-router.is in
     let p = process_view c.in-Some-process.process in
     ap (λ (o : Option Chosen). option_map_or (is_beaten p c.in-Some.best.now) o true) c.in-None.ensures.told
-    ∙ idle_if_beaten i.network.now i.base.now i.sessions.now c.args.table.now c.args.router.0 c.args.place c.args.prefix c.chosen-chosen.result.now c.chosen-chosen.ensures.chosen p
+    ∙ idle_if_beaten i.network.now i.base.now i.sessions.now c.args.ribs.now.rows c.args.router.0 c.args.place c.args.of.now.prefix c.chosen-chosen.result.now c.chosen-chosen.ensures.chosen p
     (ap process_in at ∙ ap (option_map process_view) (ap (λ (r : RouterConfig). r.process) c.index-routers-router.is ∙ c.in-Some-process.is)) c.in-Some.best.now c.in-Some.ensures.value (sym c.has_from.ensures ∙ c.if-has_from.false)
 
 pub returns-in-Some-told_at : goal.returns-in-Some-told_at
@@ -91,7 +91,7 @@ returns-in-Some-told_at c =
     let p = process_view c.in-Some-process.process in
     c.is_beaten.ensures
     ∙ ap (λ (o : Option Chosen). option_map_or (is_beaten p c.in-Some.best.now) o true) c.in-Some-told_at.ensures.told
-    ∙ idle_if_beaten i.network.now i.base.now i.sessions.now c.args.table.now c.args.router.0 c.args.place c.args.prefix c.chosen-chosen.result.now c.chosen-chosen.ensures.chosen p
+    ∙ idle_if_beaten i.network.now i.base.now i.sessions.now c.args.ribs.now.rows c.args.router.0 c.args.place c.args.of.now.prefix c.chosen-chosen.result.now c.chosen-chosen.ensures.chosen p
     (ap process_in at ∙ ap (option_map process_view) (ap (λ (r : RouterConfig). r.process) c.index-routers-router.is ∙ c.in-Some-process.is)) c.in-Some.best.now c.in-Some.ensures.value (sym c.has_from.ensures ∙ c.if-has_from.false)
 
 pub returns-then-is_in_vain : goal.returns-then-is_in_vain
@@ -101,5 +101,5 @@ returns-then-is_in_vain c =
     let at = config_at routers c.routers.result.now c.args.router.0 c.index-routers-router.result c.routers.ensures.routers c.requires.router c.index-routers-router.is in
     let p = process_view c.in-Some-process.process in
     sym (c.is_in_vain.ensures c.if-is_in_vain.true p)
-    ∙ idle_if_beaten i.network.now i.base.now i.sessions.now c.args.table.now c.args.router.0 c.args.place c.args.prefix c.chosen-chosen.result.now c.chosen-chosen.ensures.chosen p
+    ∙ idle_if_beaten i.network.now i.base.now i.sessions.now c.args.ribs.now.rows c.args.router.0 c.args.place c.args.of.now.prefix c.chosen-chosen.result.now c.chosen-chosen.ensures.chosen p
     (ap process_in at ∙ ap (option_map process_view) (ap (λ (r : RouterConfig). r.process) c.index-routers-router.is ∙ c.in-Some-process.is)) c.in-Some.best.now c.in-Some.ensures.value (sym c.has_from.ensures ∙ c.if-has_from.false)

@@ -1,4 +1,4 @@
-use Rattle.std.proofs.Common.{◌≡◌, Option, Some, refl, sym, ap, ◌∙◌}
+use Rattle.std.proofs.Common.{Option, sym, ap, ◌∙◌}
 use Rattle.std.specs.Option.{option_map}
 use Rattle.nc_tables.specs.Rounds.{Link}
 use Rattle.nc_sessions.specs.Views.{link_view}
@@ -12,16 +12,16 @@ link_of o = option_map (λ (h : Heard). link_view h.link) o
 pub returns-in_default : goal.returns-in_default
 returns-in_default c e p =
     let i = c.args.given.now in
-    in_vain_alone i.network.now i.base.now i.sessions.now c.args.table.now c.args.router.0 c.args.place c.args.prefix c.args.best.now p (sym c.requires.heard ∙ ap link_of c.in_default.is)
+    in_vain_alone i.network.now i.base.now i.sessions.now c.args.ribs.now.rows c.args.router.0 c.args.place c.args.of.prefix c.args.best.now p (sym c.requires.heard ∙ ap link_of c.in_default.is)
 
 pub returns-in-None : goal.returns-in-None
 returns-in-None c e p =
     let i = c.args.given.now in
-    in_vain_silent i.network.now i.base.now i.sessions.now c.args.table.now c.args.router.0 c.args.place c.args.prefix c.args.best.now p (link_view c.in-Some.heard.link) (sym c.requires.heard ∙ ap link_of c.in-Some.is)
+    in_vain_silent i.network.now i.base.now i.sessions.now c.args.ribs.now.rows c.args.router.0 c.args.place c.args.of.prefix c.args.best.now p (link_view c.in-Some.heard.link) (sym c.requires.heard ∙ ap link_of c.in-Some.is)
     (sym c.in-None.ensures.best)
 
-pub returns-in-Some-best_at : goal.returns-in-Some-best_at
-returns-in-Some-best_at c e p =
+pub returns-in-Some-best_of : goal.returns-in-Some-best_of
+returns-in-Some-best_of c e p =
     let i = c.args.given.now in
-    in_vain_outdone i.network.now i.base.now i.sessions.now c.args.table.now c.args.router.0 c.args.place c.args.prefix c.args.best.now p (link_view c.in-Some.heard.link) (sym c.requires.heard ∙ ap link_of c.in-Some.is)
-    c.in-Some-best_at.sent.now (sym c.in-Some-best_at.ensures.best) (c.is_outdone.ensures e)
+    in_vain_outdone i.network.now i.base.now i.sessions.now c.args.ribs.now.rows c.args.router.0 c.args.place c.args.of.prefix c.args.best.now p (link_view c.in-Some.heard.link) (sym c.requires.heard ∙ ap link_of c.in-Some.is)
+    c.in-Some-best_of.sent.now (sym c.in-Some-best_of.ensures.best) (c.is_outdone.ensures e)

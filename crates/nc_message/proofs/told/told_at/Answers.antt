@@ -1,11 +1,14 @@
-use Rattle.std.proofs.Common.{◌≡◌, ℕ, List, Option, Some, None, IfSome, ap, ◌∙◌}
+use Rattle.std.proofs.Common.{◌≡◌, ℕ, List, Option, Some, None, IfSome, ap, ◌∙◌, arith}
+use Rattle.std.specs.Option.{option_map}
+use Rattle.std.proofs.lemmas.Option.{slice_get_within}
 use Rattle.nc_tables.specs.declared.base.BaseRow.{BaseRow}
 use Rattle.nc_tables.specs.declared.bgp.Chosen.{Chosen}
-use Rattle.nc_tables.specs.Rounds.{Link}
+use Rattle.nc_tables.specs.Rounds.{Link, learnt_from}
 use Rattle.nc_tables.specs.Sessions.{router_id}
 use Rattle.nc_sessions.specs.Views.{link_view}
 use Rattle.nc_message.specs.Links.{IsSender}
 use Rattle.nc_message.specs.declared.links.Sender.{Sender}
+use Rattle.nc_message.proofs.PeerFirst.{none_learnt_alone, none_learnt_silent, one_learnt}
 use Rattle.nc_message.proofs.Sending.{message_is}
 use Rattle.nc_message.proofs.told.told_at.Goals as goal
 
@@ -14,12 +17,45 @@ id_of : (tables : List (List BaseRow)) (router : ℕ) (k : Link) (o : Option Sen
 id_of tables router k None known = tt
 id_of tables router k (Some d) known = known.id
 
+pub best_of-requires-clause-router : goal.best_of-requires-clause-router
+best_of-requires-clause-router c =
+    let routers = c.args.given.now.network.now in
+    let k = link_view c.in_ok-heard.heard.link in
+    omega (arith, slice_get_within routers k.session.peer.0 k.sender.config c.in_ok-heard.ensures.between.sender, c.requires.ribs)
+
 pub learnt-requires-clause-sender : goal.learnt-requires-clause-sender
 learnt-requires-clause-sender c =
     let s = c.in_ok-taken.taken.sent in
     id_of c.args.given.now.base.now c.args.router.0 (link_view s.link) s.sender c.in_ok-taken.ensures.known
 
+pub returns-in_err-heard-clause-told : goal.returns-in_err-heard-clause-told
+returns-in_err-heard-clause-told c =
+    let i = c.args.given.now in
+    c.from_residual.ensures
+    ∙ none_learnt_alone i.network.now i.base.now i.sessions.now c.args.ribs.now.rows c.args.router.0 c.args.place c.args.of.prefix c.in_err-heard.ensures.link
+
+pub returns-in_err-best-clause-told : goal.returns-in_err-best-clause-told
+returns-in_err-best-clause-told c =
+    let i = c.args.given.now in
+    c.from_residual-in_err-best.ensures
+    ∙ none_learnt_silent i.network.now i.base.now i.sessions.now c.args.ribs.now.rows c.args.router.0 c.args.place c.args.of.prefix (link_view c.in_ok-heard.heard.link) c.in_ok-heard.ensures.link c.in_err-best.ensures.best
+
+pub returns-in_err-taken-clause-told : goal.returns-in_err-taken-clause-told
+returns-in_err-taken-clause-told c =
+    let i = c.args.given.now in
+    c.from_residual-in_err-taken.ensures
+    ∙ ap (option_map (learnt_from c.args.place)) c.in_err-taken.ensures.accepted
+    ∙ one_learnt i.network.now i.base.now i.sessions.now c.args.ribs.now.rows c.args.router.0 c.args.place c.args.of.prefix (link_view c.in_ok-heard.heard.link) c.in_ok-heard.ensures.link c.in_ok-best.best.now c.in_ok-best.ensures.best
+
+pub returns-clause-told : goal.returns-clause-told
+returns-clause-told c =
+    let i = c.args.given.now in
+    ap Some c.learnt.ensures
+    ∙ ap (option_map (learnt_from c.args.place)) c.in_ok-taken.ensures.accepted
+    ∙ one_learnt i.network.now i.base.now i.sessions.now c.args.ribs.now.rows c.args.router.0 c.args.place c.args.of.prefix (link_view c.in_ok-heard.heard.link) c.in_ok-heard.ensures.link c.in_ok-best.best.now c.in_ok-best.ensures.best
+
 pub returns-clause-own : goal.returns-clause-own
 returns-clause-own c =
     let s = c.in_ok-taken.taken.sent in
-    ap (λ (x : Chosen). x.route.prefix) c.learnt.ensures ∙ (message_is (link_view s.link) s.best.now s.out).prefix ∙ c.in_ok-taken.ensures.own
+    ap (λ (x : Chosen). x.route.prefix) c.learnt.ensures ∙ (message_is (link_view s.link) s.best.now s.out).prefix
+    ∙ ap (λ (b : Chosen). b.route.prefix) c.in_ok-taken.ensures.best ∙ c.in_ok-best.ensures.own

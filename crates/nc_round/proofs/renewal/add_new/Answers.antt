@@ -1,34 +1,24 @@
-use Rattle.std.proofs.Common.{◌≡◌, ◌++◌, ◌∷◌, [], List, Option, map, append-nil, sym, ap, ◌∙◌, rules}
+use Rattle.std.proofs.Common.{◌≡◌, ◌++◌, ℕ, [], List, Contains, Option, OnOk, map, append-nil, sym, ap, subst, ◌∙◌}
 use Rattle.std.specs.List.{cons_option}
-use Rattle.std.proofs.lemmas.List.{map_push}
-use Rattle.nc_tables.specs.declared.bgp.Chosen.{Chosen}
-use Rattle.nc_tables.specs.Rounds.{chosen_at}
-use Rattle.nc_round.specs.Renewing.{RowChange, row_change}
-use Rattle.nc_round.proofs.NewRows.{anew, change_none, change_some}
+use Rattle.nc_types.specs.Cidr.{Cidr}
+use Rattle.nc_types.proofs.Members.{In, contains_by_in, in_by_contains}
+use Rattle.nc_tables.specs.Rounds.{chosen_at, prefixes}
+use Rattle.nc_round.specs.Renewing.{RowChange, row_change, change_at}
+use Rattle.nc_round.proofs.NextRows.{unknown_anew}
+use Rattle.nc_round.proofs.NewRows.{anew, change_none}
 use Rattle.nc_round.proofs.renewal.add_new.Goals as goal
 
-pub returns-then-same_chosen-clause-rows : goal.returns-then-same_chosen-clause-rows
-returns-then-same_chosen-clause-rows c =
+pub returns-in-None-clause-rows : goal.returns-in-None-clause-rows
+returns-in-None-clause-rows c =
     let i = c.args.given in
-    let t = c.args.table.now in
+    let t = c.args.ribs.now.rows in
     let k = c.args.row in
-    let same : c.deref.result.now ≡ c.chosen.result.now = c.same_chosen.ensures.0 c.if-same_chosen.true in
-    let is : anew i t k ≡ chosen_at t k.0.0 k.1 = sym (c.deref.ensures.value ∙ c.in_ok-chosen.ensures.chosen) ∙ same ∙ c.chosen.ensures.chosen in
+    let known : (r : ℕ) (p : Cidr) → (In p (prefixes i.network.now) → ⊥) → chosen_at t r p ≡ [] = λ r p none. c.requires.known r p (λ some. none (in_by_contains (prefixes i.network.now) p some)) in
+    let out : In k.1 (prefixes i.network.now) → ⊥ = λ j. c.in-None.ensures.none (subst (λ (l : List Cidr). Contains l k.1) (sym c.requires.prefixes) (contains_by_in (prefixes i.network.now) k.1 j)) in
+    let is : anew i t k ≡ chosen_at t k.0.0 k.1 = unknown_anew i.network.now i.base.now i.sessions.now t known k.0.0 k.1 out ∙ sym (known k.0.0 k.1 out) in
     sym (ap (λ (o : Option RowChange). map row_change c.args.news.now.items ++ cons_option o []) (change_none i t k is) ∙ append-nil (map row_change c.args.news.now.items))
 
-pub returns-clause-rows : goal.returns-clause-rows
-returns-clause-rows c =
-    let i = c.args.given in
-    let t = c.args.table.now in
-    let k = c.args.row in
-    let news = c.args.news.now.items in
-    let chosen : c.in_ok-chosen.chosen.items ≡ anew i t k = c.in_ok-chosen.ensures.chosen in
-    let change : RowChange = record { key = k; chosen = anew i t k } in
-    let differs : anew i t k ≡ chosen_at t k.0.0 k.1 → ⊥ = λ e.
-    let same : c.deref.result.now ≡ c.chosen.result.now = c.deref.ensures.value ∙ chosen ∙ e ∙ sym c.chosen.ensures.chosen in
-    let is = c.same_chosen.ensures.1 same in
-    absurd (search rules) in
-    ap (map row_change) c.in_ok-push.ensures.items
-    ∙ map_push row_change news (record { router = k.0; prefix = k.1; chosen = c.in_ok-chosen.chosen })
-    ∙ ap (λ (cs : List Chosen). map row_change news ++ record { key = k; chosen = cs } ∷ []) chosen
-    ∙ sym (ap (λ (o : Option RowChange). map row_change news ++ cons_option o []) (change_some i t k differs))
+pub returns-in-Some-clause-rows : goal.returns-in-Some-clause-rows
+returns-in-Some-clause-rows c =
+    subst (λ (p : Cidr). OnOk c.add_of.result (map row_change c.add_of.new.news.items ≡ map row_change c.args.news.now.items ++ cons_option (change_at c.args.given c.args.ribs.now.rows (c.args.row.0, p)) []))
+    c.in-Some.ensures.same c.add_of.ensures.rows

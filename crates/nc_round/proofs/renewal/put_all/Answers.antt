@@ -1,17 +1,9 @@
 use Rattle.std.proofs.Common.{◌≡◌, ◌++◌, ◌∷◌, ◌<◌, [], length, map, sym, ap, subst, ◌∙◌, arith, rules}
 use Rattle.std.proofs.lemmas.List.{length-map, map_push}
-use Rattle.std.proofs.lemmas.List.Sorted.{All-permutation}
 use Rattle.nc_types.proofs.Members.{In, in_left, all_in, all_by_in}
 use Rattle.nc_round.specs.Renewing.{row_change, IsNew, Leads}
-use Rattle.nc_round.proofs.NewRows.{key_of, leads_moved, leads_put}
+use Rattle.nc_round.proofs.NewRows.{key_of, leads_put}
 use Rattle.nc_round.proofs.renewal.put_all.Goals as goal
-
-pub news-init : goal.news-init
-news-init c = record {
-  count = search rules;
-  news = All-permutation (IsNew (length c.args.table.now)) c.args.news.items c.reverse.new.self.items c.reverse.ensures.permutation c.requires;
-  leads = λ target leads. leads_moved target c.args.table.now c.args.news.items c.reverse.new.self.items c.reverse.ensures.permutation leads;
-}
 
 pub news-preserved : goal.news-preserved
 news-preserved c =
@@ -19,11 +11,12 @@ news-preserved c =
     let new = c.in-Some.new in
     let items : c.news.news.items ≡ rest ++ new ∷ [] = c.in-Some.ensures.items in
     record {
-      count = c.in_ok-put.ensures.count ∙ c.news.invariant.count;
-      news = all_by_in (IsNew (length c.args.table.now)) rest (λ n i. all_in (IsNew (length c.args.table.now)) c.news.news.items c.news.invariant.news n (subst (In n) (sym items) (in_left rest (new ∷ []) n i)));
+      prefixes = c.put.ensures.prefixes ∙ c.news.invariant.prefixes;
+      count = c.put.ensures.count ∙ c.news.invariant.count;
+      news = all_by_in (IsNew (length c.args.ribs.now.rows) c.args.ribs.now.prefixes) rest (λ n i. all_in (IsNew (length c.args.ribs.now.rows) c.args.ribs.now.prefixes) c.news.news.items c.news.invariant.news n (subst (In n) (sym items) (in_left rest (new ∷ []) n i)));
       leads = λ target leads.
-          leads_put target c.news.table c.put.new.self (map row_change rest) (row_change new) c.in_ok-put.ensures.put
-          (subst (Leads target c.news.table) (ap (map row_change) items ∙ map_push row_change rest new) (c.news.invariant.leads target leads));
+          leads_put target c.news.ribs.rows c.put.new.self.rows (map row_change rest) (row_change new) c.put.ensures.put
+          (subst (Leads target c.news.ribs.rows) (ap (map row_change) items ∙ map_push row_change rest new) (c.news.invariant.leads target leads));
     }
 
 pub returns-clause-leads : goal.returns-clause-leads

@@ -6,10 +6,11 @@ use Rattle.nc_round.proofs.renewal.put_all.Given as goal
 
 abbrev pub invariant-news : goal.invariant-news
 invariant-news l = record {
-  count : length l.table ≡ length l.fn.table;
-  news : All (IsNew (length l.fn.table)) l.news.items;
+  prefixes : l.ribs.prefixes ≡ l.fn.ribs.prefixes;
+  count : length l.ribs.rows ≡ length l.fn.ribs.rows;
+  news : All (IsNew (length l.fn.ribs.rows) l.fn.ribs.prefixes) l.news.items;
   -- what is left to be put leads where all did
-  leads : (target : ℕ → Cidr → List Chosen) → Leads target l.fn.table (map row_change l.fn.news.items) → Leads target l.table (map row_change l.news.items);
+  leads : (target : ℕ → Cidr → List Chosen) → Leads target l.fn.ribs.rows (map row_change l.fn.news.items) → Leads target l.ribs.rows (map row_change l.news.items);
 }
 
 abbrev pub decreases-news : goal.decreases-news

@@ -1,39 +1,58 @@
-use Rattle.std.proofs.Common.{◌≡◌, ℕ, suc, ◌+◌, subst, arith, rules}
-use Rattle.nc_tables.specs.Rounds.{IsUnstable}
+use Rattle.std.proofs.Common.{◌≡◌, ℕ, suc, ◌+◌, ◌<◌, List, length, map, sym, subst, ◌∙◌, arith, rules}
+use Rattle.std.proofs.lemmas.List.{length-map}
+use Rattle.nc_types.specs.Cidr.{Cidr}
+use Rattle.nc_tables.specs.Rounds.{IsStable, IsUnstable}
+use Rattle.nc_round.specs.declared.changed.ChangedRow.{ChangedRow}
+use Rattle.nc_round.specs.Rows.{row_key, AreRows}
 use Rattle.nc_round.proofs.Settled.{at, IsRun, run_start, run_made, run_stop, run_on, run_more}
 use Rattle.nc_round.proofs.settling.settle_table.Goals as goal
 
+none_left : (rows : List ChangedRow) → length rows ≡ 0 → length (map row_key rows) ≡ 0
+none_left rows none = length-map rows row_key ∙ none
+
+some_left : (rows : List ChangedRow) → 0 < length rows → 0 < length (map row_key rows)
+some_left rows some = omega (arith, length-map rows row_key)
+
 pub rounds-init : goal.rounds-init
 rounds-init c =
-    let i = c.args.given in
-    run_start i.network.now i.base.now i.sessions.now c.in_ok-table.table c.in_ok-table.changed.rows.items c.in_ok-table.ensures.table c.in_ok-table.ensures.changed
-
-pub returns-then-is_empty : goal.returns-then-is_empty
-returns-then-is_empty c =
-    let i = c.args.given in
-    run_stop i.network.now i.base.now i.sessions.now c.rounds.table c.rounds.changed.rows.items c.rounds._more c.rounds.invariant c.args.rounds (omega arith) (search rules)
+    let i = c.args.given in record {
+      run = run_start i.network.now i.base.now i.sessions.now c.in_ok-ribs.ribs.rows (map row_key c.in_ok-ribs.changed.rows.items) c.in_ok-ribs.ensures.table c.in_ok-ribs.ensures.changed;
+      prefixes = c.in_ok-ribs.ensures.prefixes;
+      numbers = c.in_ok-ribs.ensures.numbers;
+    }
 
 pub round_changed-requires-clause-made : goal.round_changed-requires-clause-made
 round_changed-requires-clause-made c =
     let i = c.args.given in
-    (at i.network.now i.base.now i.sessions.now c.rounds._more, run_made i.network.now i.base.now i.sessions.now c.rounds.table c.rounds.changed.rows.items c.rounds._more c.rounds.invariant)
+    (at i.network.now i.base.now i.sessions.now c.rounds._more, run_made i.network.now i.base.now i.sessions.now c.rounds.ribs.rows (map row_key c.rounds.changed.rows.items) c.rounds._more c.rounds.invariant.run)
 
 pub rounds-preserved : goal.rounds-preserved
 rounds-preserved c =
     let i = c.args.given in
     let k = c.rounds._more in
     let up : suc k ≡ k + 1 = omega arith in
-    subst (λ (n : ℕ). IsRun i.network.now i.base.now i.sessions.now n c.in_ok-next.next.0 c.in_ok-next.next.1.rows.items) up
-    (run_more i.network.now i.base.now i.sessions.now k c.rounds.table c.in_ok-next.next.0 c.rounds.changed.rows.items c.in_ok-next.next.1.rows.items c.rounds.invariant (search rules) c.in_ok-next.ensures.table c.in_ok-next.ensures.changed)
+    record {
+      run = subst (λ (n : ℕ). IsRun i.network.now i.base.now i.sessions.now n c.in_ok-next.next.0.rows (map row_key c.in_ok-next.next.1.rows.items)) up
+          (run_more i.network.now i.base.now i.sessions.now k c.rounds.ribs.rows c.in_ok-next.next.0.rows (map row_key c.rounds.changed.rows.items) (map row_key c.in_ok-next.next.1.rows.items) c.rounds.invariant.run (some_left c.rounds.changed.rows.items (search rules)) c.in_ok-next.ensures.table c.in_ok-next.ensures.changed);
+      prefixes = c.in_ok-next.ensures.prefixes ∙ c.rounds.invariant.prefixes;
+      numbers = subst (λ (ps : List Cidr). AreRows ps c.in_ok-next.next.1.rows.items) (sym c.in_ok-next.ensures.prefixes) c.in_ok-next.ensures.numbers;
+    }
+
+pub returns-then-is_empty : goal.returns-then-is_empty
+returns-then-is_empty c =
+    let i = c.args.given in
+    subst (IsStable i.network.now i.base.now i.sessions.now c.args.rounds) (sym c.in_ok-into_table.ensures)
+    (run_stop i.network.now i.base.now i.sessions.now c.rounds.ribs.rows (map row_key c.rounds.changed.rows.items) c.rounds._more c.rounds.invariant.run c.args.rounds (omega arith) (none_left c.rounds.changed.rows.items (search rules)))
 
 pub returns-then-is_empty-2 : goal.returns-then-is_empty-2
 returns-then-is_empty-2 c =
     let i = c.args.given in
-    run_stop i.network.now i.base.now i.sessions.now c.rounds.table c.rounds.changed.rows.items c.rounds._more c.rounds.invariant c.args.rounds (omega arith) (search rules)
+    subst (IsStable i.network.now i.base.now i.sessions.now c.args.rounds) (sym c.in_ok-into_table-2.ensures)
+    (run_stop i.network.now i.base.now i.sessions.now c.rounds.ribs.rows (map row_key c.rounds.changed.rows.items) c.rounds._more c.rounds.invariant.run c.args.rounds (omega arith) (none_left c.rounds.changed.rows.items (search rules)))
 
 pub returns : goal.returns
 returns c =
     let i = c.args.given in
     let all : suc c.rounds._more ≡ c.args.rounds = omega arith in
     subst (IsUnstable i.network.now i.base.now i.sessions.now) all
-    (run_on i.network.now i.base.now i.sessions.now c.rounds.table c.rounds.changed.rows.items c.rounds._more c.rounds.invariant (search rules))
+    (run_on i.network.now i.base.now i.sessions.now c.rounds.ribs.rows (map row_key c.rounds.changed.rows.items) c.rounds._more c.rounds.invariant.run (some_left c.rounds.changed.rows.items (search rules)))

@@ -1,5 +1,12 @@
+use Rattle.std.proofs.Common.{◌≡◌, map}
+use Rattle.nc_tables.specs.Rounds.{prefixes}
+use Rattle.nc_round.specs.Rows.{row_key, AreRows}
 use Rattle.nc_round.proofs.Settled.{IsRun}
 use Rattle.nc_round.proofs.settling.settle_table.Given as goal
 
 abbrev pub invariant-rounds : goal.invariant-rounds
-invariant-rounds l = IsRun l.given.network.now l.given.base.now l.given.sessions.now l._more l.table l.changed.rows.items
+invariant-rounds l = record {
+  run : IsRun l.given.network.now l.given.base.now l.given.sessions.now l._more l.ribs.rows (map row_key l.changed.rows.items);
+  prefixes : l.ribs.prefixes ≡ prefixes l.given.network.now;
+  numbers : AreRows l.ribs.prefixes l.changed.rows.items;
+}

@@ -5,6 +5,9 @@ use Rattle.nc_types.proofs.Walks.{drop_read}
 use Rattle.nc_types.specs.Cidr.{Cidr}
 use Rattle.nc_types.specs.declared.config.AggregateStatement.{AggregateStatement}
 use Rattle.nc_tables.specs.Rounds.{is_longer_in}
+use Rattle.nc_tables.specs.declared.ribs.Numbered.{Numbered}
+use Rattle.nc_round.specs.Rows.{prefixes_of}
+use Rattle.nc_round.proofs.Lists.{any_map}
 use Rattle.nc_round.proofs.waking.add_around.Goals as goal
 use Rattle.nc_round.proofs.waking.add_around.Goals.{then-has_inside+in_ok-push, else-has_inside}
 
@@ -24,7 +27,7 @@ fails {X} {Y} test f x left rest before parts is =
 
 pub aggregates-preserved : goal.aggregates-preserved
 aggregates-preserved c =
-    let test : AggregateStatement → Bool = λ a. list_any (λ (q : Cidr). is_longer_in q a.prefix) c.args.changed.now in
+    let test : AggregateStatement → Bool = λ a. list_any (λ (q : Cidr). is_longer_in q a.prefix) (prefixes_of c.args.changed.now) in
     let f : AggregateStatement → Cidr = λ a. a.prefix in
     let all = c.args.aggregates.now in
     let index = c.aggregates.aggregate-index in
@@ -32,11 +35,12 @@ aggregates-preserved c =
     let rest = drop (index + 1) all in
     let parts : drop index all ≡ a ∷ rest = drop_read all index a c.aggregate-item.is (omega arith) in
     let before = c.aggregates.prefixes.items in
+    let tested : test a ≡ c.has_inside.result = any_map (λ (q : Cidr). is_longer_in q a.prefix) (λ (n : Numbered). n.prefix) c.args.changed.now ∙ sym c.has_inside.ensures in
     elim c.if-has_inside.branch [
       | then-has_inside+in_ok-push w ↦
-          passes test f a (drop index all) rest before c.if-has_inside.prefixes.items parts (sym c.has_inside.ensures ∙ w.if-has_inside.true)
+          passes test f a (drop index all) rest before c.if-has_inside.prefixes.items parts (tested ∙ w.if-has_inside.true)
           (ap (λ (v : Vec Cidr). v.items) w.prefixes-is ∙ w.in_ok-push.ensures.items) ∙ c.aggregates.invariant
       | else-has_inside w ↦
           ap (λ (v : Vec Cidr). v.items ++ map f (filter test rest)) w.prefixes-is
-          ∙ fails test f a (drop index all) rest before parts (sym c.has_inside.ensures ∙ w.if-has_inside.false) ∙ c.aggregates.invariant
+          ∙ fails test f a (drop index all) rest before parts (tested ∙ w.if-has_inside.false) ∙ c.aggregates.invariant
     ]

@@ -1,9 +1,10 @@
-use Rattle.std.proofs.Common.{◌≡◌, ◌+◌, ◌<◌, ◌++◌, ℕ, List, length, map, drop, filter, false, not, get_or, append_assoc, sym, ap, ◌∙◌, arith}
+use Rattle.std.proofs.Common.{◌≡◌, ◌+◌, ◌<◌, ◌++◌, ℕ, List, length, drop, filter, false, not, get_or, append_assoc, sym, ap, ◌∙◌, arith}
 use Rattle.std.specs.List.{flat_map}
 use Rattle.std.proofs.lemmas.List.{drop_more}
 use Rattle.nc_types.specs.Cidr.{Cidr}
 use Rattle.nc_tables.specs.declared.bgp.SessionRow.{SessionRow}
 use Rattle.nc_message.specs.Idle.{is_idle}
+use Rattle.nc_round.specs.Rows.{listed}
 use Rattle.nc_round.specs.Waking.{heard_over}
 use Rattle.nc_round.proofs.waking.add_heard.Goals as goal
 
@@ -23,12 +24,12 @@ pub rows-preserved : goal.rows-preserved
 unfolding nowhere
 rows-preserved c =
     let i = c.args.given.now in
-    let lists : List (List Cidr) = map (λ l. l.items) c.args.lists.now in
-    let f = heard_over i c.args.table.now lists c.args.router.0 in
+    let lists : List (List Cidr) = listed c.args.lists.now in
+    let f = heard_over i c.args.ribs.now.rows lists c.args.router.0 in
     let rows = c.args.rows.now in
     let k = c.rows.row-index in
     let row = get_or rows k nowhere in
     heard_more f rows k nowhere c.rows.prefixes.items c.add_counting.new.prefixes.items (c.args.prefixes.now.items ++ flat_map f rows) (omega arith)
     (c.in_ok-add_counting.ensures
-    ∙ ap (λ (l : List Cidr). c.rows.prefixes.items ++ filter (λ p. not (is_idle i.network.now i.base.now i.sessions.now c.args.table.now c.args.router.0 row.neighbor p)) l) c.changed_at-changed.ensures)
+    ∙ ap (λ (l : List Cidr). c.rows.prefixes.items ++ filter (λ p. not (is_idle i.network.now i.base.now i.sessions.now c.args.ribs.now.rows c.args.router.0 row.neighbor p)) l) c.changed_at-changed.ensures.prefixes)
     c.rows.invariant

@@ -1,16 +1,17 @@
-use Rattle.std.proofs.Common.{◌≡◌, ℕ, List, Contains, length, map, ap, subst, arith, inl, inr}
+use Rattle.std.proofs.Common.{◌≡◌, ℕ, List, Contains, length, ap, subst, arith, inl, inr}
 use Rattle.std.proofs.lemmas.Bool.{cases_lt}
 use Rattle.std.proofs.lemmas.List.{length-map}
 use Rattle.nc_types.specs.Cidr.{Cidr}
 use Rattle.nc_types.specs.Config.{ConfigView, config_view}
 use Rattle.nc_round.specs.Keys.{key}
+use Rattle.nc_round.specs.Rows.{listed}
 use Rattle.nc_round.specs.Waking.{woken_at}
 use Rattle.nc_round.proofs.waking.woken.Goals as goal
 
 pub routers-preserved : goal.routers-preserved
 routers-preserved c =
     let number = c.routers.router in
-    let W : ℕ → List Cidr = woken_at c.args.given.now c.args.table.now (map (λ l. l.items) c.args.lists.now) in
+    let W : ℕ → List Cidr = woken_at c.args.given.now c.args.ribs.now.rows (listed c.args.lists.now) in
     let keys = c.wake.new.woken.items in
     record {
       woken = λ router p lt some. elim (cases_lt router number) [

@@ -10,6 +10,8 @@ use Rattle.nc_tables.specs.declared.bgp.SessionRow.{SessionRow}
 use Rattle.nc_tables.specs.Rounds.{BgpRowView, is_longer_in}
 use Rattle.nc_message.specs.Idle.{is_idle}
 use Rattle.nc_message.specs.declared.given.Given.{Given}
+use Rattle.nc_tables.specs.declared.ribs.Numbered.{Numbered}
+use Rattle.nc_round.specs.Rows.{listed, row_key}
 use Rattle.nc_round.specs.Keys.{Key, key}
 use Rattle.nc_round.specs.Waking.{aggregates_of, changed_at, heard_over, woken_at, IsHeard, IsAround, IsWoken}
 use Rattle.nc_round.proofs.Lists.{in_flat_map, in_filter_map}
@@ -23,8 +25,8 @@ there changed router p i =
 module _ (i : Given) (table : List (List BgpRowView)) (changed : List Key) (lists : List (List Cidr)) (within : All (λ (k : Key). k.0.0 < length i.network.now) changed)
     (each : (r : ℕ) → r < length i.network.now → slice_index_or lists r [] ≡ changed_at changed r) where
   -- so it is in the list of the router
-  listed : (router : ℕ) (p : Cidr) → Contains changed (key router p) → In p (slice_index_or lists router [])
-  listed router p some =
+  is_listed : (router : ℕ) (p : Cidr) → Contains changed (key router p) → In p (slice_index_or lists router [])
+  is_listed router p some =
       let j = in_by_contains changed (key router p) some in
       subst (In p) (sym (each router (all_in (λ (k : Key). k.0.0 < length i.network.now) changed within (key router p) j))) (there changed router p j)
 
@@ -45,7 +47,7 @@ module _ (i : Given) (table : List (List BgpRowView)) (changed : List Key) (list
     by_session h =
         in_left heard (map (λ (a : AggregateStatement). a.prefix) around) p
         (in_flat_map (heard_over i table lists router) sessions_there h.session p (in_by_contains sessions_there h.session h.own)
-        (in_filter (λ (q : Cidr). not (is_idle i.network.now i.base.now i.sessions.now table router h.session.neighbor q)) (slice_index_or lists h.session.peer.0 []) p (listed h.session.peer.0 p h.row) (ap not h.counts)))
+        (in_filter (λ (q : Cidr). not (is_idle i.network.now i.base.now i.sessions.now table router h.session.neighbor q)) (slice_index_or lists h.session.peer.0 []) p (is_listed h.session.peer.0 p h.row) (ap not h.counts)))
 
     by_aggregate : IsAround i.network.now changed router p → In p (woken_at i table lists router)
     by_aggregate h =
@@ -53,7 +55,7 @@ module _ (i : Given) (table : List (List BgpRowView)) (changed : List Key) (list
         (subst (λ (q : Cidr). In q (map (λ (a : AggregateStatement). a.prefix) around)) h.same
         (in_map (λ (a : AggregateStatement). a.prefix) around h.aggregate
         (in_filter is_around (aggregates_of i.network.now router) h.aggregate (in_by_contains (aggregates_of i.network.now router) h.aggregate h.own)
-        (passes_some (λ (q : Cidr). is_longer_in q h.aggregate.prefix) (slice_index_or lists router []) h.inside (listed router h.inside h.row) h.longer))))
+        (passes_some (λ (q : Cidr). is_longer_in q h.aggregate.prefix) (slice_index_or lists router []) h.inside (is_listed router h.inside h.row) h.longer))))
 
     is_woken : IsWoken i table changed router p → Contains (woken_at i table lists router) p
     is_woken (inl h) = contains_by_in (woken_at i table lists router) p (by_session h)
@@ -63,12 +65,12 @@ pub returns-clause-woken : goal.returns-clause-woken
 returns-clause-woken c router p lt within woken =
     let i = c.args.given.now in
     let network = i.network.now in
-    let lists : List (List Cidr) = map (λ l. l.items) c.deref.result.now in
-    let each : (r : ℕ) → r < length network → slice_index_or lists r [] ≡ changed_at c.args.changed.now r =
-    λ r less. subst (λ (ls : List (Vec Cidr Global)). slice_index_or (map (λ l. l.items) ls) r [] ≡ changed_at c.args.changed.now r) (sym c.deref.ensures.value)
+    let lists : List (List Cidr) = listed c.deref.result.now in
+    let each : (r : ℕ) → r < length network → slice_index_or lists r [] ≡ changed_at (map row_key c.args.changed.now) r =
+    λ r less. subst (λ (ls : List (Vec Numbered Global)). slice_index_or (listed ls) r [] ≡ changed_at (map row_key c.args.changed.now) r) (sym c.deref.ensures.value)
     (c.in_ok-lists.ensures.each r (omega (arith, length-map c.routers.result.now config_view, ap (length {A = ConfigView}) c.routers.ensures.routers))) in
     (c.in_order.ensures.same (key router p)).1
-    (c.in_ok-keys.ensures.woken router p lt (is_woken i c.args.table.now c.args.changed.now lists within each router p woken))
+    (c.in_ok-keys.ensures.woken router p lt (is_woken i c.args.ribs.now.rows (map row_key c.args.changed.now) lists within each router p woken))
 
 pub returns-clause-within : goal.returns-clause-within
 returns-clause-within c =

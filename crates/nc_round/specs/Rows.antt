@@ -1,0 +1,25 @@
+-- Rows that changed, by their router and by the numbers of their prefixes.
+use Rattle.std.specs.Prelude.{List, All, map}
+use Rattle.std.specs.Global.{Vec}
+use Rattle.nc_types.specs.Cidr.{Cidr}
+use Rattle.nc_tables.specs.declared.ribs.Numbered.{Numbered}
+use Rattle.nc_tables.specs.LocRibs.{IsNumbered}
+use Rattle.nc_round.specs.declared.changed.ChangedRow.{ChangedRow}
+use Rattle.nc_round.specs.Keys.{Key}
+
+abbrev pub row_key : ChangedRow → Key
+row_key r = (r.router, r.of.prefix)
+
+-- each under the number that its prefix has among these
+abbrev pub AreRows : List Cidr → List ChangedRow → Type 0
+AreRows prefixes rows = All (λ r. IsNumbered prefixes r.of) rows
+
+-- the prefixes of numbered ones, and those of lists of them
+abbrev pub prefixes_of : List Numbered → List Cidr
+prefixes_of ns = map (λ n. n.prefix) ns
+
+abbrev pub listed : List (Vec Numbered) → List (List Cidr)
+listed lists = map (λ l. prefixes_of l.items) lists
+
+abbrev pub AreListed : List Cidr → List (Vec Numbered) → Type 0
+AreListed prefixes lists = All (λ l. All (IsNumbered prefixes) l.items) lists

@@ -1,0 +1,223 @@
+//! What routers choose while a network settles, by the numbers of the prefixes.
+
+ghost use Rattle.std.specs.Prelude.{◌≡◌, ◌≤◌, ◌<◌, ◌==◌, ◌&&◌, ℕ, ◌++◌, [], All, Contains, IfNone, IfOk, IfSome, OnOk, length, map, replicate, slice_index_or, if◌then◌else◌, set};
+ghost use Rattle.nc_types.specs.Cidr.{Cidr};
+ghost use Rattle.nc_types.specs.declared.TheConstants.{MULTIPATH_LIMIT};
+ghost use Rattle.nc_tables.specs.Base.{same_prefix};
+ghost use Rattle.nc_tables.specs.LocRibs.{choices_view, row_before, rows_by, AreChosen, Ascend, AreChoices, IsNumbered};
+ghost use Rattle.nc_tables.specs.Rounds.{bgp_row_view, chosen_at, has_longer, AreBgpRows};
+
+use crate::bgp::{BgpRow, Chosen};
+use crate::inside::is_longer_in;
+use crate::longest::rows_at;
+use crate::routes::BgpTable;
+use nc_types::{Prefix, RouterId};
+use std::alloc::{AllocError, Global};
+use std::marker::Model;
+
+/// A prefix among those that routers begin, and its number among them.
+#[derive(Clone, Copy)]
+pub struct Numbered {
+    pub prefix: Prefix,
+    /// Its place in order of prefix, from 0.
+    pub number: usize,
+}
+
+/// What each router of a network chooses of each prefix that any of them begins (their Loc-RIBs, RFC 4271,
+/// section 3.2), while the network settles. A choice is found and set by the number of its prefix: nothing is
+/// searched and no row moves.
+#[derive(Drop)]
+pub struct LocRibs {
+    prefixes: Vec<Prefix>,
+    routers: Vec<Vec<Vec<Chosen>>>,
+}
+
+impl Model for LocRibs {
+    ghost use Rattle.std.specs.Prelude.{map, All};
+    ghost use Rattle.nc_tables.specs.LocRibs.{choices_view, rows_by, Ascend, AreChoices, LocRibsView};
+
+    ghost Value = { LocRibsView };
+
+    ghost view = { λ t. record {
+      prefixes = t.prefixes.items;
+      rows = map (λ choices. rows_by t.prefixes.items (choices_view choices)) t.routers.items;
+    } };
+
+    ghost invariant = { λ t. Ascend t.prefixes.items
+        × All (λ choices. AreChoices t.prefixes.items (choices_view choices)) t.routers.items };
+}
+
+// As many choices of nothing.
+fn no_choices(alloc: Global, count: usize) -> Result<Vec<Vec<Chosen>>, AllocError>
+    ensures count { IfOk result (λ choices. length choices.items ≡ count) }
+    ensures none { IfOk result (λ choices. All (λ cs. cs.items ≡ []) choices.items) }
+{
+    let mut choices = Vec::with_capacity(alloc, count)?;
+    'prefixes: for _number in 0..count {
+        choices.push(Vec::new(alloc))?;
+    }
+    Ok(choices)
+}
+
+// What is chosen of the prefix of a number.
+fn choice_at(choices: &[Vec<Chosen>], number: usize) -> &[Chosen]
+    requires { number < length choices.now }
+    ensures { result.now ≡ slice_index_or (map (λ cs. cs.items) choices.now) number [] }
+{
+    &choices[number]
+}
+
+// Sets what is chosen of the prefix of a number.
+fn set_choice(choices: &mut Vec<Vec<Chosen>>, number: usize, chosen: Vec<Chosen>)
+    requires { number < length choices.old.items }
+    ensures { choices.new.items ≡ set choices.old.items number chosen }
+{
+    choices[number] = chosen;
+}
+
+// Whether something is chosen of a longer prefix inside another. Prefixes inside it follow it.
+fn has_chosen_inside(prefixes: &[Prefix], choices: &[Vec<Chosen>], outer: Prefix) -> bool
+    requires ordered { Ascend prefixes.now }
+    requires count { length choices.now ≡ length prefixes.now }
+    ensures { result ≡ has_longer (rows_by prefixes.now (map (λ cs. cs.items) choices.now)) outer }
+{
+    let _len = outer.len();
+    let first = prefixes.partition_point(|prefix| *prefix <= outer);
+    'prefixes: for number in first..prefixes.len() {
+        if !is_longer_in(prefixes[number], outer) {
+            return false;
+        }
+        if !choices[number].is_empty() {
+            return true;
+        }
+    }
+    false
+}
+
+// Adds the row of a prefix, where something is chosen of it.
+fn push_row(rows: &mut Vec<BgpRow>, prefix: Prefix, chosen: Vec<Chosen>) -> Result<(), AllocError>
+    ensures { OnOk result (map bgp_row_view rows.new.items
+        ≡ map bgp_row_view rows.old.items ++ row_before prefix chosen.items []) }
+{
+    if chosen.is_empty() {
+        return Ok(());
+    }
+    rows.push(BgpRow { prefix, chosen })?;
+    Ok(())
+}
+
+// The rows of a router that chooses this of each prefix.
+fn rows_of(
+    alloc: Global,
+    prefixes: &[Prefix],
+    choices: Vec<Vec<Chosen>>,
+) -> Result<Vec<BgpRow>, AllocError>
+    requires ordered { Ascend prefixes.now }
+    requires choices { AreChoices prefixes.now (choices_view choices) }
+    ensures rows { IfOk result
+        (λ rows. map bgp_row_view rows.items ≡ rows_by prefixes.now (choices_view choices)) }
+    ensures valid { IfOk result (λ rows. AreBgpRows (map bgp_row_view rows.items)) }
+{
+    let mut rows = Vec::new(alloc);
+    let mut left = choices.into_iter();
+    'prefixes: for prefix in prefixes {
+        let _len = prefix.len();
+        let Some(chosen) = left.next() else {
+            break 'prefixes;
+        };
+        push_row(&mut rows, *prefix, chosen)?;
+    }
+    Ok(rows)
+}
+
+impl LocRibs {
+    /// Of each of these prefixes, which are in order (address, then length), nothing is chosen by any of so
+    /// many routers.
+    ///
+    /// # Errors
+    ///
+    /// Memory that runs out.
+    pub fn new(alloc: Global, prefixes: Vec<Prefix>, count: usize) -> Result<LocRibs, AllocError>
+        requires { Ascend prefixes.items }
+        ensures prefixes { IfOk result (λ ribs. ribs.prefixes ≡ prefixes.items) }
+        ensures rows { IfOk result (λ ribs. ribs.rows ≡ replicate count []) }
+    {
+        let mut routers = Vec::with_capacity(alloc, count)?;
+        'routers: for _router in 0..count {
+            routers.push(no_choices(alloc, prefixes.len())?)?;
+        }
+        Ok(LocRibs { prefixes, routers })
+    }
+
+    /// A prefix with its number, by a binary search; `None` where it isn't among them.
+    pub fn numbered(&self, prefix: Prefix) -> Option<Numbered>
+        ensures number { IfSome result (IsNumbered self.now.prefixes) }
+        ensures same { IfSome result (λ n. n.prefix ≡ prefix) }
+        ensures none { IfNone result (¬ Contains self.now.prefixes prefix) }
+    {
+        match self.prefixes.binary_search(&prefix) {
+            Ok(number) => Some(Numbered { prefix, number }),
+            Err(_) => None,
+        }
+    }
+
+    /// The chosen candidates of a prefix at a router, which has a number below that of the routers, best
+    /// first; empty where nothing is chosen. Takes no memory.
+    pub fn chosen(&self, router: RouterId, of: Numbered) -> &[Chosen]
+        requires router { router.0 < length self.now.rows }
+        requires number { IsNumbered self.now.prefixes of }
+        ensures chosen { result.now ≡ chosen_at self.now.rows router.0 of.prefix }
+        ensures own { All (λ x. x.route.prefix ≡ of.prefix) result.now }
+    {
+        choice_at(rows_at(&self.routers, router), of.number)
+    }
+
+    /// From now on this is chosen of a prefix at a router, which has a number below that of the routers: at
+    /// most [`nc_types::MULTIPATH_LIMIT`] candidates, each of that prefix. All else stays.
+    pub fn put(&mut self, router: RouterId, of: Numbered, chosen: Vec<Chosen>)
+        requires router { router.0 < length self.old.rows }
+        requires number { IsNumbered self.old.prefixes of }
+        requires few { length chosen.items ≤ MULTIPATH_LIMIT }
+        requires own { All (λ x. x.route.prefix ≡ of.prefix) chosen.items }
+        ensures prefixes { self.new.prefixes ≡ self.old.prefixes }
+        ensures count { length self.new.rows ≡ length self.old.rows }
+        ensures put { (r : ℕ) (p : Cidr) → chosen_at self.new.rows r p
+            ≡ (if (r == router.0) && same_prefix of.prefix p then chosen.items
+            else chosen_at self.old.rows r p) }
+    {
+        set_choice(&mut self.routers[router.0 as usize], of.number, chosen);
+    }
+
+    /// Whether a router, which has a number below that of the routers, has chosen candidates of a longer
+    /// prefix inside another. Goes over the prefixes inside up to the first of which something is chosen.
+    pub fn has_longer(&self, router: RouterId, outer: Prefix) -> bool
+        requires { router.0 < length self.now.rows }
+        ensures { result ≡ has_longer (slice_index_or self.now.rows router.0 []) outer }
+    {
+        has_chosen_inside(&self.prefixes, rows_at(&self.routers, router), outer)
+    }
+
+    /// How many routers there are; what each chooses is as the rows of a router are.
+    pub fn count(&self) -> usize
+        ensures count { result ≡ length self.now.rows }
+        ensures valid { All AreChosen self.now.rows }
+    {
+        self.routers.len()
+    }
+
+    /// The tables of what is chosen.
+    ///
+    /// # Errors
+    ///
+    /// Memory that runs out.
+    pub fn into_table(self, alloc: Global) -> Result<BgpTable, AllocError>
+        ensures { IfOk result (λ table. table ≡ self.rows) }
+    {
+        let mut rows = Vec::with_capacity(alloc, self.routers.len())?;
+        let mut left = self.routers.into_iter();
+        'routers: while let Some(choices) = left.next() {
+            rows.push(rows_of(alloc, &self.prefixes, choices)?)?;
+        }
+        Ok(BgpTable::from_rows(rows))
+    }
+}
