@@ -18,7 +18,7 @@ use Rattle.nc_tables.proofs.Finding.{any_is_found}
 use Rattle.nc_message.specs.Peers.{best_over}
 use Rattle.nc_message.proofs.PeerFirst.{none_sent}
 use Rattle.nc_fact.specs.declared.fact.Fact.{Fact}
-use Rattle.nc_fact.specs.declared.fact.Fact.TheVariants.{Element, Connected, Static, Base, Resolve, NetSource, Reach, Hop, Session, Origin, Contrib, Aggregate, Message, Entry, Chosen, Main, Step, Trace, AllStep, AllTrace}
+use Rattle.nc_fact.specs.declared.fact.Fact.TheVariants.{Element, Connected, Static, Base, Resolve, NetSource, Reach, Hop, Session, Origin, Contrib, Aggregate, Message, Entry, Chosen, Main, Step, Trace, AllStep, AllTrace, Pass, FlowStep, Flow}
 use Rattle.nc_fact.specs.Facts.{main_rows, holds}
 use Rattle.nc_fact.specs.Roots.{IsRoot, sessions_at, bgp_rows, row_facts, session_facts, entries_over, entry_facts, roots_of, roots}
 use Rattle.nc_fact.proofs.Beyond.{no_main, no_sessions}
@@ -169,6 +169,9 @@ module _ (s : StateView) where
     held_listed (Trace router addr hops) root h = absurd root
     held_listed (AllStep router addr way hops) root h = absurd root
     held_listed (AllTrace router addr hops) root h = absurd root
+    held_listed (Pass inward router iface from to) root h = absurd root
+    held_listed (FlowStep hops router from to way) root h = absurd root
+    held_listed (Flow router from to hops) root h = absurd root
 
     pub roots_hold : (fact : Fact) → Contains (roots s) fact ↔ (IsRoot fact × (holds s fact ≡ true))
     roots_hold fact = ((λ c. root_held fact (in_by_contains (roots s) fact c)), (λ r. contains_by_in (roots s) fact (held_listed fact r.0 r.1)))

@@ -18,7 +18,7 @@ use Rattle.nc_tables.specs.Sessions.{AreSessions, End, Side, Sides, are_met, con
 use Rattle.nc_tables.specs.State.{StateView, state_at, IsState}
 use Rattle.nc_tables.proofs.ByPrefix.{less_differs, same_itself}
 use Rattle.nc_fact.specs.declared.fact.Fact.{Fact}
-use Rattle.nc_fact.specs.declared.fact.Fact.TheVariants.{Element, Connected, Static, Base, Resolve, NetSource, Reach, Hop, Session, Origin, Contrib, Aggregate, Message, Entry, Chosen, Main, Step, Trace, AllStep, AllTrace}
+use Rattle.nc_fact.specs.declared.fact.Fact.TheVariants.{Element, Connected, Static, Base, Resolve, NetSource, Reach, Hop, Session, Origin, Contrib, Aggregate, Message, Entry, Chosen, Main, Step, Trace, AllStep, AllTrace, Pass, FlowStep, Flow}
 use Rattle.nc_fact.specs.Facts.{main_rows, holds}
 use Rattle.nc_fact.specs.Roots.{router_of, IsNearer, IsBefore, sessions_at, bgp_rows, row_facts, session_facts, entries_over, entry_facts, roots_of, roots}
 use Rattle.nc_fact.proofs.Parts.{no_pairs, pairs_joined, pairs_made, pairs_parts, range_rises, made_rise}
@@ -85,6 +85,9 @@ not_itself (Step router addr way hops) never = never
 not_itself (Trace router addr hops) never = never
 not_itself (AllStep router addr way hops) never = never
 not_itself (AllTrace router addr hops) never = never
+not_itself (Pass inward router iface from to) never = never
+not_itself (FlowStep hops router from to way) never = never
+not_itself (Flow router from to hops) never = never
 
 before_differs : (fact other : Fact) → IsBefore fact other → fact ≢ other
 before_differs fact other before same = on (subst (IsBefore fact) (sym same) before)

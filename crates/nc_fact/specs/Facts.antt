@@ -11,13 +11,15 @@ use Rattle.nc_tables.specs.declared.base.BaseRow.{BaseRow}
 use Rattle.nc_tables.specs.declared.bgp.Chosen.{Chosen as ChosenRoute}
 use Rattle.nc_tables.specs.declared.bgp.MainRow.{MainRow}
 use Rattle.nc_tables.specs.Base.{same_prefix, static_at}
+use Rattle.nc_tables.specs.Filters.{passes}
+use Rattle.nc_tables.specs.Flows.{flows, flow_step_at}
 use Rattle.nc_tables.specs.Forwarding.{traces, all_trace, step_at, all_step_at}
 use Rattle.nc_tables.specs.Reach.{hits, leads_to, reaches}
 use Rattle.nc_tables.specs.Rounds.{Message as SentMessage, Accepted, chosen_at, is_active, session_by, message_at, accepted_at}
 use Rattle.nc_tables.specs.Sessions.{process_of}
 use Rattle.nc_tables.specs.State.{StateView}
 use Rattle.nc_fact.specs.declared.fact.Fact.{Fact}
-use Rattle.nc_fact.specs.declared.fact.Fact.TheVariants.{Element, Connected, Static, Base, Resolve, NetSource, Reach, Hop, Session, Origin, Contrib, Aggregate, Message, Entry, Chosen, Main, Step, Trace, AllStep, AllTrace}
+use Rattle.nc_fact.specs.declared.fact.Fact.TheVariants.{Element, Connected, Static, Base, Resolve, NetSource, Reach, Hop, Session, Origin, Contrib, Aggregate, Message, Entry, Chosen, Main, Step, Trace, AllStep, AllTrace, Pass, FlowStep, Flow}
 
 -- ---- ranks of routes
 
@@ -109,6 +111,9 @@ module _ (s : StateView) where
   holds (Trace router addr hops) = nat_le hops HOP_LIMIT && traces s.routers s.base s.bgp s.main hops router.0 addr.0
   holds (AllStep router addr way hops) = all_step_at s.routers s.base s.bgp s.main router.0 addr.0 way hops
   holds (AllTrace router addr hops) = nat_le hops HOP_LIMIT && all_trace s.routers s.base s.bgp s.main hops router.0 addr.0
+  holds (Pass inward router iface from to) = passes from.0 to.0 s.routers router.0 iface.0 inward
+  holds (FlowStep hops router from to way) = flow_step_at s from.0 to.0 router.0 way hops
+  holds (Flow router from to hops) = nat_le hops HOP_LIMIT && flows s from.0 to.0 hops router.0
 
   -- the rank of a fact, which is above that of each fact from which it follows: that of a route's fact by its prefix and its path, 0 where
   -- there is no such route. The gaps are for the kinds of facts that are to come
@@ -133,3 +138,6 @@ module _ (s : StateView) where
   rank (Trace router addr hops) = 150001 + 2 * hops
   rank (AllStep router addr way hops) = 150000 + 2 * hops
   rank (AllTrace router addr hops) = 150001 + 2 * hops
+  rank (Pass inward router iface from to) = 2
+  rank (FlowStep hops router from to way) = 150000 + 2 * hops
+  rank (Flow router from to hops) = 150001 + 2 * hops

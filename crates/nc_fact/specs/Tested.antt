@@ -8,7 +8,7 @@ use Rattle.nc_types.specs.Cidr.{Cidr}
 use Rattle.nc_types.specs.declared.addr.Addr.{Addr}
 use Rattle.nc_types.specs.declared.config.RouterId.{RouterId}
 use Rattle.nc_types.specs.declared.command.TestCommand.{TestCommand}
-use Rattle.nc_types.specs.declared.command.TestCommand.TheVariants.{Rib, Bgp, Session, Reach, Every, Element}
+use Rattle.nc_types.specs.declared.command.TestCommand.TheVariants.{Rib, Bgp, Session, Reach, Every, Flow, Element}
 use Rattle.nc_tables.specs.declared.base.BaseFrom.{BaseFrom}
 use Rattle.nc_tables.specs.declared.base.BaseFrom.TheVariants as base
 use Rattle.nc_tables.specs.declared.bgp.MainRow.{MainRow}
@@ -70,13 +70,14 @@ module _ (s : StateView) where
   abbrev pub asked_element : ℕ → ℕ → List Fact
   asked_element router line = option_map_or (λ element. fact.Element (record { 0 = element }) ∷ []) (owner_at s.routers router line) []
 
-  -- what a test names; of a packet, that it arrives by some way, or by each, over as many hops as there may be
+  -- what a test names; of a packet, that it arrives by some way, by each, or by some that let it pass, over as many hops as there may be
   abbrev pub named_facts : TestCommand → List Fact
   named_facts (Rib name prefix via) = option_map_or (λ router. asked_rows router prefix via) (router_named s.routers name) []
   named_facts (Bgp name prefix from) = option_map_or (λ router. asked_of_bgp router prefix from) (router_named s.routers name) []
   named_facts (Session name addr) = option_map_or (λ router. asked_session router addr) (router_named s.routers name) []
   named_facts (Reach name addr) = option_map_or (λ router. fact.Trace (record { 0 = router }) addr HOP_LIMIT ∷ []) (router_named s.routers name) []
   named_facts (Every name addr) = option_map_or (λ router. fact.AllTrace (record { 0 = router }) addr HOP_LIMIT ∷ []) (router_named s.routers name) []
+  named_facts (Flow name from to) = option_map_or (λ router. fact.Flow (record { 0 = router }) from to HOP_LIMIT ∷ []) (router_named s.routers name) []
   named_facts (Element name line) = option_map_or (λ router. asked_element router line) (router_named s.routers name) []
 
   -- the router from which a test of a packet asks whether it arrives, and its address; other tests ask of none
@@ -87,6 +88,15 @@ module _ (s : StateView) where
   packet_of (Reach name addr) = packet_from name addr
   packet_of (Every name addr) = packet_from name addr
   packet_of test = None
+
+  -- the router from which a test asks of a packet whether it is let pass and arrives, from which address it comes and to which it goes;
+  -- other tests ask of none
+  abbrev pub flow_packet_from : List ℕ → Addr → Addr → Option (RouterId × Addr × Addr)
+  flow_packet_from name from to = option_map (λ router. (record { 0 = router }, from, to)) (router_named s.routers name)
+
+  abbrev pub flow_packet_of : TestCommand → Option (RouterId × Addr × Addr)
+  flow_packet_of (Flow name from to) = flow_packet_from name from to
+  flow_packet_of test = None
 
   -- the facts that a test tests: those that it names and that hold
   unfoldable pub tested_facts : TestCommand → List Fact

@@ -47,4 +47,17 @@ pub enum Fact {
     AllStep(RouterId, Addr, u32, u8),
     /// That there is an alternative and it arrives by each, or the router owns the address.
     AllTrace(RouterId, Addr, u8),
+    /// That an interface is up and that its access list lets packets from the first address to the second pass, into the
+    /// router where this is true, out of it where it is false.
+    Pass(bool, RouterId, IfaceId, Addr, Addr),
+    /// That a packet from the first address to the second, which stands at the router past what filters come in there,
+    /// arrives over at most so many hops by the alternative at a place, the hop by it counted: it is let out, and is
+    /// delivered there, or is let in where it goes and arrives by some way from there. The small number stands first, so
+    /// that a fact takes no more memory than others do.
+    FlowStep(u8, RouterId, Addr, Addr, u32),
+    /// That it arrives by some alternative, or the router owns the second address.
+    Flow(RouterId, Addr, Addr, u8),
 }
+
+// A graph holds each fact, so its size counts.
+const _: () = prove!(size_of::<Fact>() == 20);

@@ -1,27 +1,28 @@
 //! The facts that a test tests.
 
-ghost use Rattle.std.specs.Prelude.{◌≡◌, ◌&&◌, [], ◌∷◌, true, filter, slice_get, All, IfOk, None, if◌then◌else◌};
+ghost use Rattle.std.specs.Prelude.{◌≡◌, ◌&&◌, [], ◌∷◌, true, filter, slice_get, All, IfOk, None};
 ghost use Rattle.std.specs.Option.{option_map, option_map_or, ForSome};
-ghost use Rattle.nc_types.specs.declared.TheConstants.{HOP_LIMIT};
 ghost use Rattle.nc_types.specs.Network.{router_named};
-ghost use Rattle.nc_tables.specs.State.{StateView};
+ghost use Rattle.nc_trace.specs.Flow.{IsFlowTo, IsFlowIncluded};
 ghost use Rattle.nc_trace.specs.Traced.{IsIncluded, IsTracedTo};
 ghost use Rattle.nc_policy.specs.Indexes.{ArePolicies};
 ghost use Rattle.nc_fact.specs.declared.fact.Fact.TheVariants as fact;
 ghost use Rattle.nc_fact.specs.Facts.{base_rows, holds};
 ghost use Rattle.nc_fact.specs.Tested.{hop_from, main_hop, has_hop, asked_rows, asked_routes};
-ghost use Rattle.nc_fact.specs.Tested.{asked_entry, asked_of_bgp, asked_session, asked_element, packet_from, packet_of, tested_facts};
+ghost use Rattle.nc_fact.specs.Tested.{asked_entry, asked_of_bgp, asked_session, asked_element};
+ghost use Rattle.nc_fact.specs.Tested.{packet_of, flow_packet_of, tested_facts};
 
 use crate::bgp::{chosen_at, chosen_of};
 use crate::exits::next_hop;
 use crate::fact::Fact;
+use crate::packets::{facts_of_every, facts_of_flow, facts_of_reach};
 use crate::rows::{base_rows, main_rows, main_rows_of};
 use crate::truth::holds;
 use nc_policy::Policies;
 use nc_sessions::place_for;
 use nc_tables::{BaseFrom, MainFrom, MainRow, Stable};
-use nc_trace::TracedTo;
-use nc_types::{Addr, HOP_LIMIT, Prefix, RouterId, TestCommand, Text};
+use nc_trace::{FlowTo, TracedTo};
+use nc_types::{Addr, Prefix, RouterId, TestCommand, Text};
 use std::alloc::{AllocError, Global};
 
 // The next hop of a base row, which the row of a static route has.
@@ -284,89 +285,6 @@ fn facts_of_session(
     }
 }
 
-// A fact that was found to hold, or none.
-fn held_where(alloc: Global, holds: bool, fact: Fact) -> Result<Vec<Fact>, AllocError>
-    ensures { IfOk result (λ facts. facts.items ≡ (if holds then fact ∷ [] else [])) }
-{
-    let mut facts = Vec::new(alloc);
-    if holds {
-        facts.push(fact)?;
-    }
-    Ok(facts)
-}
-
-// The fact of a packet that arrives by some way.
-#[tactic(auto, unfolding(crate::specs::Facts::holds))]
-fn asked_reach(
-    alloc: Global,
-    traced: &TracedTo,
-    router: RouterId,
-    addr: Addr,
-) -> Result<Vec<Fact>, AllocError>
-    ensures { (s : StateView) → IsTracedTo s addr.0 traced.now → IsIncluded s traced.now router.0
-        → IfOk result (λ facts. facts.items ≡ filter (holds s) (fact.Trace router addr HOP_LIMIT ∷ [])) }
-{
-    let arrives = traced.arrives(router, HOP_LIMIT);
-    let facts = held_where(alloc, arrives, Fact::Trace(router, addr, HOP_LIMIT))?;
-    Ok(facts)
-}
-
-// The fact of a packet that arrives by every way.
-#[tactic(auto, unfolding(crate::specs::Facts::holds))]
-fn asked_every(
-    alloc: Global,
-    traced: &TracedTo,
-    router: RouterId,
-    addr: Addr,
-) -> Result<Vec<Fact>, AllocError>
-    ensures { (s : StateView) → IsTracedTo s addr.0 traced.now → IsIncluded s traced.now router.0
-        → IfOk result (λ facts. facts.items ≡ filter (holds s) (fact.AllTrace router addr HOP_LIMIT ∷ [])) }
-{
-    let arrives = traced.all_arrive(router, HOP_LIMIT);
-    let facts = held_where(alloc, arrives, Fact::AllTrace(router, addr, HOP_LIMIT))?;
-    Ok(facts)
-}
-
-// The facts of a test of a packet by some way.
-fn facts_of_reach(
-    alloc: Global,
-    state: &Stable,
-    traced: &TracedTo,
-    name: &Text,
-    addr: Addr,
-) -> Result<Vec<Fact>, AllocError>
-    requires traced { ForSome (packet_from state.now name.now addr) (λ start.
-        IsTracedTo state.now start.1.0 traced.now × IsIncluded state.now traced.now start.0.0) }
-    ensures { IfOk result (λ facts. facts.items ≡ filter (holds state.now)
-        (option_map_or (λ router. fact.Trace (record { 0 = router }) addr HOP_LIMIT ∷ [])
-        (router_named state.now.routers name.now) [])) }
-{
-    match state.network().router_named(name.bytes()) {
-        Some(router) => asked_reach(alloc, traced, router, addr),
-        None => Ok(Vec::new(alloc)),
-    }
-}
-
-// The facts of a test of a packet by every way.
-fn facts_of_every(
-    alloc: Global,
-    state: &Stable,
-    traced: &TracedTo,
-    name: &Text,
-    addr: Addr,
-) -> Result<Vec<Fact>, AllocError>
-    requires traced { ForSome (packet_from state.now name.now addr) (λ start.
-        IsTracedTo state.now start.1.0 traced.now × IsIncluded state.now traced.now start.0.0) }
-    ensures { IfOk result (λ facts. facts.items ≡ filter (holds state.now)
-        (option_map_or (λ router. fact.AllTrace (record { 0 = router }) addr HOP_LIMIT ∷ [])
-        (router_named state.now.routers name.now) [])) }
-{
-    match state.network().router_named(name.bytes()) {
-        Some(router) => asked_every(alloc, traced, router, addr),
-        None => Ok(Vec::new(alloc)),
-    }
-}
-
 // The facts of a test of an element.
 fn facts_of_element(
     alloc: Global,
@@ -386,30 +304,6 @@ fn facts_of_element(
     }
 }
 
-// The router of a name, with the address of a packet from there.
-fn packet_from(state: &Stable, name: &Text, addr: Addr) -> Option<(RouterId, Addr)>
-    ensures { result ≡ packet_from state.now name.now addr }
-{
-    let router = state.network().router_named(name.bytes())?;
-    Some((router, addr))
-}
-
-/// From which router a test asks of a packet whether it arrives, and for which address; `None` where it asks of none,
-/// or of a router that doesn't exist.
-pub fn packet_of(state: &Stable, test: &TestCommand) -> Option<(RouterId, Addr)>
-    ensures { result ≡ packet_of state.now test.now }
-{
-    match test {
-        TestCommand::Reach(name, addr) | TestCommand::Every(name, addr) => {
-            packet_from(state, name, *addr)
-        }
-        TestCommand::Rib(_, _, _)
-        | TestCommand::Bgp(_, _, _)
-        | TestCommand::Session(_, _)
-        | TestCommand::Element(_, _) => None,
-    }
-}
-
 // The facts that a test names and that hold.
 #[tactic(auto, unfolding(crate::specs::Tested::tested_facts))]
 fn named_facts(
@@ -417,11 +311,14 @@ fn named_facts(
     state: &Stable,
     policies: &Policies,
     traced: &TracedTo,
+    flowing: &FlowTo,
     test: &TestCommand,
 ) -> Result<Vec<Fact>, AllocError>
     requires policies { ArePolicies state.now.routers policies.now }
     requires traced { ForSome (packet_of state.now test.now) (λ start.
         IsTracedTo state.now start.1.0 traced.now × IsIncluded state.now traced.now start.0.0) }
+    requires flowing { ForSome (flow_packet_of state.now test.now) (λ start.
+        IsFlowTo state.now start.1.0 start.2.0 flowing.now × IsFlowIncluded state.now flowing.now start.0.0) }
     ensures { IfOk result (λ facts. facts.items ≡ tested_facts state.now test.now) }
 {
     match test {
@@ -434,6 +331,9 @@ fn named_facts(
         TestCommand::Session(name, addr) => facts_of_session(alloc, state, policies, name, *addr),
         TestCommand::Reach(name, addr) => facts_of_reach(alloc, state, traced, name, *addr),
         TestCommand::Every(name, addr) => facts_of_every(alloc, state, traced, name, *addr),
+        TestCommand::Flow(name, from, to) => {
+            facts_of_flow(alloc, state, flowing, name, *from, *to)
+        }
         TestCommand::Element(name, line) => facts_of_element(alloc, state, policies, name, *line),
     }
 }
@@ -441,8 +341,9 @@ fn named_facts(
 /// The facts that a test tests, in order: those that it names and that hold. A test of a router that doesn't exist
 /// has none, nor has one of a session or a neighbor of a router without a neighbor statement for the address, nor one
 /// of an element by a line that no element has. The policies are those of the state's routers. Where [`packet_of`]
-/// tells of the test from where it asks of a packet, that router is included in the ways for the packet's address;
-/// for any other test they may be the ways for any.
+/// tells of the test from where it asks of a packet, that router is included in the ways for the packet's address,
+/// and where [`flow_packet_of`] does, in the ways that let the packet pass; for any other test they may be the ways
+/// for any.
 ///
 /// # Errors
 ///
@@ -452,14 +353,17 @@ pub fn facts_of(
     state: &Stable,
     policies: &Policies,
     traced: &TracedTo,
+    flowing: &FlowTo,
     test: &TestCommand,
 ) -> Result<Vec<Fact>, AllocError>
     requires policies { ArePolicies state.now.routers policies.now }
     requires traced { ForSome (packet_of state.now test.now) (λ start.
         IsTracedTo state.now start.1.0 traced.now × IsIncluded state.now traced.now start.0.0) }
+    requires flowing { ForSome (flow_packet_of state.now test.now) (λ start.
+        IsFlowTo state.now start.1.0 start.2.0 flowing.now × IsFlowIncluded state.now flowing.now start.0.0) }
     ensures facts { IfOk result (λ facts. facts.items ≡ tested_facts state.now test.now) }
     ensures hold { IfOk result (λ facts. All (λ f. holds state.now f ≡ true) facts.items) }
 {
-    let facts = named_facts(alloc, state, policies, traced, test)?;
+    let facts = named_facts(alloc, state, policies, traced, flowing, test)?;
     Ok(facts)
 }

@@ -2,6 +2,7 @@
 
 ghost use Rattle.std.specs.Prelude.{◌≡◌, ◌&&◌, is_some, nat_le};
 ghost use Rattle.nc_types.specs.declared.TheConstants.{HOP_LIMIT};
+ghost use Rattle.nc_tables.specs.Flows.{flows};
 ghost use Rattle.nc_tables.specs.Forwarding.{traces, all_trace};
 ghost use Rattle.nc_tables.specs.Reach.{reaches};
 ghost use Rattle.nc_tables.specs.Rounds.{session_by};
@@ -15,9 +16,10 @@ use crate::ranks::{
     aggregate_rank, chosen_rank, contrib_rank, entry_rank, message_rank, origin_rank,
 };
 use crate::rows::{base_rows, has_router, main_rows, static_row};
+use nc_filter::passes;
 use nc_policy::Policies;
 use nc_tables::Stable;
-use nc_trace::{all_arrive, all_step_at, arrives, step_at};
+use nc_trace::{all_arrive, all_step_at, arrives, flow_step_at, step_at};
 use nc_types::{Addr, HOP_LIMIT, RouterId};
 
 // Whether a packet comes from a router to the owner of an address over at most so many hops.
@@ -66,6 +68,16 @@ fn all_trace(state: &Stable, router: RouterId, addr: Addr, hops: u8) -> bool
     all_arrive(state, router, addr, hops)
 }
 
+// Whether a packet is let pass by some way and arrives, over at most so many hops.
+fn flows(state: &Stable, router: RouterId, from: Addr, to: Addr, hops: u8) -> bool
+    ensures { result ≡ (nat_le hops HOP_LIMIT && flows state.now from.0 to.0 hops router.0) }
+{
+    if HOP_LIMIT < hops {
+        return false;
+    }
+    nc_trace::flows(state, router, from, to, hops)
+}
+
 // Whether the session of the neighbor statement at a place of a router is established.
 fn has_session(state: &Stable, router: RouterId, place: u32) -> bool
     ensures { result ≡ is_some (session_by state.now.sessions router.0 place) }
@@ -110,6 +122,13 @@ pub fn holds(state: &Stable, policies: &Policies, fact: &Fact) -> bool
         Fact::Trace(router, addr, hops) => traces(state, router, addr, hops),
         Fact::AllStep(router, addr, way, hops) => all_step_at(state, router, addr, way, hops),
         Fact::AllTrace(router, addr, hops) => all_trace(state, router, addr, hops),
+        Fact::Pass(inward, router, iface, from, to) => {
+            passes(state.network(), router, iface, inward, from, to)
+        }
+        Fact::FlowStep(hops, router, from, to, way) => {
+            flow_step_at(state, router, from, to, way, hops)
+        }
+        Fact::Flow(router, from, to, hops) => flows(state, router, from, to, hops),
     }
 }
 
@@ -123,7 +142,7 @@ pub fn rank(state: &Stable, policies: &Policies, fact: &Fact) -> u32
     match *fact {
         Fact::Element(_) => 0,
         Fact::Connected(_, _) => 1,
-        Fact::Static(_, _) => 2,
+        Fact::Static(_, _) | Fact::Pass(_, _, _, _, _) => 2,
         Fact::Base(_, _) => 3,
         Fact::Resolve(_, _) | Fact::NetSource(_, _) => 4,
         Fact::Hop(_, _, _, hops) => 5 + 2 * u32::from(hops),
@@ -138,7 +157,11 @@ pub fn rank(state: &Stable, policies: &Policies, fact: &Fact) -> u32
         Fact::Entry(router, place, prefix) => entry_rank(state, policies, router, place, prefix),
         Fact::Chosen(router, prefix, place) => chosen_rank(state, router, prefix, place),
         Fact::Main(_, _) => 140_000,
-        Fact::Step(_, _, _, hops) | Fact::AllStep(_, _, _, hops) => 150_000 + 2 * u32::from(hops),
-        Fact::Trace(_, _, hops) | Fact::AllTrace(_, _, hops) => 150_001 + 2 * u32::from(hops),
+        Fact::Step(_, _, _, hops)
+        | Fact::AllStep(_, _, _, hops)
+        | Fact::FlowStep(hops, _, _, _, _) => 150_000 + 2 * u32::from(hops),
+        Fact::Trace(_, _, hops) | Fact::AllTrace(_, _, hops) | Fact::Flow(_, _, _, hops) => {
+            150_001 + 2 * u32::from(hops)
+        }
     }
 }

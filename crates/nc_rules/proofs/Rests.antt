@@ -1,6 +1,6 @@
 -- By the rules each conjunctive fact that holds follows from some fact, and each element that holds is one of the network's.
-use Rattle.std.proofs.Common.{◌≡◌, ℕ, zero, suc, ◌<◌, Bool, true, false, ◌&&◌, ◌||◌, nat_eq, nat_lt, nat_le, List, [], ◌∷◌, length, Option, Some, None, refl, ap, arith}
-use Rattle.std.specs.List.{list_any, slice_get}
+use Rattle.std.proofs.Common.{◌≡◌, ℕ, zero, suc, ◌<◌, Bool, true, false, ◌&&◌, ◌||◌, nat_eq, nat_lt, nat_le, List, [], ◌∷◌, length, map, Option, Some, None, refl, ap, arith}
+use Rattle.std.specs.List.{list_any, range_with_len, slice_get}
 use Rattle.std.specs.Option.{option_map_or, option_and_then, is_some}
 use Rattle.std.proofs.lemmas.Bool.{ltb-true, and_parts}
 use Rattle.std.proofs.lemmas.List.{length-append}
@@ -11,18 +11,19 @@ use Rattle.nc_types.specs.declared.config.RouterId.{RouterId}
 use Rattle.nc_types.specs.Config.{ConfigView}
 use Rattle.nc_types.specs.Network.{up_of, element_count}
 use Rattle.nc_tables.specs.Base.{static_row, static_at}
-use Rattle.nc_tables.specs.Forwarding.{step_by, traces, all_trace}
-use Rattle.nc_tables.specs.Reach.{hits, leads_to, own_place, owns}
+use Rattle.nc_tables.specs.Forwarding.{Alternative, all_trace}
+use Rattle.nc_tables.specs.Reach.{hits, leads_to, owns}
 use Rattle.nc_tables.specs.Sessions.{process_of}
 use Rattle.nc_tables.specs.State.{StateView, IsState}
 use Rattle.nc_graph.specs.declared.node.NodeKind.TheVariants.{Leaf, Every}
 use Rattle.nc_graph.proofs.Members.{at_within}
 use Rattle.nc_fact.specs.declared.fact.Fact.{Fact}
-use Rattle.nc_fact.specs.declared.fact.Fact.TheVariants.{Element, Connected, Static, Base, Hop, Session, Origin, Aggregate, Message, Entry, Chosen, Main, Step, AllStep, AllTrace}
+use Rattle.nc_fact.specs.declared.fact.Fact.TheVariants.{Element, Connected, Static, Base, Hop, Session, Origin, Aggregate, Message, Entry, Chosen, Main, Step, AllStep, AllTrace, Pass, FlowStep}
 use Rattle.nc_fact.specs.Facts.{base_rows, main_rows, message_of, accepted_of, chosen_of, holds}
-use Rattle.nc_rules_route.specs.Parents.{kind, of_static, connected_by, ways_out, step_parents, steps_of, parents}
+use Rattle.nc_rules_route.specs.Parents.{kind, of_static, connected_by, ways_out, parents}
 use Rattle.nc_rules_route.proofs.FlowLaws.{session_rests}
 use Rattle.nc_rules_route.proofs.Hops.{not_own}
+use Rattle.nc_rules_route.proofs.PathFacts.{own_some_or}
 
 -- ---- values that are there
 
@@ -73,9 +74,9 @@ module _ (s : StateView) where
       made_by _ _ (λ next. omega arith) (leads_to s.routers s.base router.0 addr.0 row) hit.1
 
   -- a step that is taken is by an alternative
-  step_rests : (from : ℕ → ℕ → ℕ → Bool) (every : Bool) (router : RouterId) (addr : Addr) (way hops : ℕ) → step_by s.routers s.base s.bgp s.main from router.0 addr.0 way hops ≡ true → 0 < length (step_parents s every router addr way hops)
-  step_rests from every router addr way hops h =
-      made_by _ _ (λ w. omega arith) (slice_get (ways_out s router addr) way) (and_parts (nat_le hops HOP_LIMIT) _ h).1
+  step_rests : (passes : Alternative → Bool) (make : Alternative → List Fact) → ((way : Alternative) → 0 < length (make way)) → (router : RouterId) (addr : Addr) (way hops : ℕ)
+      → (nat_le hops HOP_LIMIT && option_map_or passes (slice_get (ways_out s router addr) way) false) ≡ true → 0 < length (option_map_or make (slice_get (ways_out s router addr) way) [])
+  step_rests passes make some router addr way hops h = made_by passes make some (slice_get (ways_out s router addr) way) (and_parts (nat_le hops HOP_LIMIT) _ h).1
 
   -- where a packet arrives by every way from a router that doesn't own the address, there is one
   every_way : (router : RouterId) (addr : Addr) (hops : ℕ) → owns s.routers router.0 addr.0 ≡ false → all_trace s.routers s.base s.bgp s.main hops router.0 addr.0 ≡ true → 0 < length (ways_out s router addr)
@@ -86,14 +87,11 @@ module _ (s : StateView) where
   -- so that it arrives by every way follows from an interface of the owner, or from some step
   all_trace_rests : (router : RouterId) (addr : Addr) (hops : ℕ) → holds s (AllTrace router addr hops) ≡ true → 0 < length (parents s (AllTrace router addr hops))
   unfolding holds parents
-  all_trace_rests router addr hops h = by_own (own_place s.routers router.0 addr.0) refl
-    where
-      by_own : (o : Option ℕ) → own_place s.routers router.0 addr.0 ≡ o → 0 < length (option_map_or (λ iface. Connected router (record { 0 = iface }) ∷ []) o (steps_of s true router addr hops))
-      by_own (Some iface) found = omega arith
-      by_own None found =
-          let some = every_way router addr hops (not_own s.routers s.base router.0 addr.0 found) (and_parts (nat_le hops HOP_LIMIT) _ h).1 in
-          let as_many = length-map-range_with_len (λ (way : ℕ). AllStep router addr way hops) 0 (length (ways_out s router addr)) in
-          omega arith
+  all_trace_rests router addr hops h =
+      own_some_or s router addr (map (λ (way : ℕ). AllStep router addr way hops) (range_with_len 0 (length (ways_out s router addr)))) (λ found.
+      let some = every_way router addr hops (not_own s.routers s.base router.0 addr.0 found) (and_parts (nat_le hops HOP_LIMIT) _ h).1 in
+      let as_many = length-map-range_with_len (λ (way : ℕ). AllStep router addr way hops) 0 (length (ways_out s router addr)) in
+      omega arith)
 
   -- each that holds follows from some fact
   pub conjunctive_rest : IsState s → (f : Fact) → holds s f ≡ true → kind f ≡ Every → 0 < length (parents s f)
@@ -113,9 +111,11 @@ module _ (s : StateView) where
   conjunctive_rest is (Entry router place prefix) h k = made _ (λ a. omega arith) (accepted_of s router.0 place prefix) h
   conjunctive_rest is (Chosen router prefix place) h k = made _ (λ x. omega arith) (chosen_of s router.0 prefix place) h
   conjunctive_rest is (Main router row) h k = made _ (λ m. omega arith) _ (placed (main_rows s router.0) row h)
-  conjunctive_rest is (Step router addr way hops) h k = step_rests (traces s.routers s.base s.bgp s.main) false router addr way hops h
-  conjunctive_rest is (AllStep router addr way hops) h k = step_rests (all_trace s.routers s.base s.bgp s.main) true router addr way hops h
+  conjunctive_rest is (Step router addr way hops) h k = step_rests _ _ (λ w. omega arith) router addr way hops h
+  conjunctive_rest is (AllStep router addr way hops) h k = step_rests _ _ (λ w. omega arith) router addr way hops h
   conjunctive_rest is (AllTrace router addr hops) h k = all_trace_rests router addr hops h
+  conjunctive_rest is (Pass inward router iface from to) h k = omega arith
+  conjunctive_rest is (FlowStep hops router from to way) h k = step_rests _ _ (λ w. omega arith) router to way hops h
   conjunctive_rest is f h k = absurd cc
 
   -- ---- elements

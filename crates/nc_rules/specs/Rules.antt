@@ -1,10 +1,11 @@
 -- The flow graph of a network: its facts, and from which each follows.
+use mathlib.Core.Bool.{beq}
 use Rattle.std.specs.Prelude.{Bool, false, ◌&&◌, ◌==◌}
 use Rattle.nc_graph.specs.Flow.{Flow}
 use Rattle.nc_tables.specs.Base.{same_prefix}
 use Rattle.nc_tables.specs.State.{StateView}
 use Rattle.nc_fact.specs.declared.fact.Fact.{Fact}
-use Rattle.nc_fact.specs.declared.fact.Fact.TheVariants.{Element, Connected, Static, Base, Resolve, NetSource, Reach, Hop, Session, Origin, Contrib, Aggregate, Message, Entry, Chosen, Main, Step, Trace, AllStep, AllTrace}
+use Rattle.nc_fact.specs.declared.fact.Fact.TheVariants.{Element, Connected, Static, Base, Resolve, NetSource, Reach, Hop, Session, Origin, Contrib, Aggregate, Message, Entry, Chosen, Main, Step, Trace, AllStep, AllTrace, Pass, FlowStep, Flow as FlowFact}
 use Rattle.nc_fact.specs.Facts.{holds, rank}
 use Rattle.nc_rules_route.specs.Parents.{kind, parents}
 
@@ -30,6 +31,9 @@ same_fact (Step r a k m) (Step s b l n) = (r.0 == s.0) && ((a.0 == b.0) && ((k =
 same_fact (Trace r a m) (Trace s b n) = (r.0 == s.0) && ((a.0 == b.0) && (m == n))
 same_fact (AllStep r a k m) (AllStep s b l n) = (r.0 == s.0) && ((a.0 == b.0) && ((k == l) && (m == n)))
 same_fact (AllTrace r a m) (AllTrace s b n) = (r.0 == s.0) && ((a.0 == b.0) && (m == n))
+same_fact (Pass into r i a c) (Pass inward s j b d) = beq into inward && ((r.0 == s.0) && ((i.0 == j.0) && ((a.0 == b.0) && (c.0 == d.0))))
+same_fact (FlowStep m r a c k) (FlowStep n s b d l) = (m == n) && ((r.0 == s.0) && ((a.0 == b.0) && ((c.0 == d.0) && (k == l))))
+same_fact (FlowFact r a c m) (FlowFact s b d n) = (r.0 == s.0) && ((a.0 == b.0) && ((c.0 == d.0) && (m == n)))
 same_fact f g = false
 
 -- the flow graph of a state

@@ -1,5 +1,6 @@
 -- Facts are told apart by their kinds and their numbers.
-use Rattle.std.proofs.Common.{◌≡◌, ◌↔◌, ℕ, true, false, ◌&&◌, nat_eq, refl, ap, subst, ◌∙◌}
+use mathlib.Core.Bool.{beq}
+use Rattle.std.proofs.Common.{◌≡◌, ◌↔◌, ℕ, Bool, true, false, ◌&&◌, nat_eq, refl, ap, subst, ◌∙◌}
 use Rattle.std.proofs.lemmas.Bool.{and_parts, eqb-true, eq-eqb}
 use Rattle.nc_types.specs.declared.addr.Addr.{Addr}
 use Rattle.nc_types.specs.declared.config.RouterId.{RouterId}
@@ -10,7 +11,7 @@ use Rattle.nc_tables.specs.Base.{same_prefix}
 use Rattle.nc_types.proofs.Sameness.{same_prefix_is}
 use Rattle.nc_fact.specs.contracts.fact.FactPartialEq.TheImpl.{eq-value}
 use Rattle.nc_fact.specs.declared.fact.Fact.{Fact}
-use Rattle.nc_fact.specs.declared.fact.Fact.TheVariants.{Element, Connected, Static, Base, Resolve, NetSource, Reach, Hop, Session, Origin, Contrib, Aggregate, Message, Entry, Chosen, Main, Step, Trace, AllStep, AllTrace}
+use Rattle.nc_fact.specs.declared.fact.Fact.TheVariants.{Element, Connected, Static, Base, Resolve, NetSource, Reach, Hop, Session, Origin, Contrib, Aggregate, Message, Entry, Chosen, Main, Step, Trace, AllStep, AllTrace, Pass, FlowStep, Flow}
 use Rattle.nc_rules.specs.Rules.{same_fact}
 
 same_router : (r s : RouterId) → nat_eq r.0 s.0 ≡ true → r ≡ s
@@ -45,6 +46,16 @@ same_hop make r s a b k l m n e =
     let last = and_parts (nat_eq k l) (nat_eq m n) more.1 in
     ap (λ (id : RouterId). make id a k m) (same_router r s parts.0) ∙ ap (λ (addr : Addr). make s addr k m) (same_address a b more.0) ∙ ap (λ (row : ℕ). make s b row m) (eqb-true k l last.0) ∙ ap (make s b l) (eqb-true m n last.1)
 
+-- two facts of a packet from an address to another
+same_ends : (make : Addr → Addr → Fact) (a b c d : Addr) → nat_eq a.0 b.0 ≡ true → nat_eq c.0 d.0 ≡ true → make a c ≡ make b d
+same_ends make a b c d e f = ap (λ (from : Addr). make from c) (same_address a b e) ∙ ap (make b) (same_address c d f)
+
+same_direction : (a b : Bool) → beq a b ≡ true → a ≡ b
+same_direction true true e = refl
+same_direction false false e = refl
+same_direction true false e = absurd cc
+same_direction false true e = absurd cc
+
 pub same_is : (x y : Fact) → same_fact x y ≡ true → x ≡ y
 same_is (Element e) (Element f) h = ap (λ (n : ℕ). Element (record { 0 = n })) (eqb-true e.0 f.0 h)
 same_is (Connected r i) (Connected s j) h = same_two (λ (id : RouterId) (n : ℕ). Connected id (record { 0 = n })) r s i.0 j.0 h
@@ -69,6 +80,25 @@ same_is (Step r a k m) (Step s b l n) h = same_hop Step r s a b k l m n h
 same_is (Trace r a m) (Trace s b n) h = same_way Trace r s a b m n h
 same_is (AllStep r a k m) (AllStep s b l n) h = same_hop AllStep r s a b k l m n h
 same_is (AllTrace r a m) (AllTrace s b n) h = same_way AllTrace r s a b m n h
+same_is (Pass into r i a c) (Pass inward s j b d) h =
+    let way = and_parts (beq into inward) _ h in
+    let parts = and_parts (nat_eq r.0 s.0) _ way.1 in
+    let more = and_parts (nat_eq i.0 j.0) (nat_eq a.0 b.0 && nat_eq c.0 d.0) parts.1 in
+    let ends = and_parts (nat_eq a.0 b.0) (nat_eq c.0 d.0) more.1 in
+    ap (λ (to : Bool). Pass to r i a c) (same_direction into inward way.0) ∙ ap (λ (id : RouterId). Pass inward id i a c) (same_router r s parts.0)
+    ∙ ap (λ (n : ℕ). Pass inward s (record { 0 = n }) a c) (eqb-true i.0 j.0 more.0) ∙ same_ends (Pass inward s j) a b c d ends.0 ends.1
+same_is (FlowStep m r a c k) (FlowStep n s b d l) h =
+    let hops = and_parts (nat_eq m n) _ h in
+    let parts = and_parts (nat_eq r.0 s.0) _ hops.1 in
+    let first = and_parts (nat_eq a.0 b.0) (nat_eq c.0 d.0 && nat_eq k l) parts.1 in
+    let last = and_parts (nat_eq c.0 d.0) (nat_eq k l) first.1 in
+    ap (λ (most : ℕ). FlowStep most r a c k) (eqb-true m n hops.0) ∙ ap (λ (id : RouterId). FlowStep n id a c k) (same_router r s parts.0)
+    ∙ same_ends (λ from to. FlowStep n s from to k) a b c d first.0 last.0 ∙ ap (FlowStep n s b d) (eqb-true k l last.1)
+same_is (Flow r a c m) (Flow s b d n) h =
+    let parts = and_parts (nat_eq r.0 s.0) _ h in
+    let first = and_parts (nat_eq a.0 b.0) _ parts.1 in
+    let last = and_parts (nat_eq c.0 d.0) (nat_eq m n) first.1 in
+    ap (λ (id : RouterId). Flow id a c m) (same_router r s parts.0) ∙ same_ends (λ from to. Flow s from to m) a b c d first.0 last.0 ∙ ap (Flow s b d) (eqb-true m n last.1)
 same_is f g h = absurd cc
 
 -- ---- facts that the code calls equal are one
@@ -159,6 +189,18 @@ all_trace_exact : (r : RouterId) (a : Addr) (m : ℕ) → IsExact (AllTrace r a 
 all_trace_exact r a m (AllTrace s b n) h = same_is (AllTrace r a m) (AllTrace s b n) h
 all_trace_exact r a m y h = never h
 
+pass_exact : (into : Bool) (r : RouterId) (i : IfaceId) (a c : Addr) → IsExact (Pass into r i a c)
+pass_exact into r i a c (Pass inward s j b d) h = same_is (Pass into r i a c) (Pass inward s j b d) h
+pass_exact into r i a c y h = never h
+
+flow_step_exact : (m : ℕ) (r : RouterId) (a c : Addr) (k : ℕ) → IsExact (FlowStep m r a c k)
+flow_step_exact m r a c k (FlowStep n s b d l) h = same_is (FlowStep m r a c k) (FlowStep n s b d l) h
+flow_step_exact m r a c k y h = never h
+
+flow_exact : (r : RouterId) (a c : Addr) (m : ℕ) → IsExact (Flow r a c m)
+flow_exact r a c m (Flow s b d n) h = same_is (Flow r a c m) (Flow s b d n) h
+flow_exact r a c m y h = never h
+
 pub exactly : (x y : Fact) → (eq-value).it x y ≡ true → x ≡ y
 exactly (Element e) y h = element_exact e y h
 exactly (Connected r i) y h = connected_exact r i y h
@@ -180,9 +222,16 @@ exactly (Step r a k m) y h = step_exact r a k m y h
 exactly (Trace r a m) y h = trace_exact r a m y h
 exactly (AllStep r a k m) y h = all_step_exact r a k m y h
 exactly (AllTrace r a m) y h = all_trace_exact r a m y h
+exactly (Pass into r i a c) y h = pass_exact into r i a c y h
+exactly (FlowStep m r a c k) y h = flow_step_exact m r a c k y h
+exactly (Flow r a c m) y h = flow_exact r a c m y h
 
 itself : (n : ℕ) → nat_eq n n ≡ true
 itself n = eq-eqb n n refl
+
+direction_itself : (b : Bool) → beq b b ≡ true
+direction_itself true = refl
+direction_itself false = refl
 
 same_itself : (x : Fact) → same_fact x x ≡ true
 same_itself (Element e) = itself e.0
@@ -205,6 +254,9 @@ same_itself (Step r a k m) = rw (itself r.0, itself a.0, itself k, itself m) ref
 same_itself (Trace r a m) = rw (itself r.0, itself a.0, itself m) refl
 same_itself (AllStep r a k m) = rw (itself r.0, itself a.0, itself k, itself m) refl
 same_itself (AllTrace r a m) = rw (itself r.0, itself a.0, itself m) refl
+same_itself (Pass into r i a c) = rw (direction_itself into, itself r.0, itself i.0, itself a.0, itself c.0) refl
+same_itself (FlowStep m r a c k) = rw (itself m, itself r.0, itself a.0, itself c.0, itself k) refl
+same_itself (Flow r a c m) = rw (itself r.0, itself a.0, itself c.0, itself m) refl
 
 -- the test of facts tells them apart
 pub tells_apart : (x y : Fact) → (same_fact x y ≡ true) ↔ (x ≡ y)

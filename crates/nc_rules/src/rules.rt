@@ -4,15 +4,16 @@ ghost use Rattle.nc_policy.specs.Indexes.{ArePolicies};
 ghost use Rattle.nc_underlay.specs.Kept.{AreKept};
 ghost use Rattle.nc_graph.specs.Flow.{IsFlow};
 ghost use Rattle.nc_fact.specs.Tested.{tested_facts};
-ghost use Rattle.nc_rules.specs.Known.{IsKnown};
+ghost use Rattle.nc_rules.specs.Known.{IsKnown, IsKnownFlow};
 ghost use Rattle.nc_rules.specs.Rules.{flow_of};
 
+use crate::flows::KnownFlow;
 use crate::known::Known;
-use nc_fact::{Fact, facts_of, packet_of};
+use nc_fact::{Fact, facts_of};
 use nc_graph::inference::Inference;
 use nc_graph::node::NodeKind;
 use nc_policy::Policies;
-use nc_rules_route::{path_parents, path_start, route_parents, rules_are_lawful};
+use nc_rules_route::{flow_start, path_parents, path_start, route_parents, rules_are_lawful};
 use nc_stable::SettledNetwork;
 use nc_tables::Stable;
 use nc_types::TestCommand;
@@ -27,22 +28,24 @@ pub fn rules_make_a_flow()
     rules_are_lawful();
 }
 
-/// The rules of a network: its state and the tables of its maps, both of which they own as settling
-/// made them, and how many facts were asked for. Nothing gives the state back, so whatever is
-/// inferred of it is counted here. They keep the ways of packets for one address, that of the test or
-/// the fact of such a way that was asked for last, and over how few hops each neighbor address is reached of which a
-/// fact was inferred; at first there are none.
+/// The rules of a network: its state and the tables of its maps, both of which they own as settling made them, and
+/// how many facts were asked for. Nothing gives the state back, so whatever is inferred of it is counted here. They
+/// keep the ways of packets for one address, that of the test or the fact of such a way that was asked for last, so
+/// too the ways that let one packet pass, and over how few hops each neighbor address is reached of which a fact was
+/// inferred; at first there are none.
 #[derive(Drop)]
 pub struct Rules {
     alloc: Global,
     state: Stable,
     policies: Policies,
     known: Known,
+    flow: KnownFlow,
     distances: DistancesByAddr,
     asked: u64,
     ghost lawful: { IsFlow (flow_of state) },
     ghost tables: { ArePolicies state.routers policies },
     ghost right: { IsKnown state known },
+    ghost flowing: { IsKnownFlow state flow },
     ghost kept: { AreKept state.routers state.base distances },
     ghost counted: { asked < 2 ^ 64 },
 }
@@ -60,11 +63,13 @@ impl Rules {
         let SettledNetwork { state, policies } = settled;
         let _valid = state.network();
         let known = Known::new(alloc, &state);
+        let flow = KnownFlow::new(alloc, &state);
         Rules {
             alloc,
             state,
             policies,
             known,
+            flow,
             distances: DistancesByAddr::new(alloc),
             asked: 0,
         }
@@ -97,14 +102,14 @@ impl Rules {
         ensures state { state_of self.new ≡ state_of self.old }
         ensures asked { asked_of self.new ≡ asked_of self.old }
     {
-        if let Some((router, addr)) = packet_of(&self.state, test) {
-            self.known.include(&self.state, router, addr)?;
-        }
+        self.known.include_of(&self.state, test)?;
+        self.flow.include_of(&self.state, test)?;
         facts_of(
             self.alloc,
             &self.state,
             &self.policies,
             &self.known.traced,
+            &self.flow.flowing,
             test,
         )
     }
@@ -140,10 +145,13 @@ impl Inference for Rules {
                 self.known.include(&self.state, router, addr)?;
                 path_parents(&self.state, &self.known.traced, fact, into)?
             }
-            None => {
-                let distances = &mut self.distances;
-                route_parents(&self.state, &self.policies, distances, fact, into)?
-            }
+            None => match flow_start(fact) {
+                Some(start) => self.flow.parents(&self.state, start, fact, into)?,
+                None => {
+                    let distances = &mut self.distances;
+                    route_parents(&self.state, &self.policies, distances, fact, into)?
+                }
+            },
         };
         Ok(kind)
     }

@@ -25,8 +25,9 @@ use Rattle.nc_tables.specs.Rounds.{Link, session_by, link_at}
 use Rattle.nc_tables.specs.State.{StateView, IsState}
 use Rattle.nc_graph.specs.declared.node.NodeKind.TheVariants.{Leaf, Any}
 use Rattle.nc_fact.specs.declared.fact.Fact.{Fact}
-use Rattle.nc_fact.specs.declared.fact.Fact.TheVariants.{Element, Connected, Static, Base, Resolve, NetSource, Reach, Hop, Session, Origin, Contrib, Aggregate, Message, Entry, Chosen, Main, Step, Trace, AllStep, AllTrace}
+use Rattle.nc_fact.specs.declared.fact.Fact.TheVariants.{Element, Connected, Static, Base, Resolve, NetSource, Reach, Hop, Session, Origin, Contrib, Aggregate, Message, Entry, Chosen, Main, Step, Trace, AllStep, AllTrace, Pass, FlowStep, Flow}
 use Rattle.nc_fact.specs.Facts.{base_rows, hops_by, holds, rank}
+use Rattle.nc_rules_route.specs.declared.packet.Packet.TheVariants.{BySome, ByEach, From}
 use Rattle.nc_rules_route.specs.Parents.{kind, element_in, of_interface, of_static, connected_by, route_of, hops_of, end_elements, ways_between, session_parents, parents}
 use Rattle.nc_types.proofs.Members.{In, in_by_get, in_map, in_filter, some_in, all_by_in, is_among, among_is}
 use Rattle.nc_tables.proofs.Ordered.{some_place, place_within}
@@ -38,7 +39,8 @@ use Rattle.nc_rules_route.proofs.Established.{established, has_link}
 use Rattle.nc_rules_route.proofs.BaseRows.{row_leads}
 use Rattle.nc_rules_route.proofs.Holding.{IsBelow, all_higher, element_holds, base_holds, connected_below, route_below, own_below}
 use Rattle.nc_rules_route.proofs.RouteFacts.{origin_parents_below, contrib_parents_below, aggregate_parents_below, message_parents_below, entry_parents_below, chosen_parents_below, main_parents_below, contrib_chosen}
-use Rattle.nc_rules_route.proofs.PathFacts.{step_below, trace_below, trace_chosen, all_trace_below}
+use Rattle.nc_rules_route.proofs.PassFacts.{pass_parents_below}
+use Rattle.nc_rules_route.proofs.PathFacts.{step_below, trace_below, trace_chosen, all_trace_below, flow_below, flow_chosen}
 use Rattle.nc_rules_route.proofs.Hops.{GoesOn, hit_within, next_up, goes_on, not_own}
 
 module _ (s : StateView) (is : IsState s) where
@@ -198,10 +200,13 @@ module _ (s : StateView) (is : IsState s) where
   parents_below (Entry router place prefix) h = entry_parents_below s is router place prefix
   parents_below (Chosen router prefix place) h = chosen_parents_below s is router prefix place
   parents_below (Main router row) h = main_parents_below s is router row
-  parents_below (Step router addr way hops) h = step_below s false router addr way hops h
+  parents_below (Step router addr way hops) h = step_below s BySome router addr way hops h
   parents_below (Trace router addr hops) h = trace_below s router addr hops
-  parents_below (AllStep router addr way hops) h = step_below s true router addr way hops h
+  parents_below (AllStep router addr way hops) h = step_below s ByEach router addr way hops h
   parents_below (AllTrace router addr hops) h = all_trace_below s router addr hops h
+  parents_below (Pass inward router iface from to) h = pass_parents_below s is router iface inward from to h
+  parents_below (FlowStep hops router from to way) h = step_below s (From from) router to way hops h
+  parents_below (Flow router from to hops) h = flow_below s router from to hops
 
   -- a hop by which a packet comes to the owner of an address that is not the router's own
   hop_holds : (router : RouterId) (addr : Addr) (hops : ℕ) → hops ≤ HOP_LIMIT → (on : GoesOn s.routers s.base hops router.0 addr.0) → holds s (Hop router addr on.row hops) ≡ true
@@ -253,6 +258,9 @@ module _ (s : StateView) (is : IsState s) where
   parents_some (Trace router addr hops) h k = trace_chosen s router addr hops h
   parents_some (AllStep router addr way hops) h k = absurd (cc)
   parents_some (AllTrace router addr hops) h k = absurd (cc)
+  parents_some (Pass inward router iface from to) h k = absurd (cc)
+  parents_some (FlowStep hops router from to way) h k = absurd (cc)
+  parents_some (Flow router from to hops) h k = flow_chosen s router from to hops h
 
   -- a session that is established rests on all that its link gives
   pub session_rests : (router : RouterId) (place : ℕ) → holds s (Session router place) ≡ true → (k : Link) × (link_at s.routers s.sessions router.0 place ≡ Some k) × (parents s (Session router place) ≡ session_parents s router k)
@@ -286,3 +294,6 @@ parents_none s (Step router addr way hops) number k = absurd (cc)
 parents_none s (Trace router addr hops) number k = absurd (cc)
 parents_none s (AllStep router addr way hops) number k = absurd (cc)
 parents_none s (AllTrace router addr hops) number k = absurd (cc)
+parents_none s (Pass inward router iface from to) number k = absurd (cc)
+parents_none s (FlowStep hops router from to way) number k = absurd (cc)
+parents_none s (Flow router from to hops) number k = absurd (cc)

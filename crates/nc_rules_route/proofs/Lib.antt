@@ -19,3 +19,4 @@ pub mod Choosing
 pub mod RowsByPrefix
 pub mod Inside
 pub mod RouteFacts
+pub mod PassFacts

@@ -1,4 +1,5 @@
--- The elements of a router's interfaces, its static routes, its process, the parts of that, its clauses and the entries of its lists exist.
+-- The elements of a router's interfaces, its static routes, its process, the parts of that, its clauses, the entries of its lists and its filters
+-- exist.
 use Rattle.std.proofs.Common.{◌≡◌, ℕ, ◌<◌, [], ◌++◌, length, map, Option, Some, None, refl, sym, ◌∙◌, subst, inl, inr}
 use Rattle.std.specs.List.{flat_map, slice_get}
 use Rattle.std.specs.Option.{IfSome, option_map, option_map_or}
@@ -10,11 +11,13 @@ use Rattle.nc_types.specs.declared.config.NetworkStatement.{NetworkStatement}
 use Rattle.nc_types.specs.declared.config.AggregateStatement.{AggregateStatement}
 use Rattle.nc_types.specs.declared.config.ListEntry.{ListEntry}
 use Rattle.nc_types.specs.declared.communities.CommunityEntry.{CommunityEntry}
+use Rattle.nc_types.specs.declared.filters.FilterEntry.{FilterEntry}
+use Rattle.nc_types.specs.declared.filters.Group.{Group}
 use Rattle.nc_types.specs.Config.{ClauseView, PrefixListView, CommunityListView, ConfigView, ProcessView}
-use Rattle.nc_types.specs.WellFormed.{process_places, entry_places, places_of, IsWellFormed}
+use Rattle.nc_types.specs.WellFormed.{process_places, entry_places, filter_places, places_of, IsWellFormed}
 use Rattle.nc_types.proofs.Members.{In, in_by_get, all_in, in_left, in_right, in_map}
 use Rattle.nc_tables.specs.declared.policy.Place.{Place}
-use Rattle.nc_rules_route.specs.Parents.{clause_place, entry_place, community_place}
+use Rattle.nc_rules_route.specs.Parents.{clause_place, entry_place, community_place, group_place, filter_place}
 use Rattle.nc_types.proofs.Options.{map_some}
 use Rattle.nc_rules_route.proofs.Members.{in_flat_map}
 
@@ -56,8 +59,8 @@ module _ (c : ConfigView) (formed : IsWellFormed c) where
       let element = λ (a : AggregateStatement). a.element in
       process_part p own a.element (inr (in_right (map (λ (n : Neighbor). n.element) p.neighbors) _ a.element (in_right (map (λ (n : NetworkStatement). n.element) p.networks) _ a.element (in_map element p.aggregates a (in_by_get p.aggregates k a at)))))
 
-  -- what stands behind the parts of the process: clauses, and the entries of lists
-  policy_part : (place : ℕ) → In place (map (λ (k : ClauseView). k.element) c.clauses ++ entry_places c) → place < length c.elements
+  -- what stands behind the parts of the process: clauses, the entries of lists, and those of access lists with the filters
+  policy_part : (place : ℕ) → In place (map (λ (k : ClauseView). k.element) c.clauses ++ (entry_places c ++ filter_places c)) → place < length c.elements
   policy_part place i =
       all_in (λ (place : ℕ). place < length c.elements) (places_of c) formed.places place
       (in_right (map (λ (i : Interface). i.element) c.interfaces) _ place
@@ -69,6 +72,9 @@ module _ (c : ConfigView) (formed : IsWellFormed c) where
       let made = map_some element (slice_get c.clauses k) place e in
       policy_part place (in_left (map element c.clauses) _ place (subst (λ (n : ℕ). In n (map element c.clauses)) made.2 (in_map element c.clauses made.0 (in_by_get c.clauses k made.0 made.1))))
 
+  list_part : (place : ℕ) → In place (entry_places c) → place < length c.elements
+  list_part place i = policy_part place (in_right (map (λ (k : ClauseView). k.element) c.clauses) _ place (in_left (entry_places c) (filter_places c) place i))
+
   pub entry_within : (k : Place) (place : ℕ) → entry_place k c ≡ Some place → place < length c.elements
   entry_within k place e =
       let element = λ (e : ListEntry). e.element in
@@ -76,7 +82,7 @@ module _ (c : ConfigView) (formed : IsWellFormed c) where
       option_and_then_some (λ (l : PrefixListView). option_map element (slice_get l.entries k.entry)) (slice_get c.lists k.list) place e (λ l at in_list.
       let made = map_some element (slice_get l.entries k.entry) place in_list in
       let here : In place (elements l) = subst (λ (n : ℕ). In n (elements l)) made.2 (in_map element l.entries made.0 (in_by_get l.entries k.entry made.0 made.1)) in
-      policy_part place (in_right (map (λ (k : ClauseView). k.element) c.clauses) _ place (in_left (flat_map elements c.lists) _ place (in_flat_map elements c.lists l place (in_by_get c.lists k.list l at) here))))
+      list_part place (in_left (flat_map elements c.lists) _ place (in_flat_map elements c.lists l place (in_by_get c.lists k.list l at) here)))
 
   pub community_within : (k : Place) (place : ℕ) → community_place k c ≡ Some place → place < length c.elements
   community_within k place e =
@@ -86,7 +92,22 @@ module _ (c : ConfigView) (formed : IsWellFormed c) where
       let made = map_some element (slice_get l.entries k.entry) place in_list in
       let here : In place (elements l) = subst (λ (n : ℕ). In n (elements l)) made.2 (in_map element l.entries made.0 (in_by_get l.entries k.entry made.0 made.1)) in
       let lists = flat_map (λ (l : PrefixListView). map (λ (e : ListEntry). e.element) l.entries) c.lists in
-      policy_part place (in_right (map (λ (k : ClauseView). k.element) c.clauses) _ place (in_right lists _ place (in_flat_map elements c.community_lists l place (in_by_get c.community_lists k.list l at) here))))
+      list_part place (in_right lists _ place (in_flat_map elements c.community_lists l place (in_by_get c.community_lists k.list l at) here)))
+
+  filter_part : (place : ℕ) → In place (filter_places c) → place < length c.elements
+  filter_part place i = policy_part place (in_right (map (λ (k : ClauseView). k.element) c.clauses) _ place (in_right (entry_places c) (filter_places c) place i))
+
+  pub filter_within : (k place : ℕ) → filter_place k c ≡ Some place → place < length c.elements
+  filter_within k place e =
+      let element = λ (e : FilterEntry). e.element in
+      let made = map_some element (slice_get c.filters k) place e in
+      filter_part place (in_left (map element c.filters) _ place (subst (λ (n : ℕ). In n (map element c.filters)) made.2 (in_map element c.filters made.0 (in_by_get c.filters k made.0 made.1))))
+
+  pub group_within : (k place : ℕ) → group_place k c ≡ Some place → place < length c.elements
+  group_within k place e =
+      let element = λ (g : Group). g.element in
+      let made = map_some element (slice_get c.groups k) place e in
+      filter_part place (in_right (map (λ (e : FilterEntry). e.element) c.filters) _ place (subst (λ (n : ℕ). In n (map element c.groups)) made.2 (in_map element c.groups made.0 (in_by_get c.groups k made.0 made.1))))
 
   -- so does the element of what is found of these
   each_some : (o : Option ℕ) → ((n : ℕ) → o ≡ Some n → n < length c.elements) → IfSome o (λ n. n < length c.elements)
@@ -102,3 +123,9 @@ module _ (c : ConfigView) (formed : IsWellFormed c) where
 
     pub community_exists : (k : Place) → o ≡ community_place k c → IfSome o (λ n. n < length c.elements)
     community_exists k e = each_some o (λ n at. community_within k n (sym e ∙ at))
+
+    pub group_exists : (k : ℕ) → o ≡ group_place k c → IfSome o (λ n. n < length c.elements)
+    group_exists k e = each_some o (λ n at. group_within k n (sym e ∙ at))
+
+    pub filter_exists : (k : ℕ) → o ≡ filter_place k c → IfSome o (λ n. n < length c.elements)
+    filter_exists k e = each_some o (λ n at. filter_within k n (sym e ∙ at))

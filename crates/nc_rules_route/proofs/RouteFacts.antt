@@ -72,7 +72,7 @@ module _ (s : StateView) (is : IsState s) where
   unfolding rank
   element_below router c place at lt = (element_holds s router c place at lt, omega arith)
 
-  part_below : (router : ℕ) (part : ConfigView → Option ℕ) → ((c : ConfigView) (place : ℕ) → slice_get s.routers router ≡ Some c → part c ≡ Some place → place < length c.elements) → All (IsBelow s 1) (of_part s router part)
+  pub part_below : (router : ℕ) (part : ConfigView → Option ℕ) → ((c : ConfigView) (place : ℕ) → slice_get s.routers router ≡ Some c → part c ≡ Some place → place < length c.elements) → All (IsBelow s 1) (of_part s router part)
   part_below router part within =
       all_by_option (IsBelow s 1) (λ place. element_in s router place ∷ []) (option_and_then part (slice_get s.routers router)) (λ place found.
       option_and_then_some part (slice_get s.routers router) place found (λ c at is_part. all_of_one (IsBelow s 1) (element_in s router place) (element_below router c place at (within c place at is_part))))

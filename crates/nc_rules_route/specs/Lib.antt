@@ -1,3 +1,4 @@
 pub mod Parents
 pub mod CaseSession
 pub mod CasePaths
+pub mod CaseFlows

@@ -8,6 +8,7 @@ use Rattle.nc_types.specs.Config.{ConfigView, ProcessView}
 use Rattle.nc_types.specs.Network.{number_at}
 use Rattle.nc_types.specs.declared.addr.Addr.{Addr}
 use Rattle.nc_types.specs.declared.config.RouterId.{RouterId}
+use Rattle.nc_types.specs.declared.config.IfaceId.{IfaceId}
 use Rattle.nc_types.specs.declared.config.NetworkStatement.{NetworkStatement}
 use Rattle.nc_types.specs.declared.config.AggregateStatement.{AggregateStatement}
 use Rattle.nc_tables.specs.declared.base.BaseFrom.{BaseFrom}
@@ -18,8 +19,11 @@ use Rattle.nc_tables.specs.declared.bgp.MainFrom.{MainFrom}
 use Rattle.nc_tables.specs.declared.bgp.MainFrom.TheVariants as main
 use Rattle.nc_tables.specs.declared.policy.Place.{Place}
 use Rattle.nc_tables.specs.declared.policy.Names.{Names}
+use Rattle.nc_tables.specs.declared.filters.Passing.{Passing}
+use Rattle.nc_tables.specs.declared.filters.Passing.TheVariants.{By}
 use Rattle.nc_tables.specs.Base.{same_prefix, static_at}
-use Rattle.nc_tables.specs.Forwarding.{Outcome, Deliver, Go, Lost, Alternative, alternatives}
+use Rattle.nc_tables.specs.Filters.{passing_at}
+use Rattle.nc_tables.specs.Forwarding.{Outcome, Deliver, Go, Lost, Alternative, alternatives, exit_iface}
 use Rattle.nc_tables.specs.Longest.{places_from}
 use Rattle.nc_tables.specs.Reach.{hits, leads_to, own_place}
 use Rattle.nc_tables.specs.Sessions.{End, process_of}
@@ -28,8 +32,10 @@ use Rattle.nc_tables.specs.State.{StateView}
 use Rattle.nc_graph.specs.declared.node.NodeKind.{NodeKind}
 use Rattle.nc_graph.specs.declared.node.NodeKind.TheVariants.{Leaf, Every, Any}
 use Rattle.nc_fact.specs.declared.fact.Fact.{Fact}
-use Rattle.nc_fact.specs.declared.fact.Fact.TheVariants.{Element, Connected, Static, Base, Resolve, NetSource, Reach, Hop, Session, Origin, Contrib, Aggregate, Message, Entry, Chosen, Main, Step, Trace, AllStep, AllTrace}
+use Rattle.nc_fact.specs.declared.fact.Fact.TheVariants.{Element, Connected, Static, Base, Resolve, NetSource, Reach, Hop, Session, Origin, Contrib, Aggregate, Message, Entry, Chosen, Main, Step, Trace, AllStep, AllTrace, Pass, FlowStep, Flow}
 use Rattle.nc_fact.specs.Facts.{base_rows, main_rows, aggregate_of, message_of, accepted_of, chosen_of, holds}
+use Rattle.nc_rules_route.specs.declared.packet.Packet.{Packet}
+use Rattle.nc_rules_route.specs.declared.packet.Packet.TheVariants.{BySome, ByEach, From}
 
 -- an element is the leaf of its number; what more than one row, hop or route can give follows from any of them; all else from all parents together
 unfoldable pub kind : Fact → NodeKind
@@ -53,10 +59,13 @@ kind (Step router addr way hops) = Every
 kind (Trace router addr hops) = Any
 kind (AllStep router addr way hops) = Every
 kind (AllTrace router addr hops) = Every
+kind (Pass inward router iface from to) = Every
+kind (FlowStep hops router from to way) = Every
+kind (Flow router from to hops) = Any
 
 -- ---- ways of packets over main tables
 
--- the router from which such a way leads on, and the address; other facts have none
+-- the router from which such a way leads on, and the address, where access lists aren't asked; other facts have none
 abbrev pub path_start : Fact → Option (RouterId × Addr)
 path_start (Step router addr way hops) = Some (router, addr)
 path_start (Trace router addr hops) = Some (router, addr)
@@ -64,27 +73,38 @@ path_start (AllStep router addr way hops) = Some (router, addr)
 path_start (AllTrace router addr hops) = Some (router, addr)
 path_start f = None
 
--- that a packet arrives by every way, or by some
-abbrev pub trace_fact : Bool → RouterId → Addr → ℕ → Fact
-trace_fact true = AllTrace
-trace_fact false = Trace
+-- the router of a fact of a packet that access lists have to let pass, from which address it comes and to which it goes; other facts
+-- have none
+abbrev pub flow_start : Fact → Option (RouterId × Addr × Addr)
+flow_start (Pass inward router iface from to) = Some (router, from, to)
+flow_start (FlowStep hops router from to way) = Some (router, from, to)
+flow_start (Flow router from to hops) = Some (router, from, to)
+flow_start f = None
 
--- that it arrives by one alternative, and from there by every way, or by some
-abbrev pub step_fact : Bool → RouterId → Addr → ℕ → ℕ → Fact
-step_fact true = AllStep
-step_fact false = Step
+-- that a packet arrives: by some way, by each, or by some that let it pass
+abbrev pub trace_fact : Packet → RouterId → Addr → ℕ → Fact
+trace_fact BySome router addr hops = Trace router addr hops
+trace_fact ByEach router addr hops = AllTrace router addr hops
+trace_fact (From from) router addr hops = Flow router from addr hops
+
+-- that it arrives by one alternative, and from there so
+abbrev pub step_fact : Packet → RouterId → Addr → ℕ → ℕ → Fact
+step_fact BySome router addr way hops = Step router addr way hops
+step_fact ByEach router addr way hops = AllStep router addr way hops
+step_fact (From from) router addr way hops = FlowStep hops router from addr way
 
 -- what a packet needs that goes on: the interface to which it is led, and that it arrives from there over one hop fewer
-abbrev pub onward : Bool → Addr → ℕ → Outcome → List Fact
-onward every addr hops Deliver = []
-onward every addr hops (Go next) =
-    Connected (record { 0 = next.router }) (record { 0 = next.place }) ∷ trace_fact every (record { 0 = next.router }) addr (hops - 1) ∷ []
-onward every addr hops Lost = []
+abbrev pub onward : Packet → Addr → ℕ → Outcome → List Fact
+onward packet addr hops Deliver = []
+onward packet addr hops (Go next) =
+    Connected (record { 0 = next.router }) (record { 0 = next.place }) ∷ trace_fact packet (record { 0 = next.router }) addr (hops - 1) ∷ []
+onward packet addr hops Lost = []
 
--- what one alternative rests on: its main row, for a row of BGP the base row toward its next hop, and what the packet needs to go on
-abbrev pub way_parents : Bool → RouterId → Addr → ℕ → Alternative → List Fact
-way_parents every router addr hops way =
-    Main router way.main ∷ (option_map_or (λ row. Base router row ∷ []) way.base [] ++ onward every addr hops way.outcome)
+-- that the interface to which it goes lets it in
+abbrev pub let_in : Addr → Addr → Outcome → List Fact
+let_in from addr Deliver = []
+let_in from addr (Go next) = Pass true (record { 0 = next.router }) (record { 0 = next.place }) from addr ∷ []
+let_in from addr Lost = []
 
 -- ---- routes
 
@@ -131,6 +151,12 @@ entry_place place c = option_and_then (λ l. option_map (λ e. e.element) (slice
 abbrev pub community_place : Place → ConfigView → Option ℕ
 community_place place c = option_and_then (λ l. option_map (λ e. e.element) (slice_get l.entries place.entry)) (slice_get c.community_lists place.list)
 
+abbrev pub group_place : ℕ → ConfigView → Option ℕ
+group_place place c = option_map (λ g. g.element) (slice_get c.groups place)
+
+abbrev pub filter_place : ℕ → ConfigView → Option ℕ
+filter_place place c = option_map (λ e. e.element) (slice_get c.filters place)
+
 module _ (s : StateView) where
   -- the fact of the element at a place of a router, which is numbered behind the elements of all earlier routers
   abbrev pub element_in : ℕ → ℕ → Fact
@@ -162,6 +188,15 @@ module _ (s : StateView) where
 
   abbrev pub of_passed : ℕ → Option ℕ → Names → List Fact
   of_passed router clause names = of_clause router clause ++ (of_entry router names.entry ++ of_community router names.community)
+
+  -- those by which an interface's access list lets a packet pass, where it has one: its filter, and the entry that decides
+  abbrev pub of_passing : ℕ → Passing → List Fact
+  of_passing router (By group entry) = of_part router (group_place group) ++ of_part router (filter_place entry)
+  of_passing router passing = []
+
+  -- what it rests on that an interface lets a packet pass: that it is up, and those
+  abbrev pub pass_parents : RouterId → IfaceId → Bool → Addr → Addr → List Fact
+  pass_parents router iface inward from to = Connected router iface ∷ of_passing router.0 (passing_at from.0 to.0 s.routers router.0 iface.0 inward)
 
   -- the hops by which a packet comes to the owner of an address
   abbrev pub hops_of : RouterId → Addr → ℕ → List Fact
@@ -209,13 +244,31 @@ module _ (s : StateView) where
   abbrev pub ways_out : RouterId → Addr → List Alternative
   ways_out router addr = alternatives s.routers s.base s.bgp s.main router.0 addr.0
 
+  -- that the interface lets a packet out by which an alternative leaves
+  abbrev pub let_out : RouterId → Addr → Addr → Alternative → List Fact
+  let_out router from addr way =
+      option_map_or (λ iface. Pass false router (record { 0 = iface }) from addr ∷ []) (exit_iface s.routers s.base s.bgp s.main router.0 addr.0 way) []
+
+  -- what the access lists on an alternative have to let pass
+  abbrev pub let_pass : Packet → RouterId → Addr → Alternative → List Fact
+  let_pass BySome router addr way = []
+  let_pass ByEach router addr way = []
+  let_pass (From from) router addr way = let_out router from addr way ++ let_in from addr way.outcome
+
+  -- what an alternative rests on: its main row, for a row of BGP the base row toward its next hop, what the packet needs to go on, and what
+  -- has to let it pass
+  abbrev pub way_parents : Packet → RouterId → Addr → ℕ → Alternative → List Fact
+  way_parents packet router addr hops way =
+      Main router way.main
+      ∷ (option_map_or (λ row. Base router row ∷ []) way.base [] ++ (onward packet addr hops way.outcome ++ let_pass packet router addr way))
+
   -- what the one of a number rests on
-  abbrev pub step_parents : Bool → RouterId → Addr → ℕ → ℕ → List Fact
-  step_parents every router addr way hops = option_map_or (way_parents every router addr hops) (slice_get (ways_out router addr) way) []
+  abbrev pub step_parents : Packet → RouterId → Addr → ℕ → ℕ → List Fact
+  step_parents packet router addr way hops = option_map_or (way_parents packet router addr hops) (slice_get (ways_out router addr) way) []
 
   -- that a packet arrives by each of them, whether or not it does
-  abbrev pub steps_of : Bool → RouterId → Addr → ℕ → List Fact
-  steps_of every router addr hops = map (λ way. step_fact every router addr way hops) (range_with_len 0 (length (ways_out router addr)))
+  abbrev pub steps_of : Packet → RouterId → Addr → ℕ → List Fact
+  steps_of packet router addr hops = map (λ way. step_fact packet router addr way hops) (range_with_len 0 (length (ways_out router addr)))
 
   -- the router's own interface that has an address, or else other facts
   abbrev pub own_or : RouterId → Addr → List Fact → List Fact
@@ -239,7 +292,10 @@ module _ (s : StateView) where
   parents (Entry router place prefix) = option_map_or (entry_parents router place prefix) (accepted_of s router.0 place prefix) []
   parents (Chosen router prefix place) = option_map_or (λ x. source_of router prefix x.from ∷ []) (chosen_of s router.0 prefix place) []
   parents (Main router row) = option_map_or (λ m. main_of router m.prefix m.from ∷ []) (slice_get (main_rows s router.0) row) []
-  parents (Step router addr way hops) = step_parents false router addr way hops
-  parents (Trace router addr hops) = own_or router addr (filter (holds s) (steps_of false router addr hops))
-  parents (AllStep router addr way hops) = step_parents true router addr way hops
-  parents (AllTrace router addr hops) = own_or router addr (steps_of true router addr hops)
+  parents (Step router addr way hops) = step_parents BySome router addr way hops
+  parents (Trace router addr hops) = own_or router addr (filter (holds s) (steps_of BySome router addr hops))
+  parents (AllStep router addr way hops) = step_parents ByEach router addr way hops
+  parents (AllTrace router addr hops) = own_or router addr (steps_of ByEach router addr hops)
+  parents (Pass inward router iface from to) = pass_parents router iface inward from to
+  parents (FlowStep hops router from to way) = step_parents (From from) router to way hops
+  parents (Flow router from to hops) = own_or router to (filter (holds s) (steps_of (From from) router to hops))

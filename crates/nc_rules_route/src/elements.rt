@@ -4,7 +4,7 @@ ghost use Rattle.std.specs.Prelude.{◌≡◌, ◌++◌, ◌<◌, [], ◌∷◌,
 ghost use Rattle.std.specs.Option.{option_map, option_map_or};
 ghost use Rattle.nc_types.specs.Config.{config_view};
 ghost use Rattle.nc_fact.specs.declared.fact.Fact.TheVariants as fact;
-ghost use Rattle.nc_rules_route.specs.Parents.{clause_place, entry_place, community_place};
+ghost use Rattle.nc_rules_route.specs.Parents.{clause_place, entry_place, community_place, group_place, filter_place};
 ghost use Rattle.nc_rules_route.specs.Parents.{element_in, of_interface, of_static, of_part};
 ghost use Rattle.nc_rules_route.specs.Parents.{of_entry, of_community};
 
@@ -82,6 +82,22 @@ fn community_place(config: &RouterConfig, place: Place) -> Option<u32>
     Some(entry.element)
 }
 
+// The place of the element that the filter of an interface's direction is.
+fn group_place(config: &RouterConfig, group: u32) -> Option<u32>
+    ensures { result ≡ group_place group (config_view config.now) }
+{
+    let group = config.groups.get(group as usize)?;
+    Some(group.element)
+}
+
+// The place of the element that an entry of an access list is.
+fn filter_place(config: &RouterConfig, entry: u32) -> Option<u32>
+    ensures { result ≡ filter_place entry (config_view config.now) }
+{
+    let entry = config.filters.get(entry as usize)?;
+    Some(entry.element)
+}
+
 // The element at a place of a router with this configuration, where there is a place.
 fn part_element(
     state: &Stable,
@@ -133,6 +149,25 @@ pub(crate) fn community_element(
     let entry = entry?;
     let config = config_of(state, router)?;
     part_element(state, router, config, community_place(config, entry))
+}
+
+/// The element of the filter at a place of a router; `None` where there is no such filter or router.
+pub(crate) fn group_element(state: &Stable, router: RouterId, group: u32) -> Option<ElementId>
+    ensures { option_map_or (λ e. fact.Element e ∷ []) result []
+        ≡ of_part state.now router.0 (group_place group) }
+{
+    let config = config_of(state, router)?;
+    part_element(state, router, config, group_place(config, group))
+}
+
+/// The element of the entry at a place among those of a router's access lists; `None` where there is no such entry or
+/// router.
+pub(crate) fn filter_element(state: &Stable, router: RouterId, entry: u32) -> Option<ElementId>
+    ensures { option_map_or (λ e. fact.Element e ∷ []) result []
+        ≡ of_part state.now router.0 (filter_place entry) }
+{
+    let config = config_of(state, router)?;
+    part_element(state, router, config, filter_place(config, entry))
 }
 
 /// Appends an element, where there is one.

@@ -5,41 +5,36 @@ ghost use Rattle.std.specs.Option.{option_map_or};
 ghost use Rattle.nc_trace.specs.Traced.{IsIncluded, IsTracedTo};
 ghost use Rattle.nc_trace.specs.Views.{alternative_view, outcome_view};
 ghost use Rattle.nc_fact.specs.declared.fact.Fact.TheVariants as fact;
-ghost use Rattle.nc_rules_route.specs.Parents.{trace_fact, onward, way_parents, parents};
+ghost use Rattle.nc_rules_route.specs.Parents.{trace_fact, onward, let_in, let_out, let_pass, way_parents, parents};
 
+use crate::packet::{Packet, Trip};
 use nc_fact::Fact;
 use nc_tables::Stable;
-use nc_trace::{Alternative, Outcome, TracedTo};
+use nc_trace::{Alternative, Outcome, TracedTo, exit_iface};
 use nc_types::{Addr, RouterId};
 use nc_underlay::own_interface;
 use std::alloc::AllocError;
 
-// That a packet arrives by every way, or by some.
-fn trace_fact(every: bool, router: RouterId, addr: Addr, hops: u8) -> Fact
-    ensures { result ≡ trace_fact every router addr hops }
+// That a packet arrives from a router over at most so many hops.
+fn trace_fact(packet: Packet, router: RouterId, addr: Addr, hops: u8) -> Fact
+    ensures { result ≡ trace_fact packet router addr hops }
 {
-    if every {
-        Fact::AllTrace(router, addr, hops)
-    } else {
-        Fact::Trace(router, addr, hops)
+    match packet {
+        Packet::BySome => Fact::Trace(router, addr, hops),
+        Packet::ByEach => Fact::AllTrace(router, addr, hops),
+        Packet::From(from) => Fact::Flow(router, from, addr, hops),
     }
 }
 
 // Appends what a packet needs that goes on: the interface to which it is led, and that it arrives from there.
-fn push_onward(
-    every: bool,
-    addr: Addr,
-    hops: u8,
-    outcome: Outcome,
-    into: &mut Vec<Fact>,
-) -> Result<(), AllocError>
+fn push_onward(trip: Trip, outcome: Outcome, into: &mut Vec<Fact>) -> Result<(), AllocError>
     ensures ok { OnOk result (into.new.items
-        ≡ into.old.items ++ onward every addr hops (outcome_view outcome)) }
+        ≡ into.old.items ++ onward trip.packet trip.addr trip.hops (outcome_view outcome)) }
     ensures kept { take (length into.old.items) into.new.items ≡ into.old.items }
 {
     if let Outcome::Go(next, iface) = outcome {
         let connected = Fact::Connected(next, iface);
-        let onward = trace_fact(every, next, addr, hops.saturating_sub(1));
+        let onward = trace_fact(trip.packet, next, trip.addr, trip.hops.saturating_sub(1));
         into.extend_from_slice(&[connected, onward])?;
     }
     Ok(())
@@ -57,47 +52,111 @@ fn push_base(router: RouterId, base: Option<u32>, into: &mut Vec<Fact>) -> Resul
     Ok(())
 }
 
-// Appends what an alternative follows from: its rows, and what the packet needs to go on.
-fn push_way(
-    every: bool,
+// Appends that the interface lets a packet out by which an alternative leaves.
+fn push_let_out(
+    state: &Stable,
     router: RouterId,
-    addr: Addr,
-    hops: u8,
+    from: Addr,
+    to: Addr,
     way: &Alternative,
     into: &mut Vec<Fact>,
 ) -> Result<(), AllocError>
     ensures ok { OnOk result (into.new.items
-        ≡ into.old.items ++ way_parents every router addr hops (alternative_view way.now)) }
+        ≡ into.old.items ++ let_out state.now router from to (alternative_view way.now)) }
+    ensures kept { take (length into.old.items) into.new.items ≡ into.old.items }
+{
+    if let Some(iface) = exit_iface(state, router, to, *way) {
+        into.push(Fact::Pass(false, router, iface, from, to))?;
+    }
+    Ok(())
+}
+
+// Appends that the interface to which a packet goes lets it in.
+fn push_let_in(
+    from: Addr,
+    to: Addr,
+    outcome: Outcome,
+    into: &mut Vec<Fact>,
+) -> Result<(), AllocError>
+    ensures ok { OnOk result (into.new.items ≡ into.old.items ++ let_in from to (outcome_view outcome)) }
+    ensures kept { take (length into.old.items) into.new.items ≡ into.old.items }
+{
+    if let Outcome::Go(next, iface) = outcome {
+        into.push(Fact::Pass(true, next, iface, from, to))?;
+    }
+    Ok(())
+}
+
+// Appends what the access lists on an alternative have to let pass.
+fn push_let_pass(
+    state: &Stable,
+    trip: Trip,
+    router: RouterId,
+    way: &Alternative,
+    into: &mut Vec<Fact>,
+) -> Result<(), AllocError>
+    ensures ok { OnOk result (into.new.items
+        ≡ into.old.items ++ let_pass state.now trip.packet router trip.addr (alternative_view way.now)) }
+    ensures kept { take (length into.old.items) into.new.items ≡ into.old.items }
+{
+    match trip.packet {
+        Packet::BySome | Packet::ByEach => Ok(()),
+        Packet::From(from) => {
+            push_let_out(state, router, from, trip.addr, way, into)?;
+            push_let_in(from, trip.addr, way.outcome, into)
+        }
+    }
+}
+
+// Appends the rows of an alternative: its main row, and its base row, where it has one.
+fn push_rows(router: RouterId, way: &Alternative, into: &mut Vec<Fact>) -> Result<(), AllocError>
+    ensures ok { OnOk result (into.new.items ≡ into.old.items ++ fact.Main router way.now.main
+        ∷ option_map_or (λ row. fact.Base router row ∷ []) way.now.base []) }
     ensures kept { take (length into.old.items) into.new.items ≡ into.old.items }
 {
     into.push(Fact::Main(router, way.main))?;
-    push_base(router, way.base, into)?;
-    push_onward(every, addr, hops, way.outcome, into)
+    push_base(router, way.base, into)
 }
 
-/// Appends what the alternative at a place follows from, of all those of a router for an address: by every way, or
-/// by some.
-pub(crate) fn push_step(
-    ways: &[Alternative],
-    every: bool,
+// Appends what an alternative follows from: its rows, what the packet needs to go on, and what has to let it pass.
+fn push_way(
+    state: &Stable,
+    trip: Trip,
     router: RouterId,
-    addr: Addr,
-    place: u32,
-    hops: u8,
+    way: &Alternative,
     into: &mut Vec<Fact>,
 ) -> Result<(), AllocError>
     ensures ok { OnOk result (into.new.items ≡ into.old.items
-        ++ option_map_or (way_parents every router addr hops) (slice_get (map alternative_view ways.now) place) []) }
+        ++ way_parents state.now trip.packet router trip.addr trip.hops (alternative_view way.now)) }
+    ensures kept { take (length into.old.items) into.new.items ≡ into.old.items }
+{
+    push_rows(router, way, into)?;
+    push_onward(trip, way.outcome, into)?;
+    push_let_pass(state, trip, router, way, into)
+}
+
+/// Appends what the alternative at a place follows from, of all those of a router for an address.
+pub(crate) fn push_step(
+    state: &Stable,
+    ways: &[Alternative],
+    trip: Trip,
+    router: RouterId,
+    place: u32,
+    into: &mut Vec<Fact>,
+) -> Result<(), AllocError>
+    ensures ok { OnOk result (into.new.items ≡ into.old.items
+        ++ option_map_or (way_parents state.now trip.packet router trip.addr trip.hops)
+        (slice_get (map alternative_view ways.now) place) []) }
     ensures kept { take (length into.old.items) into.new.items ≡ into.old.items }
 {
     match ways.get(place as usize) {
-        Some(way) => push_way(every, router, addr, hops, way, into),
+        Some(way) => push_way(state, trip, router, way, into),
         None => Ok(()),
     }
 }
 
-// The number of a place. Where it is none of 32 bits, the list before it is larger than memory can be.
-fn number(place: usize) -> Result<u32, AllocError>
+/// The number of a place. Where it is none of 32 bits, the list before it is larger than memory can be.
+pub(crate) fn number(place: usize) -> Result<u32, AllocError>
     ensures { IfOk result (λ number. number ≡ place) }
 {
     match u32::try_from(place) {

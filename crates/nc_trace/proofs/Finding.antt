@@ -11,6 +11,7 @@ use Rattle.nc_tables.specs.State.{StateView}
 use Rattle.nc_types.specs.declared.config.RouterId.{RouterId}
 use Rattle.nc_tables.specs.Forwarding as defined
 use Rattle.nc_trace.specs.declared.alternative.Alternative.{Alternative}
+use Rattle.nc_trace.specs.declared.packet.Packet.{Packet}
 use Rattle.nc_trace.specs.declared.span.Span.{Span}
 use Rattle.nc_trace.specs.Found.{found_at, found_view, in_span, IsWithin, AreWithin, GoesTo, IsListedOrNone, FoundWays, covers, ways_out, IsCoveredOrNone, IsClosed, LeadTo}
 use Rattle.nc_trace.specs.Views.{alternative_view}
@@ -93,10 +94,10 @@ at_kept spans old new within before router = at_view spans new router ∙ on (sl
 
 -- ---- where ways lead
 
-module _ (s : StateView) (addr : ℕ) (found : FoundWays) where
-  pub closed_by : LeadTo s addr (IsCoveredOrNone (length s.routers) found) found → IsClosed s addr found
+module _ (s : StateView) (p : Packet) (found : FoundWays) where
+  pub closed_by : LeadTo s p (IsCoveredOrNone (length s.routers) found) found → IsClosed s p found
   closed_by leads router place way next there at goes within =
-      let ways = ways_out s addr router in
+      let ways = ways_out s p router in
       let here : GoesTo (IsCoveredOrNone (length s.routers) found) way.outcome =
       subst (λ (w : defined.Alternative). GoesTo (IsCoveredOrNone (length s.routers) found) w.outcome) (get_or_from_slice_get ways place way way at) (leads router there place way (slice_get_within ways place way at)) in
       on (subst (GoesTo (IsCoveredOrNone (length s.routers) found)) goes here)
@@ -105,10 +106,10 @@ module _ (s : StateView) (addr : ℕ) (found : FoundWays) where
       on (inl is) = is
       on (inr past) = absurd (omega (arith, past, within))
 
-  pub leads_by : IsClosed s addr found → LeadTo s addr (IsCoveredOrNone (length s.routers) found) found
-  leads_by closed router there k d lt = on (slice_index_or (ways_out s addr router) k d) (slice_get-get_or (ways_out s addr router) k d lt)
+  pub leads_by : IsClosed s p found → LeadTo s p (IsCoveredOrNone (length s.routers) found) found
+  leads_by closed router there k d lt = on (slice_index_or (ways_out s p router) k d) (slice_get-get_or (ways_out s p router) k d lt)
     where
-      on : (way : defined.Alternative) → slice_get (ways_out s addr router) k ≡ Some way → GoesTo (IsCoveredOrNone (length s.routers) found) way.outcome
+      on : (way : defined.Alternative) → slice_get (ways_out s p router) k ≡ Some way → GoesTo (IsCoveredOrNone (length s.routers) found) way.outcome
       on way at = by way.outcome refl
         where
           by : (o : defined.Outcome) → way.outcome ≡ o → GoesTo (IsCoveredOrNone (length s.routers) found) o

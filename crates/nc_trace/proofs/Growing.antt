@@ -8,10 +8,11 @@ use Rattle.nc_types.specs.declared.config.RouterId.{RouterId}
 use Rattle.nc_tables.specs.State.{StateView}
 use Rattle.nc_tables.specs.Forwarding as defined
 use Rattle.nc_tables.proofs.Owner.{some_is}
+use Rattle.nc_trace.specs.declared.packet.Packet.{Packet}
 use Rattle.nc_trace.specs.Found.{FoundWays, found_at, covers, GoesTo, IsListed, IsListedOrNone, IsCoveredOrNone, IsCoveredOrListed, AreWays, LeadTo, ways_out}
 use Rattle.nc_trace.proofs.Finding.{AreKept, goes_more}
 
-module _ (s : StateView) (addr : ℕ) (old new : FoundWays) (router : ℕ) (found : found_at new router ≡ Some (ways_out s addr router)) (others : (other : ℕ) → other ≢ router → found_at new other ≡ found_at old other) where
+module _ (s : StateView) (p : Packet) (old new : FoundWays) (router : ℕ) (found : found_at new router ≡ Some (ways_out s p router)) (others : (other : ℕ) → other ≢ router → found_at new other ≡ found_at old other) where
   same : (r : ℕ) → (r ≡ router) ⊎ (found_at new r ≡ found_at old r)
   same r = by (nat_eq r router) refl
     where
@@ -25,9 +26,9 @@ module _ (s : StateView) (addr : ℕ) (old new : FoundWays) (router : ℕ) (foun
     | inr e ↦ ap is_some e ∙ there
   ]
 
-  pub ways_right : AreWays s addr old → AreWays s addr new
+  pub ways_right : AreWays s p old → AreWays s p new
   ways_right right r ways e = elim (same r) [
-    | inl is ↦ some_is ways (ways_out s addr router) (sym e ∙ ap (found_at new) is ∙ found) ∙ ap (ways_out s addr) (sym is)
+    | inl is ↦ some_is ways (ways_out s p router) (sym e ∙ ap (found_at new) is ∙ found) ∙ ap (ways_out s p) (sym is)
     | inr is ↦ right r ways (sym is ∙ e)
   ]
 
@@ -41,12 +42,12 @@ module _ (s : StateView) (addr : ℕ) (old new : FoundWays) (router : ℕ) (foun
     listed_now r (inl listed) = inr listed
     listed_now r (inr past) = inl (inr past)
 
-    pub leads_on : LeadTo s addr (IsCoveredOrListed count before old) old → All (λ way. GoesTo (IsListedOrNone count after) way.outcome) (ways_out s addr router)
-        → LeadTo s addr (IsCoveredOrListed count after new) new
+    pub leads_on : LeadTo s p (IsCoveredOrListed count before old) old → All (λ way. GoesTo (IsListedOrNone count after) way.outcome) (ways_out s p router)
+        → LeadTo s p (IsCoveredOrListed count after new) new
     leads_on leads goes r there = elim (same r) [
-      | inl e ↦ subst (λ (x : ℕ). All (λ (way : defined.Alternative). GoesTo (IsCoveredOrListed count after new) way.outcome) (ways_out s addr x)) (sym e)
-          (λ k d lt. goes_more (IsListedOrNone count after) (IsCoveredOrListed count after new) listed_now (slice_index_or (ways_out s addr router) k d).outcome (goes k d lt))
-      | inr e ↦ λ k d lt. goes_more (IsCoveredOrListed count before old) (IsCoveredOrListed count after new) lifted (slice_index_or (ways_out s addr r) k d).outcome (leads r (sym (ap is_some e) ∙ there) k d lt)
+      | inl e ↦ subst (λ (x : ℕ). All (λ (way : defined.Alternative). GoesTo (IsCoveredOrListed count after new) way.outcome) (ways_out s p x)) (sym e)
+          (λ k d lt. goes_more (IsListedOrNone count after) (IsCoveredOrListed count after new) listed_now (slice_index_or (ways_out s p router) k d).outcome (goes k d lt))
+      | inr e ↦ λ k d lt. goes_more (IsCoveredOrListed count before old) (IsCoveredOrListed count after new) lifted (slice_index_or (ways_out s p r) k d).outcome (leads r (sym (ap is_some e) ∙ there) k d lt)
     ]
 
 -- the router at a place was looked at
@@ -69,8 +70,8 @@ all_done count list found last le done r listed =
     let here = done listed.place (omega (arith, le, slice_get_within list listed.place (record { 0 = r }) listed.at)) in
     subst (λ (n : ℕ). IsCoveredOrNone count found n) (ap (λ (id : RouterId). id.0) (some_is here.router (record { 0 = r }) (sym here.at ∙ listed.at))) here.covered
 
-pub closed_then : (s : StateView) (addr count : ℕ) (list : List RouterId) (found : FoundWays) → ((r : ℕ) → IsListed list r → IsCoveredOrNone count found r) → LeadTo s addr (IsCoveredOrListed count list found) found → LeadTo s addr (IsCoveredOrNone count found) found
-closed_then s addr count list found covered leads r there k d lt = goes_more (IsCoveredOrListed count list found) (IsCoveredOrNone count found) told (slice_index_or (ways_out s addr r) k d).outcome (leads r there k d lt)
+pub closed_then : (s : StateView) (p : Packet) (count : ℕ) (list : List RouterId) (found : FoundWays) → ((r : ℕ) → IsListed list r → IsCoveredOrNone count found r) → LeadTo s p (IsCoveredOrListed count list found) found → LeadTo s p (IsCoveredOrNone count found) found
+closed_then s p count list found covered leads r there k d lt = goes_more (IsCoveredOrListed count list found) (IsCoveredOrNone count found) told (slice_index_or (ways_out s p r) k d).outcome (leads r there k d lt)
   where
     told : (next : ℕ) → IsCoveredOrListed count list found next → IsCoveredOrNone count found next
     told next (inl is) = is

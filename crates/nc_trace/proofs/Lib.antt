@@ -4,4 +4,5 @@ pub mod Walking
 pub mod Passing
 pub mod Beyond
 pub mod Marking
+pub mod Taking
 pub mod Tracing

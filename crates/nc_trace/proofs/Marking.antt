@@ -7,12 +7,14 @@ use Rattle.nc_tables.specs.Forwarding.{Outcome, Deliver, Go, Lost, Alternative, 
 use Rattle.nc_tables.specs.Reach.{owns}
 use Rattle.nc_tables.specs.State.{StateView}
 use Rattle.nc_underlay.proofs.Fewest.{IsStepped}
+use Rattle.nc_trace.specs.declared.packet.By.{By}
 use Rattle.nc_trace.specs.Found.{FoundWays, covers, GoesTo, IsCoveredOrNone, IsFoundTo, ways_out}
-use Rattle.nc_trace.specs.Traced.{ways_pass, arrives_within, IsNone}
-use Rattle.nc_trace.specs.Levels.{is_asked, passes, step, over}
+use Rattle.nc_trace.specs.Packets.{packet_of, is_each}
+use Rattle.nc_trace.specs.Traced.{ways_pass, arrives_as, IsNone}
+use Rattle.nc_trace.specs.Levels.{is_asked, passes_as, step, over}
 use Rattle.nc_trace.proofs.Finding.{goes_more, leads_by}
-use Rattle.nc_trace.proofs.Passing.{passes_more}
-use Rattle.nc_trace.proofs.Beyond.{no_hop, one_hop}
+use Rattle.nc_trace.proofs.Passing.{passes_more_as}
+use Rattle.nc_trace.proofs.Beyond.{no_hop_as, one_hop_as}
 
 -- ---- tests that agree where packets go on
 
@@ -45,39 +47,39 @@ pub and_false : (b : Bool) → (b && false) ≡ false
 and_false true = refl
 and_false false = refl
 
-module _ (s : StateView) (every : Bool) (addr : ℕ) (none : (router : ℕ) → length s.routers ≤ router → IsNone s addr router) where
-  module _ (found : FoundWays) (is : IsFoundTo s addr found) where
+module _ (s : StateView) (by : By) (addr : ℕ) (none : (router : ℕ) → length s.routers ≤ router → IsNone s addr router) where
+  module _ (found : FoundWays) (is : IsFoundTo s (packet_of by addr) found) where
     -- where the ways that were found lead, and from where no packet arrives
-    pub told : (hops router : ℕ) → IsCoveredOrNone (length s.routers) found router → arrives_within s every hops router addr ≡ over s every addr (Some found) hops router
+    pub told : (hops router : ℕ) → IsCoveredOrNone (length s.routers) found router → arrives_as s by hops router addr ≡ over s by addr (Some found) hops router
     told hops router there = elim there [
-      | inl e ↦ sym (ap (λ (b : Bool). b && arrives_within s every hops router addr) e)
+      | inl e ↦ sym (ap (λ (b : Bool). b && arrives_as s by hops router addr) e)
       | inr past ↦
-          let no = (none router past).over every hops in
+          let no = (none router past).over by hops in
           no ∙ sym (ap (λ (b : Bool). covers found router && b) no ∙ and_false (covers found router))
     ]
 
     by_found : (hops router : ℕ) (asked : Bool) → covers found router ≡ asked
-        → (asked && passes s every addr (λ next. arrives_within s every hops next addr) router) ≡ (asked && passes s every addr (over s every addr (Some found) hops) router)
+        → (asked && passes_as s by addr (λ next. arrives_as s by hops next addr) router) ≡ (asked && passes_as s by addr (over s by addr (Some found) hops) router)
     by_found hops router false e = refl
     by_found hops router true e =
         ap (λ (b : Bool). owns s.routers router addr || b)
-        (pass_same (λ (next : ℕ). arrives_within s every hops next addr) (over s every addr (Some found) hops) every (ways_out s addr router)
-        (λ k d lt. goes_more (IsCoveredOrNone (length s.routers) found) _ (told hops) (slice_index_or (ways_out s addr router) k d).outcome (leads_by s addr found is.closed router e k d lt)))
+        (pass_same (λ (next : ℕ). arrives_as s by hops next addr) (over s by addr (Some found) hops) (is_each by) (ways_out s (packet_of by addr) router)
+        (λ k d lt. goes_more (IsCoveredOrNone (length s.routers) found) _ (told hops) (slice_index_or (ways_out s (packet_of by addr) router) k d).outcome (leads_by s (packet_of by addr) found is.closed router e k d lt)))
 
-  alike : (found : Option FoundWays) → ForSome found (IsFoundTo s addr) → (hops router : ℕ)
-      → (is_asked found router && passes s every addr (λ next. arrives_within s every hops next addr) router) ≡ step s every addr found (over s every addr found hops) router
+  alike : (found : Option FoundWays) → ForSome found (IsFoundTo s (packet_of by addr)) → (hops router : ℕ)
+      → (is_asked found router && passes_as s by addr (λ next. arrives_as s by hops next addr) router) ≡ step s by addr found (over s by addr found hops) router
   alike None is hops router = refl
   alike (Some found) is hops router = by_found found (is found refl) hops router (covers found router) refl
 
-  pub stepped : (found : Option FoundWays) → ForSome found (IsFoundTo s addr) → IsStepped (over s every addr found) (step s every addr found)
+  pub stepped : (found : Option FoundWays) → ForSome found (IsFoundTo s (packet_of by addr)) → IsStepped (over s by addr found) (step s by addr found)
   stepped found is = record {
-    none = λ router. ap (λ (b : Bool). is_asked found router && b) (no_hop s every addr router);
-    more = λ hops router. ap (λ (b : Bool). is_asked found router && b) (one_hop s every addr hops router) ∙ alike found is hops router;
+    none = λ router. ap (λ (b : Bool). is_asked found router && b) (no_hop_as s by addr router);
+    more = λ hops router. ap (λ (b : Bool). is_asked found router && b) (one_hop_as s by addr hops router) ∙ alike found is hops router;
     wider = λ f g weaker router e.
-        let both = and_parts (is_asked found router) (passes s every addr f router) e in
-        and_from (is_asked found router) (passes s every addr g router) both.0 (passes_more f g weaker s every addr router both.1);
+        let both = and_parts (is_asked found router) (passes_as s by addr f router) e in
+        and_from (is_asked found router) (passes_as s by addr g router) both.0 (passes_more_as s by addr router f g weaker both.1);
   }
 
   -- from a router that doesn't exist no packet arrives
-  pub not_over : (found : Option FoundWays) (hops router : ℕ) → length s.routers ≤ router → over s every addr found hops router ≡ false
-  not_over found hops router past = ap (λ (b : Bool). is_asked found router && b) ((none router past).over every hops) ∙ and_false (is_asked found router)
+  pub not_over : (found : Option FoundWays) (hops router : ℕ) → length s.routers ≤ router → over s by addr found hops router ≡ false
+  not_over found hops router past = ap (λ (b : Bool). is_asked found router && b) ((none router past).over by hops) ∙ and_false (is_asked found router)

@@ -7,7 +7,10 @@ use Rattle.nc_tables.specs.Forwarding.{Outcome, Deliver, Go, Lost, Alternative, 
 use Rattle.nc_tables.specs.Reach.{owns}
 use Rattle.nc_tables.specs.State.{StateView}
 use Rattle.nc_trace.specs.Traced.{ways_pass}
-use Rattle.nc_trace.specs.Levels.{passes}
+use Rattle.nc_trace.specs.declared.packet.By.{By}
+use Rattle.nc_trace.specs.Found.{ways_out}
+use Rattle.nc_trace.specs.Packets.{packet_of, is_each}
+use Rattle.nc_trace.specs.Levels.{passes, passes_as}
 
 module _ (f g : ℕ → Bool) (weaker : (r : ℕ) → f r ≡ true → g r ≡ true) where
   arrives_more : (o : Outcome) → arrives_by f o ≡ true → arrives_by g o ≡ true
@@ -31,7 +34,7 @@ module _ (f g : ℕ → Bool) (weaker : (r : ℕ) → f r ≡ true → g r ≡ t
       let both = and_parts (arrives_by f way.outcome) (list_all (λ (w : Alternative). arrives_by f w.outcome) ways) e in
       and_from (arrives_by g way.outcome) (list_all (λ (w : Alternative). arrives_by g w.outcome) ways) (arrives_more way.outcome both.0) (each_more ways both.1)
 
-  pass_more : (every : Bool) (ways : List Alternative) → ways_pass every (λ way. arrives_by f way.outcome) ways ≡ true → ways_pass every (λ way. arrives_by g way.outcome) ways ≡ true
+  pub pass_more : (every : Bool) (ways : List Alternative) → ways_pass every (λ way. arrives_by f way.outcome) ways ≡ true → ways_pass every (λ way. arrives_by g way.outcome) ways ≡ true
   pass_more true ways e =
       let both = and_parts (nat_lt 0 (length ways)) (list_all (λ (w : Alternative). arrives_by f w.outcome) ways) e in
       and_from (nat_lt 0 (length ways)) (list_all (λ (w : Alternative). arrives_by g w.outcome) ways) both.0 (each_more ways both.1)
@@ -60,3 +63,22 @@ by_ways s every addr router f other = sym (ap (λ (own : Bool). own || ways_pass
 
 pub by_owner : (s : StateView) (every : Bool) (addr router : ℕ) (f : ℕ → Bool) → owns s.routers router addr ≡ true → true ≡ passes s every addr f router
 by_owner s every addr router f own = sym (ap (λ (b : Bool). b || ways_pass every (λ way. arrives_by f way.outcome) (alternatives s.routers s.base s.bgp s.main router addr)) own)
+
+-- ---- the same of the ways as a packet takes them
+
+module _ (s : StateView) (by : By) (addr router : ℕ) where
+  abbrev ways_lead : (ℕ → Bool) → Bool
+  ways_lead f = ways_pass (is_each by) (λ way. arrives_by f way.outcome) (ways_out s (packet_of by addr) router)
+
+  pub passes_more_as : (f g : ℕ → Bool) → ((r : ℕ) → f r ≡ true → g r ≡ true) → passes_as s by addr f router ≡ true → passes_as s by addr g router ≡ true
+  passes_more_as f g weaker e = by_own (owns s.routers router addr) e
+    where
+      by_own : (own : Bool) → (own || ways_lead f) ≡ true → (own || ways_lead g) ≡ true
+      by_own true e = refl
+      by_own false e = pass_more f g weaker (is_each by) (ways_out s (packet_of by addr) router) e
+
+  pub by_ways_as : (f : ℕ → Bool) → owns s.routers router addr ≡ false → ways_lead f ≡ passes_as s by addr f router
+  by_ways_as f other = sym (ap (λ (own : Bool). own || ways_lead f) other)
+
+  pub by_owner_as : (f : ℕ → Bool) → owns s.routers router addr ≡ true → true ≡ passes_as s by addr f router
+  by_owner_as f own = sym (ap (λ (b : Bool). b || ways_lead f) own)

@@ -1,11 +1,14 @@
--- The ways of routers that were found for an address.
-use Rattle.std.specs.Prelude.{◌≡◌, ◌⊎◌, ℕ, ◌-◌, ◌<◌, ◌≤◌, Bool, true, List, length, map, take, drop, All, Option, None, Some, is_some, slice_get, slice_index_or}
+-- The ways of routers that were found for a packet.
+use Rattle.std.specs.Prelude.{◌≡◌, ◌⊎◌, ℕ, ◌-◌, ◌<◌, ◌≤◌, Bool, true, List, length, map, take, drop, All, Option, None, Some, is_some, slice_get, slice_index_or, if◌then◌else◌}
 use Rattle.std.specs.Option.{option_map, ForSome}
 use Rattle.nc_types.specs.declared.config.RouterId.{RouterId}
 use Rattle.nc_types.specs.Network.{PlaceIn}
+use Rattle.nc_types.specs.declared.addr.Addr.{Addr}
+use Rattle.nc_tables.specs.Flows.{lets}
 use Rattle.nc_tables.specs.State.{StateView}
 use Rattle.nc_tables.specs.Forwarding as defined
 use Rattle.nc_trace.specs.declared.alternative.Alternative.{Alternative}
+use Rattle.nc_trace.specs.declared.packet.Packet.{Packet}
 use Rattle.nc_trace.specs.declared.span.Span.{Span}
 use Rattle.nc_trace.specs.Views.{alternative_view}
 
@@ -50,9 +53,27 @@ pub record IsListed (list : List RouterId) (router : ℕ) : Type 0 where
 abbrev pub IsListedOrNone : ℕ → List RouterId → ℕ → Type 0
 IsListedOrNone count list router = IsListed list router ⊎ (count ≤ router)
 
-module _ (s : StateView) (addr : ℕ) where
+module _ (s : StateView) (from to : ℕ) where
+  -- a way out of a router as a packet takes it that goes from one address to another: where it isn't let pass, it is lost
+  abbrev pub taken : ℕ → defined.Alternative → defined.Alternative
+  taken router way = record way { outcome = if lets s from to router way then way.outcome else defined.Lost }
+
+  abbrev pub flow_ways : ℕ → List defined.Alternative
+  flow_ways router = map (taken router) (defined.alternatives s.routers s.base s.bgp s.main router to)
+
+-- the same of a packet that may come from anywhere: it takes each way as it is
+abbrev pub taken_from : StateView → Option Addr → ℕ → ℕ → defined.Alternative → defined.Alternative
+taken_from s None to router way = way
+taken_from s (Some from) to router way = taken s from.0 to router way
+
+abbrev pub all_from : StateView → Option Addr → ℕ → ℕ → List defined.Alternative → List defined.Alternative
+all_from s None to router ways = ways
+all_from s (Some from) to router ways = map (taken s from.0 to router) ways
+
+module _ (s : StateView) (p : Packet) where
+  -- the ways out of a router as the packet takes them
   abbrev pub ways_out : ℕ → List defined.Alternative
-  ways_out router = defined.alternatives s.routers s.base s.bgp s.main router addr
+  ways_out router = all_from s p.from p.to.0 router (defined.alternatives s.routers s.base s.bgp s.main router p.to.0)
 
   -- the ways that were found are right
   abbrev pub AreWays : FoundWays → Type 0
@@ -70,12 +91,12 @@ abbrev pub IsCoveredOrListed : ℕ → List RouterId → FoundWays → ℕ → T
 IsCoveredOrListed count list found router = IsCoveredOrNone count found router ⊎ IsListed list router
 
 -- where the ways of a router were found, so were those of each router to which they lead
-abbrev pub IsClosed : StateView → ℕ → FoundWays → Type 0
-IsClosed s addr found =
-    (router place : ℕ) (way : defined.Alternative) (next : PlaceIn) → covers found router ≡ true → slice_get (ways_out s addr router) place ≡ Some way
+abbrev pub IsClosed : StateView → Packet → FoundWays → Type 0
+IsClosed s p found =
+    (router place : ℕ) (way : defined.Alternative) (next : PlaceIn) → covers found router ≡ true → slice_get (ways_out s p router) place ≡ Some way
     → way.outcome ≡ defined.Go next → next.router < length s.routers → covers found next.router ≡ true
 
 -- the ways that were found are right, and so were those of all routers to which they lead
-pub record IsFoundTo (s : StateView) (addr : ℕ) (found : FoundWays) : Type 0 where
-  pub ways : AreWays s addr found
-  pub closed : IsClosed s addr found
+pub record IsFoundTo (s : StateView) (p : Packet) (found : FoundWays) : Type 0 where
+  pub ways : AreWays s p found
+  pub closed : IsClosed s p found

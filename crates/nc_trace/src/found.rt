@@ -1,16 +1,20 @@
-//! The ways of routers for one address, from one router on: those of each router to which they lead are found too.
+//! The ways of routers for one packet, from one router on: those of each router to which they lead are found too.
 
 ghost use Rattle.std.specs.Prelude.{◌≡◌, ◌-◌, ◌<◌, ◌≤◌, ◌≢◌, ◌++◌, ◌⊎◌, ◌∷◌, [], ℕ, Some, None, true, is_some, length, take, drop, map, slice_get, All, IfOk, OnOk};
-ghost use Rattle.std.specs.Option.{unwrap_or};
+ghost use Rattle.std.specs.Option.{unwrap_or, ForSome};
+ghost use Rattle.nc_filter.specs.Tables.{AreFilters};
 ghost use Rattle.nc_tables.specs.Forwarding.{alternatives};
 ghost use Rattle.nc_trace.specs.Found.{IsWithin, found_at, covers, GoesTo, IsListed, IsListedOrNone, IsCoveredOrNone, IsCoveredOrListed, IsFoundTo, AreWays, LeadTo, ways_out};
 ghost use Rattle.nc_trace.specs.Views.{alternative_view, outcome_view};
 
 use crate::alternative::{Alternative, Outcome};
+use crate::packet::Packet;
 use crate::span::Span;
+use crate::taken::taken_by;
 use crate::ways::Ways;
+use nc_filter::FilterTables;
 use nc_tables::Stable;
-use nc_types::{Addr, ROUTER_LIMIT, RouterId};
+use nc_types::{ROUTER_LIMIT, RouterId};
 use std::alloc::{AllocError, Global};
 use std::marker::Model;
 
@@ -32,23 +36,27 @@ fn list_next(count: usize, outcome: Outcome, list: &mut Vec<RouterId>) -> Result
 fn push_ways(
     state: &Stable,
     router: RouterId,
-    addr: Addr,
+    packet: Packet,
+    tables: &mut Option<FilterTables>,
     ways: &mut Vec<Alternative>,
     list: &mut Vec<RouterId>,
 ) -> Result<(), AllocError>
-    requires { router.0 < length state.now.routers }
+    requires router { router.0 < length state.now.routers }
+    requires tables { ForSome tables.old (AreFilters state.now.routers) }
+    ensures tables { ForSome tables.new (AreFilters state.now.routers) }
     ensures before { take (length ways.old.items) ways.new.items ≡ ways.old.items }
     ensures ways { OnOk result (map alternative_view ways.new.items
-        ≡ map alternative_view ways.old.items ++ ways_out state.now addr.0 router.0) }
+        ≡ map alternative_view ways.old.items ++ ways_out state.now packet router.0) }
     ensures kept { (place : ℕ) (router : RouterId) → slice_get list.old.items place ≡ Some router
         → slice_get list.new.items place ≡ Some router }
     ensures listed { OnOk result (All
         (λ way. GoesTo (IsListedOrNone (length state.now.routers) list.new.items) way.outcome)
-        (ways_out state.now addr.0 router.0)) }
+        (ways_out state.now packet router.0)) }
 {
     let count = state.network().routers().len();
-    let mut left = Ways::new(state, router, addr);
-    'ways: while let Some(way) = left.next() {
+    let mut left = Ways::new(state, router, packet.to);
+    'ways: while let Some(out) = left.next() {
+        let way = taken_by(state, tables, router, packet, out)?;
         ways.push(way)?;
         list_next(count, way.outcome, list)?;
     }
@@ -63,7 +71,7 @@ fn part(ways: &[Alternative], span: Span) -> &[Alternative]
     &ways[span.from..span.to]
 }
 
-/// The ways of some routers for one address.
+/// The ways of some routers for one packet.
 #[derive(Drop)]
 pub(crate) struct Found {
     spans: [Option<Span>; ROUTER_LIMIT],
@@ -124,21 +132,24 @@ impl Found {
         &mut self,
         state: &Stable,
         router: RouterId,
-        addr: Addr,
+        packet: Packet,
+        tables: &mut Option<FilterTables>,
         list: &mut Vec<RouterId>,
     ) -> Result<(), AllocError>
-        requires { router.0 < length state.now.routers }
-        ensures found { OnOk result (found_at self.new router.0 ≡ Some (ways_out state.now addr.0 router.0)) }
+        requires router { router.0 < length state.now.routers }
+        requires tables { ForSome tables.old (AreFilters state.now.routers) }
+        ensures tables { ForSome tables.new (AreFilters state.now.routers) }
+        ensures found { OnOk result (found_at self.new router.0 ≡ Some (ways_out state.now packet router.0)) }
         ensures others { OnOk result ((other : ℕ) → other ≢ router.0 → found_at self.new other ≡ found_at self.old other) }
         ensures kept { (place : ℕ) (router : RouterId) → slice_get list.old.items place ≡ Some router
             → slice_get list.new.items place ≡ Some router }
         ensures listed { OnOk result (All
             (λ way. GoesTo (IsListedOrNone (length state.now.routers) list.new.items) way.outcome)
-            (ways_out state.now addr.0 router.0)) }
+            (ways_out state.now packet router.0)) }
     {
         let _routers = state.network().routers();
         let from = self.ways.len();
-        push_ways(state, router, addr, &mut self.ways, list)?;
+        push_ways(state, router, packet, tables, &mut self.ways, list)?;
         let to = self.ways.len();
         self.spans[router.0 as usize] = Some(Span { from, to });
         Ok(())
@@ -149,14 +160,17 @@ impl Found {
         &mut self,
         state: &Stable,
         router: RouterId,
-        addr: Addr,
+        packet: Packet,
+        tables: &mut Option<FilterTables>,
         list: &mut Vec<RouterId>,
     ) -> Result<(), AllocError>
-        requires ways { AreWays state.now addr.0 self.old }
-        requires leads { LeadTo state.now addr.0
+        requires ways { AreWays state.now packet self.old }
+        requires leads { LeadTo state.now packet
             (IsCoveredOrListed (length state.now.routers) list.old.items self.old) self.old }
-        ensures ways { OnOk result (AreWays state.now addr.0 self.new) }
-        ensures leads { OnOk result (LeadTo state.now addr.0
+        requires tables { ForSome tables.old (AreFilters state.now.routers) }
+        ensures tables { ForSome tables.new (AreFilters state.now.routers) }
+        ensures ways { OnOk result (AreWays state.now packet self.new) }
+        ensures leads { OnOk result (LeadTo state.now packet
             (IsCoveredOrListed (length state.now.routers) list.new.items self.new) self.new) }
         ensures more { OnOk result ((other : ℕ) → covers self.old other ≡ true
             → covers self.new other ≡ true) }
@@ -171,7 +185,7 @@ impl Found {
         if self.covers(router) {
             return Ok(());
         }
-        self.find(state, router, addr, list)?;
+        self.find(state, router, packet, tables, list)?;
         Ok(())
     }
 
@@ -179,11 +193,14 @@ impl Found {
     fn find_all(
         &mut self,
         state: &Stable,
-        addr: Addr,
+        packet: Packet,
+        tables: &mut Option<FilterTables>,
         list: Vec<RouterId>,
     ) -> Result<(), AllocError>
-        requires { IsFoundTo state.now addr.0 self.old }
-        ensures found { OnOk result (IsFoundTo state.now addr.0 self.new) }
+        requires found { IsFoundTo state.now packet self.old }
+        requires tables { ForSome tables.old (AreFilters state.now.routers) }
+        ensures tables { ForSome tables.new (AreFilters state.now.routers) }
+        ensures found { OnOk result (IsFoundTo state.now packet self.new) }
         ensures listed { OnOk result ((router : ℕ) → IsListed list.items router
             → IsCoveredOrNone (length state.now.routers) self.new router) }
     {
@@ -192,7 +209,7 @@ impl Found {
             if place >= list.len() {
                 return Ok(());
             }
-            self.find_next(state, list[place], addr, &mut list)?;
+            self.find_next(state, list[place], packet, tables, &mut list)?;
         }
         Err(AllocError)
     }
@@ -206,16 +223,19 @@ impl Found {
         &mut self,
         alloc: Global,
         state: &Stable,
-        addr: Addr,
+        packet: Packet,
+        tables: &mut Option<FilterTables>,
         router: RouterId,
     ) -> Result<(), AllocError>
-        requires { IsFoundTo state.now addr.0 self.old }
-        ensures found { OnOk result (IsFoundTo state.now addr.0 self.new) }
+        requires found { IsFoundTo state.now packet self.old }
+        requires tables { ForSome tables.old (AreFilters state.now.routers) }
+        ensures tables { ForSome tables.new (AreFilters state.now.routers) }
+        ensures found { OnOk result (IsFoundTo state.now packet self.new) }
         ensures included { OnOk result
             (IsCoveredOrNone (length state.now.routers) self.new router.0) }
     {
         let mut list = Vec::new(alloc);
         list.push(router)?;
-        self.find_all(state, addr, list)
+        self.find_all(state, packet, tables, list)
     }
 }

@@ -62,8 +62,8 @@ fn next_by_hit(state: &Stable, router: RouterId, left: Left) -> Option<(Alternat
     Some((way, Left { hits, ..left }))
 }
 
-// The next hop of a route of a prefix that is chosen at a place.
-fn bgp_hop(state: &Stable, router: RouterId, prefix: Prefix, place: u32) -> Option<Addr>
+/// The next hop of a route of a prefix that is chosen at a place.
+pub(crate) fn bgp_hop(state: &Stable, router: RouterId, prefix: Prefix, place: u32) -> Option<Addr>
     requires { router.0 < length state.now.routers }
     ensures { option_map (λ a. a.0) result
         ≡ option_map (λ x. x.route.next_hop.0) (slice_get (chosen_at state.now.bgp router.0 prefix) place) }

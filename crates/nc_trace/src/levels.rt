@@ -10,10 +10,12 @@ ghost use Rattle.nc_underlay.specs.Distances.{fewest_of, is_earlier};
 ghost use Rattle.nc_trace.specs.Asked.{found_in, IsAsked};
 ghost use Rattle.nc_trace.specs.Found.{IsFoundTo, ways_out};
 ghost use Rattle.nc_tables.specs.Reach.{owns};
-ghost use Rattle.nc_trace.specs.Levels.{AreFewest, AreMarked, AreRight, is_asked, over, passes, step};
+ghost use Rattle.nc_trace.specs.Levels.{AreFewest, AreMarked, AreRight, is_asked, over, passes_as, step};
+ghost use Rattle.nc_trace.specs.Packets.{packet_of};
 
 use crate::alternative::Outcome;
 use crate::found::Found;
+use crate::packet::By;
 use crate::ways::Ways;
 use nc_tables::Stable;
 use nc_types::{Addr, HOP_LIMIT, ROUTER_LIMIT, RouterId};
@@ -66,14 +68,14 @@ fn each_passes(ways: Ways, fewest: &[u8; ROUTER_LIMIT], hops: u8) -> bool
     some
 }
 
-/// What is asked of the routers of a state: whether a packet for an address arrives by each way, or by some. Where
+/// What is asked of the routers of a state: whether a packet for an address arrives, by each way or by some. Where
 /// ways were found before, those routers alone are asked about.
 #[derive(Clone, Copy)]
 pub(crate) struct Question<'a> {
     pub(crate) state: &'a Stable,
     pub(crate) addr: Addr,
     pub(crate) owner: Option<RouterId>,
-    pub(crate) every: bool,
+    pub(crate) by: By,
     pub(crate) found: Option<&'a Found>,
 }
 
@@ -102,11 +104,11 @@ fn ways_of<'a>(asked: Question<'a>, router: RouterId) -> Ways<'a>
     requires router { router.0 < length asked.state.now.routers }
     requires asked { IsAsked asked }
     requires this { is_asked (found_in asked) router.0 ≡ true }
-    ensures { result ≡ ways_out asked.entry.state.now asked.entry.addr.0 router.0 }
+    ensures { result ≡ ways_out asked.entry.state.now (packet_of asked.entry.by asked.entry.addr.0) router.0 }
 {
     match asked.found {
         Some(found) => Ways::kept(asked.state, router, asked.addr, found.ways(router)),
-        None => Ways::new(asked.state, router, asked.addr),
+        None => Ways::of(asked.state, router, asked.by.packet(asked.addr)),
     }
 }
 
@@ -117,14 +119,14 @@ fn passes(asked: Question, router: RouterId, fewest: &[u8; ROUTER_LIMIT], hops: 
     requires asked { IsAsked asked }
     requires this { is_asked (found_in asked) router.0 ≡ true }
     requires hops { hops ≤ HOP_LIMIT }
-    ensures { result ≡ passes asked.entry.state.now asked.entry.every asked.entry.addr.0
+    ensures { result ≡ passes_as asked.entry.state.now asked.entry.by asked.entry.addr.0
         (is_earlier fewest.now hops) router.0 }
 {
     if is_owner(asked, router) {
         return true;
     }
     let ways = ways_of(asked, router);
-    if asked.every {
+    if asked.by.is_each() {
         each_passes(ways, fewest, hops)
     } else {
         some_passes(ways, fewest, hops)
@@ -136,7 +138,7 @@ fn steps(asked: Question, router: RouterId, fewest: &[u8; ROUTER_LIMIT], hops: u
     requires router { router.0 < length asked.state.now.routers }
     requires asked { IsAsked asked }
     requires hops { hops ≤ HOP_LIMIT }
-    ensures { result ≡ step asked.entry.state.now asked.entry.every asked.entry.addr.0 (found_in asked.entry)
+    ensures { result ≡ step asked.entry.state.now asked.entry.by asked.entry.addr.0 (found_in asked.entry)
         (is_earlier fewest.now hops) router.0 }
 {
     if !is_asked(asked, router) {
@@ -151,9 +153,9 @@ fn is_new(asked: Question, router: RouterId, fewest: &[u8; ROUTER_LIMIT], hops: 
     requires few { length asked.state.now.routers ≤ ROUTER_LIMIT }
     requires asked { IsAsked asked }
     requires hops { hops ≤ HOP_LIMIT }
-    requires known { AreRight asked.state.now asked.every asked.addr.0 (found_in asked) hops fewest.now }
+    requires known { AreRight asked.state.now asked.by asked.addr.0 (found_in asked) hops fewest.now }
     ensures { result ≡ (nat_lt hops (fewest_of fewest.now router.0)
-        && over asked.entry.state.now asked.entry.every asked.entry.addr.0 (found_in asked.entry) hops router.0) }
+        && over asked.entry.state.now asked.entry.by asked.entry.addr.0 (found_in asked.entry) hops router.0) }
 {
     if fewest[router.0 as usize] <= hops {
         return false;
@@ -165,8 +167,8 @@ fn is_new(asked: Question, router: RouterId, fewest: &[u8; ROUTER_LIMIT], hops: 
 fn mark_level(asked: Question, hops: u8, fewest: &mut [u8; ROUTER_LIMIT]) -> bool
     requires asked { IsAsked asked }
     requires hops { hops ≤ HOP_LIMIT }
-    requires before { AreMarked asked.state.now asked.every asked.addr.0 (found_in asked) hops fewest.old }
-    ensures marked { AreMarked asked.entry.state.now asked.entry.every asked.entry.addr.0 (found_in asked.entry)
+    requires before { AreMarked asked.state.now asked.by asked.addr.0 (found_in asked) hops fewest.old }
+    ensures marked { AreMarked asked.entry.state.now asked.entry.by asked.entry.addr.0 (found_in asked.entry)
         (hops + 1) fewest.new }
     ensures same { result ≡ false → fewest.new ≡ fewest.old }
 {
@@ -197,14 +199,14 @@ fn owner_of(state: &Stable, addr: Addr) -> Option<RouterId>
 pub(crate) fn asked_of<'a>(
     state: &'a Stable,
     addr: Addr,
-    every: bool,
+    by: By,
     found: Option<&'a Found>,
 ) -> Question<'a>
-    requires { ForSome (option_map (λ found. found.now) found) (IsFoundTo state.now addr.0) }
+    requires { ForSome (option_map (λ found. found.now) found) (IsFoundTo state.now (packet_of by addr.0)) }
     ensures asked { IsAsked result }
     ensures state { result.state.now ≡ state.now }
     ensures addr { result.addr ≡ addr }
-    ensures every { result.every ≡ every }
+    ensures by { result.by ≡ by }
     ensures found { found_in result ≡ option_map (λ found. found.now) found.entry }
 {
     let _valid = state.network();
@@ -212,7 +214,7 @@ pub(crate) fn asked_of<'a>(
         state,
         addr,
         owner: owner_of(state, addr),
-        every,
+        by,
         found,
     }
 }
@@ -220,7 +222,7 @@ pub(crate) fn asked_of<'a>(
 /// For each router that is asked about the fewest hops over which a packet arrives.
 pub(crate) fn fewest_hops(asked: Question) -> [u8; ROUTER_LIMIT]
     requires { IsAsked asked }
-    ensures { AreFewest asked.entry.state.now asked.entry.every asked.entry.addr.0 (found_in asked.entry) result }
+    ensures { AreFewest asked.entry.state.now asked.entry.by asked.entry.addr.0 (found_in asked.entry) result }
 {
     let mut fewest = [NEVER; ROUTER_LIMIT];
     let mut hops = 0;

@@ -3,35 +3,40 @@
 ghost use Rattle.std.specs.Prelude.{◌≡◌, ◌<◌, ◌∷◌, [], IfOk, MatchOption, length, map, slice_get};
 ghost use Rattle.std.specs.Option.{option_map};
 ghost use Rattle.nc_tables.specs.Forwarding.{alternatives};
+ghost use Rattle.nc_trace.specs.Found.{ways_out};
 ghost use Rattle.nc_trace.specs.Views.{alternative_view};
 
 use crate::alternative::Alternative;
 use crate::left::{Left, first_left, next_way, nothing_left};
+use crate::packet::Packet;
+use crate::taken::taken;
 use nc_tables::Stable;
 use nc_types::{Addr, RouterId};
 use std::alloc::{AllocError, Global};
 use std::marker::Model;
 
-/// The ways out of a router for an address that are left: one after the other, in order. It takes no memory.
+/// The ways out of a router that are left for a packet: one after the other, in order. It takes no memory.
 #[derive(Drop)]
 pub struct Ways<'a> {
     // Those that were found before, and then those that are to be found.
     kept: &'a [Alternative],
     state: &'a Stable,
     router: RouterId,
-    addr: Addr,
+    packet: Packet,
     left: Left,
 }
 
 impl<'a> Model for Ways<'a> {
     ghost use Rattle.std.specs.Prelude.{List, ◌<◌, ◌++◌, length, map};
     ghost use Rattle.nc_tables.specs.Forwarding.{Alternative};
+    ghost use Rattle.nc_trace.specs.Found.{all_from};
     ghost use Rattle.nc_trace.specs.Left.{left_ways, IsLeft};
     ghost use Rattle.nc_trace.specs.Views.{alternative_view};
 
     ghost Value = { List Alternative };
 
-    ghost view = { λ w. map alternative_view w.kept.now ++ left_ways w.state.now w.router.0 w.addr.0 w.left };
+    ghost view = { λ w. map alternative_view w.kept.now
+        ++ all_from w.state.now w.packet.from w.packet.to.0 w.router.0 (left_ways w.state.now w.router.0 w.packet.to.0 w.left) };
 
     ghost invariant = { λ w. (w.router.0 < length w.state.now.routers) × IsLeft w.left };
 }
@@ -46,8 +51,25 @@ impl<'a> Ways<'a> {
             kept: &[],
             state,
             router,
-            addr,
+            packet: Packet {
+                from: None,
+                to: addr,
+            },
             left: first_left(state, router, addr),
+        }
+    }
+
+    /// All ways out of a router as a packet takes them.
+    pub(crate) fn of(state: &'a Stable, router: RouterId, packet: Packet) -> Ways<'a>
+        requires { router.0 < length state.now.routers }
+        ensures { result ≡ ways_out state.now packet router.0 }
+    {
+        Ways {
+            kept: &[],
+            state,
+            router,
+            packet,
+            left: first_left(state, router, packet.to),
         }
     }
 
@@ -65,7 +87,10 @@ impl<'a> Ways<'a> {
             kept,
             state,
             router,
-            addr,
+            packet: Packet {
+                from: None,
+                to: addr,
+            },
             left: nothing_left(addr),
         }
     }
@@ -79,9 +104,9 @@ impl<'a> Ways<'a> {
             self.kept = kept;
             return Some(*way);
         }
-        let (way, left) = next_way(self.state, self.router, self.addr, self.left)?;
+        let (way, left) = next_way(self.state, self.router, self.packet.to, self.left)?;
         self.left = left;
-        Some(way)
+        Some(taken(self.state, self.router, self.packet, way))
     }
 }
 

@@ -3,6 +3,7 @@ use Rattle.nc_types.specs.Config.{ConfigView}
 use Rattle.nc_tables.specs.Reach.{own_place}
 use Rattle.nc_fact.specs.declared.fact.Fact.{Fact}
 use Rattle.nc_fact.specs.declared.fact.Fact.TheVariants.{AllStep}
+use Rattle.nc_rules_route.specs.declared.packet.Packet.TheVariants.{ByEach}
 use Rattle.nc_rules_route.specs.Parents.{steps_of, parents}
 use Rattle.nc_rules_route.proofs.Ranges.{made_between, made_more, taken}
 use Rattle.nc_rules_route.proofs.Steps.{all_between, without_own}
@@ -26,4 +27,4 @@ returns-clause-ok c =
     let none : own_place s.routers router.0 addr.0 ≡ None = ap (λ (cs : List ConfigView). own_place cs router.0 addr.0) (sym c.network.ensures.network) ∙ sym c.in_default.ensures in
     c.ways.invariant
     ∙ ap (λ (fs : List Fact). c.args.into.now.items ++ fs)
-    (all_between s router addr true c.args.hops c.ways-count.result.now c.ways.place (c.ways-count.ensures s addr.0 c.requires.traced c.requires.included) last ∙ sym (without_own s router addr (steps_of s true router addr c.args.hops) none))
+    (all_between s router addr ByEach c.args.hops c.ways-count.result.now c.ways.place (ap (λ ws. length ws) (c.ways-count.ensures s addr.0 c.requires.traced c.requires.included)) last ∙ sym (without_own s router addr (steps_of s ByEach router addr c.args.hops) none))

@@ -12,4 +12,4 @@ returns-in-None-clause-ok c =
     let past : length ways ≤ c.args.place = c.in-None.ensures.lookup.3 in
     let behind : length (map alternative_view ways) ≤ c.args.place = omega (arith, past, length-map ways alternative_view) in
     sym (append-nil c.args.into.now.items)
-    ∙ ap (λ o. c.args.into.now.items ++ option_map_or (way_parents c.args.every c.args.router c.args.addr c.args.hops) o []) (sym (slice_get_past (map alternative_view ways) c.args.place behind))
+    ∙ ap (λ o. c.args.into.now.items ++ option_map_or (way_parents c.args.state.now c.args.trip.packet c.args.router c.args.trip.addr c.args.trip.hops) o []) (sym (slice_get_past (map alternative_view ways) c.args.place behind))

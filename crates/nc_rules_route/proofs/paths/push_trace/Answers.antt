@@ -4,6 +4,7 @@ use Rattle.nc_tables.specs.Reach.{own_place}
 use Rattle.nc_fact.specs.declared.fact.Fact.{Fact}
 use Rattle.nc_fact.specs.declared.fact.Fact.TheVariants.{Step}
 use Rattle.nc_fact.specs.Facts.{holds}
+use Rattle.nc_rules_route.specs.declared.packet.Packet.TheVariants.{BySome}
 use Rattle.nc_rules_route.specs.Parents.{steps_of, parents}
 use Rattle.nc_rules_route.proofs.Ranges.{made_between, kept_more, taken, passed_over}
 use Rattle.nc_rules_route.proofs.Steps.{all_between, without_own}
@@ -37,5 +38,5 @@ returns-clause-ok c =
     let last : c.ways.place ≡ length c.ways-count.result.now = omega (arith, c.ways-test.false, c.ways.auto.place-end) in
     let none : own_place s.routers router.0 addr.0 ≡ None = ap (λ (cs : List ConfigView). own_place cs router.0 addr.0) (sym c.network.ensures.network) ∙ sym c.in_default.ensures in
     c.ways.invariant
-    ∙ ap (λ (fs : List Fact). c.args.into.now.items ++ filter (holds s) fs) (all_between s router addr false c.args.hops c.ways-count.result.now c.ways.place (c.ways-count.ensures s addr.0 c.requires.traced c.requires.included) last)
-    ∙ ap (λ (fs : List Fact). c.args.into.now.items ++ fs) (sym (without_own s router addr (filter (holds s) (steps_of s false router addr c.args.hops)) none))
+    ∙ ap (λ (fs : List Fact). c.args.into.now.items ++ filter (holds s) fs) (all_between s router addr BySome c.args.hops c.ways-count.result.now c.ways.place (ap (λ ws. length ws) (c.ways-count.ensures s addr.0 c.requires.traced c.requires.included)) last)
+    ∙ ap (λ (fs : List Fact). c.args.into.now.items ++ fs) (sym (without_own s router addr (filter (holds s) (steps_of s BySome router addr c.args.hops)) none))

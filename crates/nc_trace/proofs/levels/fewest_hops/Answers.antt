@@ -12,7 +12,7 @@ levels-init c = record { marked = λ r. record { right = λ k lt. absurd (omega 
 pub returns-then-not-mark_level : goal.returns-then-not-mark_level
 returns-then-not-mark_level c =
     let asked = c.args.asked in
-    let reached = over asked.state.now asked.every asked.addr.0 (found_in asked) in
+    let reached = over asked.state.now asked.by asked.addr.0 (found_in asked) in
     let kept = c.mark_level.ensures.same c.if-not-mark_level.true in
-    no_more reached _ (stepped asked.state.now asked.every asked.addr.0 c.requires.none (found_in asked) c.requires.found) c.levels.hops c.mark_level.new.fewest c.levels-test.true
+    no_more reached _ (stepped asked.state.now asked.by asked.addr.0 c.requires.none (found_in asked) c.requires.found) c.levels.hops c.mark_level.new.fewest c.levels-test.true
     (λ r. subst (λ (fs : List ℕ). IsMarked reached c.levels.hops (fewest_of fs r) r) (sym kept) (c.levels.invariant.marked r)) c.mark_level.ensures.marked

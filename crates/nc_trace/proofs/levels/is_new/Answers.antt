@@ -12,9 +12,9 @@ use Rattle.nc_trace.proofs.levels.is_new.Goals as goal
 pub returns : goal.returns
 returns c =
     let asked = c.args.asked in
-    let reached = over asked.state.now asked.every asked.addr.0 (found_in asked) in
+    let reached = over asked.state.now asked.by asked.addr.0 (found_in asked) in
     let within : c.args.router.0 < length c.args.fewest.now = omega (arith, c.told-fewest, c.requires.router, c.requires.few) in
     let same = get_or_default c.args.fewest.now c.args.router.0 0 (suc HOP_LIMIT) within in
     c.steps.ensures
-    ∙ level reached _ (stepped asked.state.now asked.every asked.addr.0 c.requires.asked.none (found_in asked) c.requires.asked.found) c.args.hops c.args.fewest.now c.requires.known c.args.router.0
+    ∙ level reached _ (stepped asked.state.now asked.by asked.addr.0 c.requires.asked.none (found_in asked) c.requires.asked.found) c.args.hops c.args.fewest.now c.requires.known c.args.router.0
     ∙ ap (λ (b : Bool). b && reached c.args.hops c.args.router.0) (sym (lt-ltb c.args.hops (fewest_of c.args.fewest.now c.args.router.0) (omega (arith, same, c.if-fewest-router.false))))

@@ -14,8 +14,8 @@ use Rattle.nc_trace.proofs.levels.mark_level.Goals.{then-is_new, else-is_new}
 
 pub routers-preserved : goal.routers-preserved
 routers-preserved c =
-    let arrives = over c.args.asked.state.now c.args.asked.every c.args.asked.addr.0 (found_in c.args.asked) in
-    let steps = stepped c.args.asked.state.now c.args.asked.every c.args.asked.addr.0 c.requires.asked.none (found_in c.args.asked) c.requires.asked.found in
+    let arrives = over c.args.asked.state.now c.args.asked.by c.args.asked.addr.0 (found_in c.args.asked) in
+    let steps = stepped c.args.asked.state.now c.args.asked.by c.args.asked.addr.0 c.requires.asked.none (found_in c.args.asked) c.requires.asked.found in
     let old = c.args.fewest.now in
     let now = c.routers.fewest in
     let router = c.routers.router in
@@ -51,6 +51,6 @@ returns-clause-marked c r = elim (cases_lt r c.routers.router) [
   | inr le ↦
       let past : length c.routers-count.result.now ≤ r = omega (arith, le, c.routers-test.false) in
       let beyond = past_all c.routers-count.result.now c.network.result.now c.args.asked.state.now.routers r c.routers-count.ensures.routers c.network.ensures.network past in
-      subst (λ (n : ℕ). IsMarked (over c.args.asked.state.now c.args.asked.every c.args.asked.addr.0 (found_in c.args.asked)) (c.args.hops + 1) n r) (sym (c.routers.invariant.rest r le))
-      (still (over c.args.asked.state.now c.args.asked.every c.args.asked.addr.0 (found_in c.args.asked)) _ (stepped c.args.asked.state.now c.args.asked.every c.args.asked.addr.0 c.requires.asked.none (found_in c.args.asked) c.requires.asked.found) c.args.hops (fewest_of c.args.fewest.now r) r c.requires.hops (c.requires.before r) (not_over c.args.asked.state.now c.args.asked.every c.args.asked.addr.0 c.requires.asked.none (found_in c.args.asked) c.args.hops r beyond))
+      subst (λ (n : ℕ). IsMarked (over c.args.asked.state.now c.args.asked.by c.args.asked.addr.0 (found_in c.args.asked)) (c.args.hops + 1) n r) (sym (c.routers.invariant.rest r le))
+      (still (over c.args.asked.state.now c.args.asked.by c.args.asked.addr.0 (found_in c.args.asked)) _ (stepped c.args.asked.state.now c.args.asked.by c.args.asked.addr.0 c.requires.asked.none (found_in c.args.asked) c.requires.asked.found) c.args.hops (fewest_of c.args.fewest.now r) r c.requires.hops (c.requires.before r) (not_over c.args.asked.state.now c.args.asked.by c.args.asked.addr.0 c.requires.asked.none (found_in c.args.asked) c.args.hops r beyond))
 ]

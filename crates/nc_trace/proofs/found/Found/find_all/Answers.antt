@@ -12,9 +12,10 @@ routers-init c =
     let count = length c.args.state.now.routers in
     let found = c.args.self.now in
     record {
-      ways = c.requires.ways;
-      leads = λ router there k d lt. goes_more (IsCoveredOrNone count found) (IsCoveredOrListed count c.args.list.items found) (λ next is. inl is) (slice_index_or (ways_out c.args.state.now c.args.addr.0 router) k d).outcome
-          (leads_by c.args.state.now c.args.addr.0 found c.requires.closed router there k d lt);
+      ways = c.requires.found.ways;
+      tables = c.requires.tables;
+      leads = λ router there k d lt. goes_more (IsCoveredOrNone count found) (IsCoveredOrListed count c.args.list.items found) (λ next is. inl is) (slice_index_or (ways_out c.args.state.now c.args.packet router) k d).outcome
+          (leads_by c.args.state.now c.args.packet found c.requires.found.closed router there k d lt);
       done = λ place lt. absurd (omega (arith, lt));
       kept = λ place router e. e;
     }
@@ -26,7 +27,7 @@ returns-then-place-len-clause-found c =
     let last : length list ≤ c.routers.place = omega (arith, c.len.ensures, c.routers.list.ok.0, c.if-place-len.true) in
     record {
       ways = c.routers.invariant.ways;
-      closed = closed_by c.args.state.now c.args.addr.0 c.routers.self (closed_then c.args.state.now c.args.addr.0 count list c.routers.self (all_done count list c.routers.self c.routers.place last c.routers.invariant.done) c.routers.invariant.leads);
+      closed = closed_by c.args.state.now c.args.packet c.routers.self (closed_then c.args.state.now c.args.packet count list c.routers.self (all_done count list c.routers.self c.routers.place last c.routers.invariant.done) c.routers.invariant.leads);
     }
 
 pub returns-then-place-len-clause-listed : goal.returns-then-place-len-clause-listed
@@ -46,6 +47,7 @@ routers-preserved c =
     let at : slice_get before c.routers.place ≡ Some c.index.result.now = slice_get-get_or before c.routers.place c.index.result.now here ∙ ap Some (sym c.index.ensures) in
     record {
       ways = done.ways;
+      tables = c.find_next.ensures.tables;
       leads = done.leads;
       done = λ place lt. elim (cases_lt place c.routers.place) [
         | inl less ↦ done_still count before after c.routers.self c.find_next.new.self c.find_next.ensures.kept done.more place (c.routers.invariant.done place less)

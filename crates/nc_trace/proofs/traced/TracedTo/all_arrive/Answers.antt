@@ -1,5 +1,6 @@
-use Rattle.std.proofs.Common.{true, nat_le, ap, ◌∙◌}
+use Rattle.std.proofs.Common.{nat_le, ap, ◌∙◌}
 use Rattle.nc_underlay.specs.Distances.{fewest_of}
+use Rattle.nc_trace.specs.declared.packet.By.TheVariants.{EachWay}
 use Rattle.nc_trace.specs.Traced.{Traced}
 use Rattle.nc_trace.proofs.Tracing.{arrives_told}
 use Rattle.nc_trace.proofs.traced.TracedTo.all_arrive.Goals as goal
@@ -8,4 +9,4 @@ pub returns : goal.returns
 returns c s addr is included =
     c.is_within.ensures
     ∙ ap (λ (t : Traced). nat_le (fewest_of t.each c.args.router.0) c.args.hops) c.self.view_is
-    ∙ arrives_told s addr c.args.self.now is c.args.router.0 included true c.args.self.now.each is.each c.args.hops c.requires
+    ∙ arrives_told s EachWay addr is.none c.args.self.now.found is.found c.args.router.0 included c.args.self.now.each is.each c.args.hops c.requires

@@ -1,7 +1,9 @@
-use Rattle.std.proofs.Common.{true, false, refl, sym, ap, subst}
+use Rattle.std.proofs.Common.{refl, sym, ap, subst}
 use Rattle.nc_types.specs.declared.addr.Addr.{Addr}
 use Rattle.nc_trace.specs.Asked.{found_in}
+use Rattle.nc_trace.specs.declared.packet.By.TheVariants.{SomeWay, EachWay}
 use Rattle.nc_trace.specs.Found.{IsFoundTo}
+use Rattle.nc_trace.specs.Packets.{anywhere}
 use Rattle.nc_trace.specs.Traced.{Traced}
 use Rattle.nc_trace.proofs.Beyond.{none_there}
 use Rattle.nc_trace.proofs.Tracing.{counted}
@@ -14,8 +16,8 @@ returns-clause-traced c =
     let is = c.asked_of-asked.ensures in
     let addr = ap (λ (a : Addr). a.0) is.addr in
     record {
-      found = subst (λ (t : Traced). IsFoundTo s c.args.addr.0 t.found) (sym c.self.view_is) c.requires;
+      found = subst (λ (t : Traced). IsFoundTo s (anywhere c.args.addr.0) t.found) (sym c.self.view_is) c.requires;
       none = λ router past. none_there s c.network-state.ensures.state router past c.args.addr.0;
-      some = counted s asked.state.now false asked.every c.args.addr.0 asked.addr.0 (found_in asked) c.self.inside.found c.fewest_hops-some.result is.state is.every addr is.found c.fewest_hops-some.ensures;
-      each = counted s asked.state.now true true c.args.addr.0 asked.addr.0 (found_in asked) c.self.inside.found c.fewest_hops-each.result is.state refl addr is.found c.fewest_hops-each.ensures;
+      some = counted s asked.state.now SomeWay asked.by c.args.addr.0 asked.addr.0 (found_in asked) c.self.inside.found c.fewest_hops-some.result is.state is.by addr is.found c.fewest_hops-some.ensures;
+      each = counted s asked.state.now EachWay EachWay c.args.addr.0 asked.addr.0 (found_in asked) c.self.inside.found c.fewest_hops-each.result is.state refl addr is.found c.fewest_hops-each.ensures;
     }

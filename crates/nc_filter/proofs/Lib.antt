@@ -1,0 +1,3 @@
+pub mod Wildcards
+pub mod Chaining
+pub mod Saying

@@ -1,0 +1,7 @@
+use Rattle.std.proofs.Common.{◌∙◌}
+use Rattle.nc_trace.specs.declared.packet.By.TheVariants.{Filtered}
+use Rattle.nc_trace.proofs.Tracing.{ways_told}
+use Rattle.nc_trace.proofs.flow.FlowTo.ways.Goals as goal
+
+pub returns : goal.returns
+returns c s from to is included = c.ways.ensures ∙ ways_told s (Filtered (record { 0 = from })) to is.none c.args.self.now.found is.found c.args.router.0 included
