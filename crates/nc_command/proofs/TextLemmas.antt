@@ -16,14 +16,14 @@ use Rattle.nc_types.specs.Cidr.{Cidr}
 use Rattle.nc_types.specs.Masks.{network_of}
 use Rattle.nc_types.specs.declared.addr.Addr.{Addr}
 use Rattle.nc_types.specs.declared.command.TestCommand.{TestCommand}
-use Rattle.nc_types.specs.declared.command.TestCommand.TheVariants.{Rib, Bgp, Session, Reach, Every, Element}
+use Rattle.nc_types.specs.declared.command.TestCommand.TheVariants.{Rib, Bgp, Session, Reach, Every, Flow, Element}
 use Rattle.nc_lines.specs.Lines.{words_of}
 use Rattle.nc_lines.specs.Numbers.{is_digit, value_after, is_plain, number_of, address_of, address_of_parts, prefix_of, prefix_of_parts}
 use Rattle.nc_lines.proofs.NumberLemmas.{value_after-ge}
 use Rattle.nc_command.specs.declared.command.Command.{Command}
 use Rattle.nc_command.specs.declared.command.Command.TheVariants.{Test, Forget, Implies, Cut, Lcov, Json, Suite, Dead, Quit}
 use Rattle.nc_types.specs.Dotted.{dotted}
-use Rattle.nc_command.specs.Command.{most_number, Passed, TooLong, Unread, Asks, begins_note, addr_of, address_behind, prefix_test_of, address_test_of, line_test_of, test_of, alone, show_by, forget_by, implies_by, kept_by, cut_by, command_by, asked_by, command_of, cidr_text, spaced, prefix_text, address_text, line_text, text_of}
+use Rattle.nc_command.specs.Command.{most_number, Passed, TooLong, Unread, Asks, begins_note, addr_of, address_behind, prefix_test_of, address_test_of, flow_test_of, line_test_of, test_of, alone, show_by, forget_by, implies_by, kept_by, cut_by, command_by, asked_by, command_of, cidr_text, spaced, prefix_text, address_text, line_text, text_of}
 
 -- ---- numbers
 
@@ -131,6 +131,11 @@ address-text : (word : List ℕ) (n : ℕ) → address_of word ≡ Some n → do
 unfolding address_of
 address-text word n at = address-parts (slice_split (λ b. b == 46) word) n at ∙ join_with_byte-slice_split 46 word
 
+addr-text : (word : List ℕ) (addr : Addr) → addr_of word ≡ Some addr → dotted addr.0 ≡ word
+addr-text word addr at =
+    let made = map_some (λ (a : ℕ). let r : Addr = record { 0 = a } in r) (address_of word) addr at in
+    ap (λ (a : Addr). dotted a.0) (sym made.2) ∙ address-text word made.0 made.1
+
 prefix-parts : (parts : List (List ℕ)) (p : Cidr) → prefix_of_parts parts ≡ Some p → cidr_text p ≡ join_with_byte 47 parts
 prefix-parts [] p at = absurd (cc)
 prefix-parts (a ∷ []) p at = absurd (cc)
@@ -167,11 +172,9 @@ behind-text command name p key (word ∷ address ∷ []) via at = by_key (bytes_
     by_key false test is = absurd (cc)
     by_key true test is =
         let some = map_some Some (addr_of address) via is in
-        let addr = map_some (λ (a : ℕ). let r : Addr = record { 0 = a } in r) (address_of address) some.0 some.1 in
         let same : key ≡ word = sym ((bytes_eq-Decides word key).0 test) in
         ap (prefix_text command name p key) (sym some.2)
-        ∙ ap (λ (a : Addr). spaced (command ∷ name ∷ cidr_text p ∷ key ∷ dotted a.0 ∷ [])) (sym addr.2)
-        ∙ ap (λ w. spaced (command ∷ name ∷ cidr_text p ∷ key ∷ w ∷ [])) (address-text address addr.0 addr.1)
+        ∙ ap (λ w. spaced (command ∷ name ∷ cidr_text p ∷ key ∷ w ∷ [])) (addr-text address some.0 some.1)
         ∙ ap (λ w. spaced (command ∷ name ∷ cidr_text p ∷ w ∷ address ∷ [])) same
 
 prefix-test-text : (command key : List ℕ) (make : List ℕ → Cidr → Option Addr → TestCommand) → ((name : List ℕ) (p : Cidr) (addr : Option Addr) → text_of (make name p addr) ≡ prefix_text command name p key addr) → (words : List (List ℕ)) (test : TestCommand)
@@ -194,9 +197,20 @@ address-test-text command make texts (name ∷ []) test at = absurd (cc)
 address-test-text command make texts (name ∷ word ∷ more ∷ words) test at = absurd (cc)
 address-test-text command make texts (name ∷ word ∷ []) test at =
     let made = map_some (make name) (addr_of word) test at in
-    let addr = map_some (λ (a : ℕ). let r : Addr = record { 0 = a } in r) (address_of word) made.0 made.1 in
-    ap text_of (sym made.2) ∙ texts name made.0 ∙ ap (address_text command name) (sym addr.2)
-    ∙ ap (λ w. spaced (command ∷ name ∷ w ∷ [])) (address-text word addr.0 addr.1)
+    ap text_of (sym made.2) ∙ texts name made.0 ∙ ap (λ w. spaced (command ∷ name ∷ w ∷ [])) (addr-text word made.0 made.1)
+
+-- a name and two addresses behind a command
+flow-test-text : (words : List (List ℕ)) (test : TestCommand) → flow_test_of words ≡ Some test → text_of test ≡ spaced (codes "flow" ∷ words)
+flow-test-text [] test at = absurd (cc)
+flow-test-text (name ∷ []) test at = absurd (cc)
+flow-test-text (name ∷ source ∷ []) test at = absurd (cc)
+flow-test-text (name ∷ source ∷ target ∷ more ∷ words) test at = absurd (cc)
+flow-test-text (name ∷ source ∷ target ∷ []) test at =
+    option_and_then_some _ (addr_of source) test at (λ from is-from in-from.
+    let made = map_some (Flow name from) (addr_of target) test in-from in
+    ap text_of (sym made.2)
+    ∙ ap (λ w. spaced (codes "flow" ∷ name ∷ w ∷ dotted made.0.0 ∷ [])) (addr-text source from is-from)
+    ∙ ap (λ w. spaced (codes "flow" ∷ name ∷ source ∷ w ∷ [])) (addr-text target made.0 made.1))
 
 -- a name and a line's number behind a command
 line-test-text : (command : List ℕ) (make : List ℕ → ℕ → TestCommand) → ((name : List ℕ) (n : ℕ) → text_of (make name n) ≡ line_text command name n) → (words : List (List ℕ)) (test : TestCommand) → line_test_of make words ≡ Some test
@@ -218,8 +232,11 @@ module _ (word : List ℕ) (words : List (List ℕ)) where
   abbrev element_test : Option TestCommand
   element_test = cond (bytes_eq word (codes "element")) (line_test_of Element words) None
 
+  abbrev flow_test : Option TestCommand
+  flow_test = cond (bytes_eq word (codes "flow")) (flow_test_of words) element_test
+
   abbrev every_test : Option TestCommand
-  every_test = cond (bytes_eq word (codes "every")) (address_test_of Every words) element_test
+  every_test = cond (bytes_eq word (codes "every")) (address_test_of Every words) flow_test
 
   abbrev reach_test : Option TestCommand
   reach_test = cond (bytes_eq word (codes "reach")) (address_test_of Reach words) every_test
@@ -259,8 +276,12 @@ module _ (word : List ℕ) (words : List (List ℕ)) where
     by_element false same is = absurd (cc)
     by_element true same is = line-test-text (codes "element") Element (λ name n. refl) words test is ∙ first-word word (codes "element") words same
 
-    by_every : (b : Bool) → bytes_eq word (codes "every") ≡ b → cond b (address_test_of Every words) element_test ≡ Some test → text_of test ≡ spaced (word ∷ words)
-    by_every false same is = by_element (bytes_eq word (codes "element")) refl is
+    by_flow : (b : Bool) → bytes_eq word (codes "flow") ≡ b → cond b (flow_test_of words) element_test ≡ Some test → text_of test ≡ spaced (word ∷ words)
+    by_flow false same is = by_element (bytes_eq word (codes "element")) refl is
+    by_flow true same is = flow-test-text words test is ∙ first-word word (codes "flow") words same
+
+    by_every : (b : Bool) → bytes_eq word (codes "every") ≡ b → cond b (address_test_of Every words) flow_test ≡ Some test → text_of test ≡ spaced (word ∷ words)
+    by_every false same is = by_flow (bytes_eq word (codes "flow")) refl is
     by_every true same is = address-test-text (codes "every") Every (λ name a. refl) words test is ∙ first-word word (codes "every") words same
 
     by_reach : (b : Bool) → bytes_eq word (codes "reach") ≡ b → cond b (address_test_of Reach words) every_test ≡ Some test → text_of test ≡ spaced (word ∷ words)

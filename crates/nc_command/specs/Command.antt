@@ -8,7 +8,7 @@ use Rattle.nc_types.specs.Cidr.{Cidr}
 use Rattle.nc_types.specs.Dotted.{dotted}
 use Rattle.nc_types.specs.declared.addr.Addr.{Addr}
 use Rattle.nc_types.specs.declared.command.TestCommand.{TestCommand}
-use Rattle.nc_types.specs.declared.command.TestCommand.TheVariants.{Rib, Bgp, Session, Reach, Every, Element}
+use Rattle.nc_types.specs.declared.command.TestCommand.TheVariants.{Rib, Bgp, Session, Reach, Every, Flow, Element}
 use Rattle.nc_lines.specs.Lines.{words_of}
 use Rattle.nc_lines.specs.Numbers.{number_of, address_of, prefix_of}
 use Rattle.nc_command.specs.declared.command.Command.{Command}
@@ -61,6 +61,11 @@ abbrev pub address_test_of : (List ℕ → Addr → TestCommand) → List (List 
 address_test_of make (name ∷ address ∷ []) = option_map (make name) (addr_of address)
 address_test_of make words = None
 
+-- the test that the words behind a command for a flow make: a name, where the packet comes from, where it goes, and nothing more
+abbrev pub flow_test_of : List (List ℕ) → Option TestCommand
+flow_test_of (name ∷ source ∷ target ∷ []) = option_and_then (λ from. option_map (Flow name from) (addr_of target)) (addr_of source)
+flow_test_of words = None
+
 -- the test that the words behind a command for a line make: a name, the line's number, and nothing more
 abbrev pub line_test_of : (List ℕ → ℕ → TestCommand) → List (List ℕ) → Option TestCommand
 line_test_of make (name ∷ line ∷ []) = option_map (make name) (number_of most_number line)
@@ -74,8 +79,9 @@ test_of word words =
     else (if bytes_eq word (codes "session") then address_test_of Session words
     else (if bytes_eq word (codes "reach") then address_test_of Reach words
     else (if bytes_eq word (codes "every") then address_test_of Every words
+    else (if bytes_eq word (codes "flow") then flow_test_of words
     else (if bytes_eq word (codes "element") then line_test_of Element words
-    else None)))))
+    else None))))))
 
 -- a command that is one word, and nothing behind it
 abbrev pub alone : Command → List (List ℕ) → Option Command
@@ -158,6 +164,10 @@ prefix_text command name p key (Some addr) = spaced (command ∷ name ∷ cidr_t
 abbrev pub address_text : List ℕ → List ℕ → Addr → List ℕ
 address_text command name addr = spaced (command ∷ name ∷ dotted addr.0 ∷ [])
 
+-- a command for a flow, from an address to another
+abbrev pub flow_text : List ℕ → Addr → Addr → List ℕ
+flow_text name source target = spaced (codes "flow" ∷ name ∷ dotted source.0 ∷ dotted target.0 ∷ [])
+
 -- a command for a line
 abbrev pub line_text : List ℕ → List ℕ → ℕ → List ℕ
 line_text command name line = spaced (command ∷ name ∷ decimal line ∷ [])
@@ -169,4 +179,5 @@ text_of (Bgp name p sender) = prefix_text (codes "bgp") name p (codes "from") se
 text_of (Session name addr) = address_text (codes "session") name addr
 text_of (Reach name addr) = address_text (codes "reach") name addr
 text_of (Every name addr) = address_text (codes "every") name addr
+text_of (Flow name source target) = flow_text name source target
 text_of (Element name line) = line_text (codes "element") name line

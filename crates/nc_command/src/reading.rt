@@ -4,7 +4,7 @@ ghost use Rattle.std.specs.Prelude.{◌≡◌, ℕ, ◌∷◌, List, Option, Som
 ghost use Rattle.std.specs.Option.{option_map};
 ghost use Rattle.nc_lines.specs.Lines.{words_of};
 ghost use Rattle.nc_command.specs.Command.{address_behind, prefix_test_of, address_test_of};
-ghost use Rattle.nc_command.specs.Command.{line_test_of, test_of, alone, show_by, forget_by, implies_by, kept_by, cut_by, command_by, command_of, IsRead};
+ghost use Rattle.nc_command.specs.Command.{flow_test_of, line_test_of, test_of, alone, show_by, forget_by, implies_by, kept_by, cut_by, command_by, command_of, IsRead};
 ghost use Rattle.nc_types.specs.Cidr.{Cidr};
 ghost use Rattle.nc_types.specs.declared.addr.Addr.{Addr};
 ghost use Rattle.nc_types.specs.declared.command.TestCommand.{TestCommand};
@@ -121,6 +121,33 @@ fn read_every(alloc: Global, rest: &[u8]) -> Result<Option<TestCommand>, AllocEr
     Ok(Some(TestCommand::Every(name, addr)))
 }
 
+// The name and the two addresses behind a command for a flow; None where another thing stands there.
+fn read_ends(rest: &[u8]) -> Option<(&[u8], Addr, Addr)>
+    ensures { option_map (λ ends. command.Flow ends.0.now ends.1 ends.2) result
+        ≡ flow_test_of (words_of rest.now) }
+{
+    let (name, rest) = cut_word(rest)?;
+    let (source, rest) = cut_word(rest)?;
+    let (target, behind) = cut_word(rest)?;
+    if cut_word(behind).is_some() {
+        return None;
+    }
+    let source = read_address(source)?;
+    let target = read_address(target)?;
+    Some((name, source, target))
+}
+
+// The test that the words behind `flow` make, if they make one.
+fn read_flow(alloc: Global, rest: &[u8]) -> Result<Option<TestCommand>, AllocError>
+    ensures { IfOk result (λ test. test ≡ flow_test_of (words_of rest.now)) }
+{
+    let Some((name, source, target)) = read_ends(rest) else {
+        return Ok(None);
+    };
+    let name = Text::new(alloc, name)?;
+    Ok(Some(TestCommand::Flow(name, source, target)))
+}
+
 // The name and the number behind a command for a line; None where another thing stands there.
 fn read_numbered(rest: &[u8]) -> Option<(&[u8], u32)>
     ensures { (make : List ℕ → ℕ → TestCommand)
@@ -165,6 +192,9 @@ fn read_test(alloc: Global, word: &[u8], rest: &[u8]) -> Result<Option<TestComma
     }
     if word == b"every".as_slice() {
         return read_every(alloc, rest);
+    }
+    if word == b"flow".as_slice() {
+        return read_flow(alloc, rest);
     }
     if word == b"element".as_slice() {
         return read_element(alloc, rest);

@@ -3,7 +3,7 @@
 ghost use Rattle.std.specs.Prelude.{◌≡◌, ◌++◌, ◌∷◌, IfOk, OnOk, string_bytes};
 ghost use Rattle.std.specs.Fmt.{decimal};
 ghost use Rattle.nc_types.specs.Dotted.{dotted};
-ghost use Rattle.nc_command.specs.Command.{cidr_text, prefix_text, address_text, line_text, text_of};
+ghost use Rattle.nc_command.specs.Command.{cidr_text, prefix_text, address_text, flow_text, line_text, text_of};
 
 use nc_types::{Addr, Prefix, TestCommand, Text};
 use std::alloc::{AllocError, Global};
@@ -85,6 +85,16 @@ fn address_test(
     Ok(text)
 }
 
+// The text of a test for a flow.
+fn flow_test(alloc: Global, name: &Text, source: Addr, target: Addr) -> Result<Vec<u8>, AllocError>
+    ensures { IfOk result (λ text. text.items ≡ flow_text name.now source target) }
+{
+    let mut text = start(alloc, b"flow", name)?;
+    push_address(alloc, &mut text, source)?;
+    push_address(alloc, &mut text, target)?;
+    Ok(text)
+}
+
 // The text of a test for a line.
 fn line_test(alloc: Global, command: &[u8], name: &Text, line: u32) -> Result<Vec<u8>, AllocError>
     ensures { IfOk result (λ text. text.items ≡ line_text command.now name.now line) }
@@ -113,6 +123,7 @@ pub fn test_text(alloc: Global, test: &TestCommand) -> Result<Vec<u8>, AllocErro
         TestCommand::Session(name, addr) => address_test(alloc, b"session", name, *addr),
         TestCommand::Reach(name, addr) => address_test(alloc, b"reach", name, *addr),
         TestCommand::Every(name, addr) => address_test(alloc, b"every", name, *addr),
+        TestCommand::Flow(name, source, target) => flow_test(alloc, name, *source, *target),
         TestCommand::Element(name, line) => line_test(alloc, b"element", name, *line),
     }
 }

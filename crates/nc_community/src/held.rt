@@ -1,6 +1,6 @@
 //! The communities of a route on its way, told without a set of them.
 
-ghost use Rattle.std.specs.Prelude.{◌≡◌, ◌≤◌, ◌||◌, [], is_some, length, IfOk};
+ghost use Rattle.std.specs.Prelude.{◌≡◌, ◌≤◌, ℕ, ◌||◌, [], is_some, length, IfOk};
 ghost use Rattle.std.specs.List.Sorted.{IsStrictlyIncreasing};
 ghost use Rattle.nc_types.specs.Communities as sets;
 ghost use Rattle.nc_types.specs.Communities.{put_all, union, limited, IsSmallSet};
@@ -113,6 +113,14 @@ impl<'a> Held<'a> {
             };
         }
         Held::of(&set.values)
+    }
+
+    /// The numbers of all of them, in two lists that each ascend: a community that is in both is one.
+    pub fn parts(&self) -> (&'a [u32], &'a [u32])
+        ensures { (n : ℕ) → sets.has n self.now
+            ≡ (sets.has n result.0.now || sets.has n result.1.now) }
+    {
+        (self.numbers, self.added)
     }
 
     /// Whether a community is among them.

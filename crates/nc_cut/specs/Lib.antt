@@ -1,2 +1,4 @@
 pub mod Cuts
+pub mod Known
+pub mod Pages
 pub mod Sizes

@@ -1,12 +1,13 @@
 // The least cut, by a walk from the top down.
 
-ghost use Rattle.std.specs.Prelude.{◌≡◌, ℕ, nat_eq, IfOk, MatchOption};
-ghost use Rattle.std.specs.HashMap.{get};
+ghost use Rattle.std.specs.Prelude.{◌≡◌, ℕ, IfOk, MatchOption};
 ghost use Rattle.nc_diagram.specs.Diagrams.{Belongs, meaning};
 ghost use Rattle.nc_cut.specs.Cuts.{IsLeastCut, HasNoCut};
+ghost use Rattle.nc_cut.specs.Known.{known_in};
 ghost use Rattle.nc_cut.specs.Sizes.{AreSizes};
 
-use crate::sizes::{Sizes, begins, is_free, size_at, sizes_from};
+use crate::pages::Sizes;
+use crate::sizes::{begins, is_free, size_at, sizes_from};
 use nc_diagram::{Ref, Store};
 use std::alloc::{AllocError, Global};
 
@@ -20,8 +21,8 @@ fn walk(
     sizes: &Sizes,
 ) -> Result<Vec<u32>, AllocError>
     requires belongs { Belongs store.now.nodes r }
-    requires sizes { AreSizes store.now.nodes free.now (get nat_eq sizes.now) }
-    requires some { (size : ℕ) × (get nat_eq sizes.now r ≡ Some (Some size)) }
+    requires sizes { AreSizes store.now.nodes free.now (known_in sizes.now) }
+    requires some { (size : ℕ) × (known_in sizes.now r ≡ Some (Some size)) }
     ensures { IfOk result (λ cut. IsLeastCut (meaning store.now.nodes r) free.now cut.items) }
 {
     let mut cut = Vec::new(alloc);
@@ -42,7 +43,8 @@ fn walk(
 /// The least cut of a function, ascending: the fewest variables of those that are free (a variable
 /// past the slice is not) such that the function is false at the set of all the others; of cuts with
 /// as few the first, the lists compared place by place. None just where no cut exists. It takes time
-/// and memory for the nodes that are reached from the reference.
+/// and memory for the nodes that are reached from the reference, no more than a page of 256 places for
+/// each, and for a number for each 256 places up to it.
 pub fn least_cut(
     alloc: Global,
     store: &Store,

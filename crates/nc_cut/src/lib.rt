@@ -5,12 +5,15 @@
 //! The contracts promise that what `least_cut` answers is a cut, that no cut has fewer variables, that
 //! of those with as few it is the first, the ascending lists compared place by place, and that none
 //! comes just where there is no cut. A diagram is walked once for the sizes of the least cuts of its
-//! nodes, the ends before the node, and once from the top down for the cut. Both take time and memory
-//! for the nodes that are reached alone, whatever else the store holds.
+//! nodes, the ends before the node, and once from the top down for the cut. The sizes stand by place in
+//! pages of 256, which are made as their places are reached. So both take time and memory for the nodes
+//! that are reached, no more than a page for each, and for a number that tells where a page starts for
+//! each 256 places up to the reference, whatever else the store holds.
 #![tactic(auto)]
 
 mod cut;
 mod laws;
+mod pages;
 mod sizes;
 
 pub use cut::least_cut;

@@ -1,17 +1,14 @@
 // How many variables the least cut of a reference has, for each reference that is reached from one.
 
-ghost use Rattle.std.specs.Prelude.{◌≡◌, ◌<◌, ◌-◌, ◌^◌, nat_eq, IfOk, IfSome};
-ghost use Rattle.std.specs.HashMap.{get};
+ghost use Rattle.std.specs.Prelude.{◌≡◌, ◌<◌, ◌-◌, ◌^◌, IfOk, IfSome};
 ghost use Rattle.nc_diagram.specs.Diagrams.{Belongs};
 ghost use Rattle.nc_cut.specs.Cuts.{is_free};
+ghost use Rattle.nc_cut.specs.Known.{known_in};
 ghost use Rattle.nc_cut.specs.Sizes.{AreSizes, IsKnown, Looks, begins, entry, joined};
 
+use crate::pages::Sizes;
 use nc_diagram::{Ref, Store};
 use std::alloc::{AllocError, Global};
-use std::collections::HashMap;
-
-/// By the place of a reference, how many variables its least cut has; None where it has no cut.
-pub(crate) type Sizes = HashMap<u32, Option<u32>>;
 
 /// What is seen of a reference: an end whose size has to be known before, or its own size.
 #[derive(Clone, Copy)]
@@ -54,31 +51,28 @@ fn joined(free: bool, low: Option<u32>, high: Option<u32>) -> Option<u32>
 // The size of a reference, where it is known.
 pub(crate) fn size_at(store: &Store, r: Ref, sizes: &Sizes) -> Option<u32>
     requires { Belongs store.now.nodes r }
-    ensures { result ≡ entry (get nat_eq sizes.now) r }
+    ensures { result ≡ entry (known_in sizes.now) r }
 {
-    match sizes.get(&store.place(r)) {
-        Some(size) => *size,
-        None => None,
-    }
+    sizes.get(store.place(r)).unwrap_or(None)
 }
 
 // Looks at a reference: at the size of the one end and of the other, and by both at its own.
 fn look(store: &Store, r: Ref, free: &[bool], sizes: &Sizes) -> Sight
     requires belongs { Belongs store.now.nodes r }
-    requires sizes { AreSizes store.now.nodes free.now (get nat_eq sizes.now) }
-    ensures { Looks store.now.nodes free.now (get nat_eq sizes.now) r result }
+    requires sizes { AreSizes store.now.nodes free.now (known_in sizes.now) }
+    ensures { Looks store.now.nodes free.now (known_in sizes.now) r result }
 {
     let place = store.place(r);
     let Some(parts) = store.split(r) else {
         return Sight::Sized((place == 0).then_some(0));
     };
-    let Some(low) = sizes.get(&store.place(parts.low)) else {
+    let Some(low) = sizes.get(store.place(parts.low)) else {
         return Sight::Waits(parts.low);
     };
-    let Some(high) = sizes.get(&store.place(parts.high)) else {
+    let Some(high) = sizes.get(store.place(parts.high)) else {
         return Sight::Waits(parts.high);
     };
-    Sight::Sized(joined(is_free(free, parts.variable), *low, *high))
+    Sight::Sized(joined(is_free(free, parts.variable), low, high))
 }
 
 // The sizes of a reference and of all that are reached from it. Each is looked at as often as it
@@ -90,10 +84,11 @@ pub(crate) fn sizes_from(
     free: &[bool],
 ) -> Result<Sizes, AllocError>
     requires { Belongs store.now.nodes r }
-    ensures sizes { IfOk result (λ sizes. AreSizes store.now.nodes free.now (get nat_eq sizes)) }
-    ensures known { IfOk result (λ sizes. IsKnown (get nat_eq sizes) r) }
+    ensures sizes { IfOk result (λ sizes. AreSizes store.now.nodes free.now (known_in sizes)) }
+    ensures known { IfOk result (λ sizes. IsKnown (known_in sizes) r) }
 {
-    let mut sizes = HashMap::new(alloc);
+    let last = store.place(r);
+    let mut sizes = Sizes::new(alloc, last)?;
     let mut waiting = Vec::new(alloc);
     let mut at = r;
     'walk: loop {

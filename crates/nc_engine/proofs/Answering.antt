@@ -4,17 +4,16 @@ use Rattle.std.proofs.lemmas.Bool.{lt-ltb}
 use Rattle.std.proofs.lemmas.List.{length-map}
 use Rattle.std.specs.List.{filter}
 use Rattle.std.specs.Option.{option_map, option_map_or}
-use Rattle.nc_types.specs.declared.TheConstants.{HOP_LIMIT}
 use Rattle.nc_types.specs.Network.{router_named, owner_at}
 use Rattle.nc_types.specs.declared.command.TestCommand.{TestCommand}
-use Rattle.nc_types.specs.declared.command.TestCommand.TheVariants.{Rib, Bgp, Session, Reach, Every, Element}
+use Rattle.nc_types.specs.declared.command.TestCommand.TheVariants.{Rib, Bgp, Session, Reach, Every, Flow, Element}
 use Rattle.nc_graph.specs.Closure.{IsClosure}
 use Rattle.nc_graph.specs.Flow.{raised}
 use Rattle.nc_tables.specs.State.{StateView}
 use Rattle.nc_fact.specs.declared.fact.Fact.{Fact}
 use Rattle.nc_fact.specs.declared.fact.Fact.TheVariants as fact
 use Rattle.nc_fact.specs.Facts.{holds}
-use Rattle.nc_fact.specs.Tested.{tested_facts, asked_rows, asked_of_bgp, asked_session, asked_element}
+use Rattle.nc_fact.specs.Tested.{tested_facts, asked_element}
 use Rattle.nc_rules.specs.Rules.{flow_of}
 use Rattle.nc_rules.specs.Seen.{state_of, asked_of}
 use Rattle.nc_command.specs.declared.command.Command.TheVariants.{Test}
@@ -91,14 +90,19 @@ none-asked s tests test none = ap (λ (fs : List Fact). if nat_lt (length tests)
     never true = refl
     never false = refl
 
+-- what is named of a router that isn't there is nothing
+none-of : (s : StateView) (named : ℕ → List Fact) (router : Option ℕ) → router ≡ None → filter (holds s) (option_map_or named router []) ≡ []
+none-of s named router none = ap (λ (r : Option ℕ). filter (holds s) (option_map_or named r [])) none
+
 pub none-named : (s : StateView) (test : TestCommand) → router_named s.routers (router_of test) ≡ None → tested_facts s test ≡ []
 unfolding tested_facts
-none-named s (Rib name prefix via) none = ap (λ (r : Option ℕ). filter (holds s) (option_map_or (λ router. asked_rows s router prefix via) r [])) none
-none-named s (Bgp name prefix from) none = ap (λ (r : Option ℕ). filter (holds s) (option_map_or (λ router. asked_of_bgp s router prefix from) r [])) none
-none-named s (Session name addr) none = ap (λ (r : Option ℕ). filter (holds s) (option_map_or (λ router. asked_session s router addr) r [])) none
-none-named s (Reach name addr) none = ap (λ (r : Option ℕ). filter (holds s) (option_map_or (λ router. fact.Trace (record { 0 = router }) addr HOP_LIMIT ∷ []) r [])) none
-none-named s (Every name addr) none = ap (λ (r : Option ℕ). filter (holds s) (option_map_or (λ router. fact.AllTrace (record { 0 = router }) addr HOP_LIMIT ∷ []) r [])) none
-none-named s (Element name line) none = ap (λ (r : Option ℕ). filter (holds s) (option_map_or (λ router. asked_element s router line) r [])) none
+none-named s (Rib name prefix via) none = none-of s _ (router_named s.routers name) none
+none-named s (Bgp name prefix from) none = none-of s _ (router_named s.routers name) none
+none-named s (Session name addr) none = none-of s _ (router_named s.routers name) none
+none-named s (Reach name addr) none = none-of s _ (router_named s.routers name) none
+none-named s (Every name addr) none = none-of s _ (router_named s.routers name) none
+none-named s (Flow name from to) none = none-of s _ (router_named s.routers name) none
+none-named s (Element name line) none = none-of s _ (router_named s.routers name) none
 
 -- no router is found
 pub unnamed : {R : Type 0} (number : R → ℕ) (found : Option R) (router : Option ℕ) → is_some found ≡ false → option_map number found ≡ router → router ≡ None
@@ -118,6 +122,7 @@ none-lined s router (Bgp name prefix from) at none = absurd (cc)
 none-lined s router (Session name addr) at none = absurd (cc)
 none-lined s router (Reach name addr) at none = absurd (cc)
 none-lined s router (Every name addr) at none = absurd (cc)
+none-lined s router (Flow name from to) at none = absurd (cc)
 none-lined s router (Element name line) at none =
     ap (λ (r : Option ℕ). filter (holds s) (option_map_or (λ router. asked_element s router line) r [])) at
     ∙ ap (λ (o : Option ℕ). filter (holds s) (option_map_or (λ element. fact.Element (record { 0 = element }) ∷ []) o [])) (no_owner (owner_at s.routers router line) none)

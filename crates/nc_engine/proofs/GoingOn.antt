@@ -1,12 +1,10 @@
 -- A session can always go on: while the facts of all tests hold, there is a reply to every line.
-use Rattle.std.proofs.Common.{◌≡◌, ◌↔◌, ◌⊎◌, ℕ, zero, suc, ◌+◌, ◌<◌, Bool, true, false, cond, nat_lt, List, [], ◌∷◌, ◌++◌, length, map, filter, All, Any, Contains, Option, Some, None, refl, sym, ap, ◌∙◌, subst, inl, inr, append-nil, arith}
+use Rattle.std.proofs.Common.{◌≡◌, ◌↔◌, ◌⊎◌, ℕ, zero, suc, ◌+◌, ◌<◌, Bool, true, false, cond, nat_lt, List, [], ◌∷◌, ◌++◌, length, map, filter, All, Contains, Option, Some, None, refl, sym, ap, ◌∙◌, subst, inl, inr, append-nil, arith}
 use Rattle.std.specs.Prelude.{slice_get, slice_index_or, codes}
-use Rattle.std.specs.List.{list_any}
 use Rattle.std.proofs.Math.Seq.{take-append_seam, drop-append_seam}
-use Rattle.std.proofs.lemmas.Bool.{cases_lt, both_ways}
+use Rattle.std.proofs.lemmas.Bool.{cases_lt}
 use Rattle.std.proofs.lemmas.Grind.{flat_map-append}
 use Rattle.std.proofs.lemmas.List.Elements.{All-nil, All-cons, All-append, All-take, All-drop}
-use Rattle.std.proofs.lemmas.List.Folds.{Any-from_list_any, list_any-from_Any}
 use Rattle.nc_types.specs.Config.{ConfigView}
 use Rattle.nc_types.proofs.Members.{all_by_in, contains_by_in, in_by_filter}
 use Rattle.nc_types.specs.Network.{element_count, owner_at, router_named}
@@ -33,7 +31,7 @@ use Rattle.nc_engine.proofs.Bounded.{carrying_low}
 use Rattle.nc_engine.proofs.Fewer.{asked-fewer}
 use Rattle.nc_marks.specs.Marks.{IsMark}
 use Rattle.nc_marks.specs.declared.mark.Mark.{Mark}
-use Rattle.nc_marks.specs.declared.mark.Mark.TheVariants.{Strong, Weak, Uncovered, Outside}
+use Rattle.nc_marks.specs.declared.mark.Mark.TheVariants.{Outside}
 use Rattle.nc_fact.specs.declared.fact.Fact.{Fact}
 use Rattle.nc_fact.specs.Facts.{holds}
 use Rattle.nc_fact.specs.Roots.{IsRoot, roots}

@@ -68,4 +68,4 @@ pub named-within : (routers : List ConfigView) (name : List ℕ) (router : ℕ) 
 named-within routers name router at = (position-Some (λ c. bytes_eq name c.name) routers router no_router at).0
   where
     no_router : ConfigView
-    no_router = record { name = []; name_line = 0; line_count = 0; elements = []; interfaces = []; statics = []; process = None; clauses = []; lists = []; community_lists = [] }
+    no_router = record { name = []; name_line = 0; line_count = 0; elements = []; interfaces = []; statics = []; process = None; clauses = []; lists = []; community_lists = []; filters = []; groups = [] }

@@ -4,7 +4,7 @@ use Rattle.std.specs.Fmt.{decimal}
 use Rattle.std.specs.List.{flat_map}
 use Rattle.nc_types.specs.Network.{router_named, owner_at}
 use Rattle.nc_types.specs.declared.command.TestCommand.{TestCommand}
-use Rattle.nc_types.specs.declared.command.TestCommand.TheVariants.{Rib, Bgp, Session, Reach, Every, Element}
+use Rattle.nc_types.specs.declared.command.TestCommand.TheVariants.{Rib, Bgp, Session, Reach, Every, Flow, Element}
 use Rattle.nc_graph.specs.Closure.{IsClosure, ReachesMoreThan}
 use Rattle.nc_tables.specs.State.{StateView}
 use Rattle.nc_fact.specs.declared.fact.Fact.{Fact}
@@ -30,6 +30,7 @@ router_of (Bgp name prefix from) = name
 router_of (Session name addr) = name
 router_of (Reach name addr) = name
 router_of (Every name addr) = name
+router_of (Flow name from to) = name
 router_of (Element name line) = name
 
 -- a test that was accepted: the facts that it tests, and whether it is live, so that its marks count

@@ -1,6 +1,7 @@
-//! Dead elements: those that no test of a route, of an accepted route or of a session could mark.
+//! Dead elements: those that no test of a route, of an accepted route or of a session could mark, but for those of
+//! access lists.
 
-ghost use Rattle.std.specs.Prelude.{◌≡◌, ◌++◌, List, true, is_some, map, All, IfOk, OnOk};
+ghost use Rattle.std.specs.Prelude.{◌≡◌, ◌++◌, List, true, not, is_some, filter, map, All, IfOk, OnOk};
 ghost use Rattle.std.specs.Option.{ForSome};
 ghost use Rattle.std.specs.List.{flat_map};
 ghost use Rattle.nc_fact.specs.Roots.{roots};
@@ -9,7 +10,7 @@ ghost use Rattle.nc_graph.specs.Nodes.{Mirrors};
 ghost use Rattle.nc_rules.specs.Rules.{flow_of};
 ghost use Rattle.nc_rules.specs.Seen.{state_of, asked_of};
 ghost use Rattle.nc_tables.specs.State.{IsState};
-ghost use Rattle.nc_engine.specs.DeadElements.{AreDead, dead_of};
+ghost use Rattle.nc_engine.specs.DeadElements.{AreDead, is_of_access_lists, is_in_access_list, dead_of};
 ghost use Rattle.nc_engine.specs.Engine.{InfersApart, InfersFor};
 ghost use Rattle.nc_engine.specs.Questions.{element_text};
 ghost use Rattle.nc_command.specs.declared.command.Command.TheVariants.{Dead};
@@ -27,7 +28,7 @@ use nc_report::push_line;
 use nc_rules::{Rules, rules_make_a_flow};
 use nc_suite::dead;
 use nc_suite::laws::no_node_is_dead;
-use nc_types::{ElementId, Network};
+use nc_types::{ElementId, Kind, Network};
 use std::alloc::{AllocError, Global};
 
 /// What is known of the dead elements of a network.
@@ -49,6 +50,42 @@ fn root_facts(alloc: Global, rules: &Rules) -> Result<Vec<Fact>, AllocError>
     Ok(facts)
 }
 
+// Whether a kind is one of access lists.
+fn is_of_access_lists(kind: Kind) -> bool
+    ensures { result ≡ is_of_access_lists kind }
+{
+    match kind {
+        Kind::Filter | Kind::Group => true,
+        Kind::Interface
+        | Kind::Static
+        | Kind::Process
+        | Kind::Neighbor
+        | Kind::Network
+        | Kind::Aggregate
+        | Kind::Clause
+        | Kind::ListEntry
+        | Kind::CommunityEntry => false,
+    }
+}
+
+// Whether an element is of such a kind.
+fn is_in_access_list(network: &Network, element: ElementId) -> bool
+    ensures { result ≡ is_in_access_list network.now element.0 }
+{
+    match network.element(element) {
+        Some((_, element)) => is_of_access_lists(element.kind),
+        None => false,
+    }
+}
+
+// Drops the elements of access lists.
+fn drop_access_lists(network: &Network, elements: &mut Vec<ElementId>)
+    ensures { elements.new.items
+        ≡ filter (λ e. not (is_in_access_list network.now e.0)) elements.old.items }
+{
+    elements.retain(|element| !is_in_access_list(network, *element));
+}
+
 // The dead elements, by a graph of all that these facts follow from.
 fn dead_in(alloc: Global, rules: &Rules, graph: &Graph<Fact>) -> Result<Vec<ElementId>, AllocError>
     requires state { IsState (state_of rules.now) }
@@ -61,7 +98,9 @@ fn dead_in(alloc: Global, rules: &Rules, graph: &Graph<Fact>) -> Result<Vec<Elem
     roots_are_those_that_hold();
     no_node_is_dead::<Fact>();
     let _facts = graph.len();
-    let elements = dead(alloc, graph, rules.state().network().element_count())?;
+    let network = rules.state().network();
+    let mut elements = dead(alloc, graph, network.element_count())?;
+    drop_access_lists(network, &mut elements);
     Ok(elements)
 }
 

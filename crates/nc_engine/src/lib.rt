@@ -1,11 +1,12 @@
 //! The engine: a network in its state with the files of its routers, and the answers to the lines of a session.
 //!
 //! It stands on `nc_rules` for facts and how they are inferred, on `nc_graph` for what a derivation is, on `nc_marks` and
-//! `nc_report` for the marks and their texts, on `nc_formula` and `nc_diagram` for what is asked of sets of elements, and on
-//! `nc_command` for the lines. The contract of [`Engine::answer`] promises that each line gets the reply that the
-//! definitions of `specs/` give, that what is kept of the session moves by one step of theirs, and how many facts are
-//! inferred for it. The definitions are public: `Marks`, `Questions` and `Session`, in the order to read them; `Engine`
-//! says what an engine has and infers.
+//! `nc_report` for the marks and their texts, on `nc_formula`, `nc_diagram` and `nc_cut` for what is asked of sets of
+//! elements, on `nc_suite` for suites and dead elements, and on `nc_command` for the lines. The contract of
+//! [`Engine::answer`] promises that each line gets the reply that the definitions of `specs/` give, that what is kept of
+//! the session moves by one step of theirs, and how many facts are inferred for it. The definitions are public: `Marks`,
+//! `Questions`, `Cuts`, `Suites`, `DeadElements` and `Session`, in the order to read them; `Engine` says what an engine
+//! has and infers.
 #![tactic(auto)]
 
 mod cuts;

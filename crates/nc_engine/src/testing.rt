@@ -32,6 +32,7 @@ fn router_of(test: &TestCommand) -> &Text
         TestCommand::Session(name, _) => name,
         TestCommand::Reach(name, _) => name,
         TestCommand::Every(name, _) => name,
+        TestCommand::Flow(name, _, _) => name,
         TestCommand::Element(name, _) => name,
     }
 }
@@ -156,7 +157,8 @@ impl Work {
             | TestCommand::Bgp(_, _, _)
             | TestCommand::Session(_, _)
             | TestCommand::Reach(_, _)
-            | TestCommand::Every(_, _) => true,
+            | TestCommand::Every(_, _)
+            | TestCommand::Flow(_, _, _) => true,
             TestCommand::Element(_, line) => {
                 self.rules.state().network().owner(router, *line).is_some()
             }

@@ -7,3 +7,4 @@ pub mod ListedLemmas
 pub mod CountLemmas
 pub mod TouchLemmas
 pub mod SuiteLemmas
+pub mod RepeatLemmas

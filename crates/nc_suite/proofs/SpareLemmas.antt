@@ -119,7 +119,7 @@ module _ {X : Type 0} (before after : List X) (t : X) where
       list_any-append p before (t ∷ after) ∙ sym (or-moved (list_any p before) (p t) (list_any p after)) ∙ or_assoc (p t) (list_any p before) (list_any p after)
       ∙ ap (λ b. p t || b) (sym (list_any-append p before after))
 
-  sum-one : (f : X → ℕ) → sum_by f (before ++ t ∷ after) ≡ f t + sum_by f (before ++ after)
+  pub sum-one : (f : X → ℕ) → sum_by f (before ++ t ∷ after) ≡ f t + sum_by f (before ++ after)
   sum-one f =
       let a = sum_by-append f before (t ∷ after) in
       let b = sum_by-cons f t after in
@@ -142,6 +142,19 @@ decide false false rs rw c e ns nc a b t u = (λ x. tt, λ x. refl)
 
 -- ---- the tests that are still kept, and their counts
 
+-- what a mark adds is 1 at most
+pub strong-most : (m : Mark) → strong_by m ≤ 1
+strong-most Strong = omega arith
+strong-most Weak = omega arith
+strong-most Uncovered = omega arith
+strong-most Outside = omega arith
+
+pub covered-most : (m : Mark) → covered_by m ≤ 1
+covered-most Strong = omega arith
+covered-most Weak = omega arith
+covered-most Uncovered = omega arith
+covered-most Outside = omega arith
+
 module _ (g : Flow ℕ) (count : ℕ) where
   strongs-by : List ℕ → ℕ → ℕ
   strongs-by t e = strong_by (mark_for g t e)
@@ -154,18 +167,6 @@ module _ (g : Flow ℕ) (count : ℕ) where
     covered = λ e lt. (let s = are.covered e (subst (λ n. e < n) are.elements lt) in
         let m = sum_by-le (λ test. covered_by (mark_for g test e)) 1 ts (λ k d h. covered-most (mark_for g (get_or ts k d) e)) in omega arith);
   }
-    where
-      strong-most : (m : Mark) → strong_by m ≤ 1
-      strong-most Strong = omega arith
-      strong-most Weak = omega arith
-      strong-most Uncovered = omega arith
-      strong-most Outside = omega arith
-
-      covered-most : (m : Mark) → covered_by m ≤ 1
-      covered-most Strong = omega arith
-      covered-most Weak = omega arith
-      covered-most Uncovered = omega arith
-      covered-most Outside = omega arith
 
   pub counts-more : (ts : List (List ℕ)) (t : List ℕ) (a b : Counts) → AreCounts g count ts a → Adds (mark_for g t) a b → AreCounts g count (ts ++ t ∷ []) b
   counts-more ts t a b are adds = record {

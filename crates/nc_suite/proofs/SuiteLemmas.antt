@@ -38,7 +38,7 @@ in-filter p (y ∷ ys) x i = here (p y) refl (in-filter p ys x) i
     here true s rest j = elim j [ inl e ↦ (inl e, subst (λ z. p z ≡ true) e s) | inr k ↦ let r = rest k in (inr r.0, r.1) ]
     here false s rest j = let r = rest j in (inr r.0, r.1)
 
-at-in-take : {X : Type 0} (xs : List X) (i n : ℕ) (d : X) → i < n → n ≤ length xs → In (get_or xs i d) (take n xs)
+pub at-in-take : {X : Type 0} (xs : List X) (i n : ℕ) (d : X) → i < n → n ≤ length xs → In (get_or xs i d) (take n xs)
 at-in-take [] i n d lt le = absurd (omega arith)
 at-in-take (x ∷ xs) i zero d lt le = absurd (omega arith)
 at-in-take (x ∷ xs) zero (suc n) d lt le = inl refl

@@ -1,3 +1,4 @@
 pub mod Counts
 pub mod Dead
+pub mod Repeats
 pub mod Suite

@@ -13,12 +13,13 @@
 //! strong or weak. What a test touches is worked out twice, once to be counted and once when it is
 //! looked at, and is never kept of two tests at once: the counts, and flags of the elements and of the
 //! nodes, are all that is kept besides. A test takes time for the nodes that it reaches and for the
-//! strong elements of its nodes, whatever else the graph holds.
+//! strong elements of its nodes, whatever else the graph holds; one that repeats another takes none.
 #![tactic(auto)]
 
 pub mod laws;
 mod leaving;
 mod listing;
+mod repeats;
 mod tally;
 mod touch;
 mod unmet;

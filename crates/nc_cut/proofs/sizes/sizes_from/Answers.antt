@@ -1,6 +1,5 @@
-use Rattle.std.proofs.Common.{◌≡◌, ℕ, ◌+◌, nat_eq, [], ◌∷◌, ◌++◌, length, Some, sym, ap, subst, ◌∙◌, arith, length-append}
-use Rattle.std.proofs.lemmas.Bool.{ne_eqb}
-use Rattle.std.specs.HashMap.{get}
+use Rattle.std.proofs.Common.{◌≡◌, ℕ, ◌+◌, [], ◌∷◌, ◌++◌, length, Some, sym, ap, subst, ◌∙◌, arith, length-append}
+use Rattle.nc_cut.specs.Known.{known_in}
 use Rattle.nc_diagram.specs.Diagrams.{Belongs}
 use Rattle.nc_cut.specs.Sizes.{AreSizes}
 use Rattle.nc_cut.proofs.KnownLemmas.{IsPath, path_within, path_absent, path_longer, path_shorter, sizes_more, work_less}
@@ -9,33 +8,33 @@ use Rattle.nc_cut.proofs.sizes.sizes_from.Goals.{In-Sized, In-Some, In_ok-insert
 
 -- the reference that is looked at belongs
 belongs : (c : In-Sized) → Belongs c.args.store.now.nodes c.walk.at
-belongs c = omega (arith, path_within (get nat_eq c.walk.sizes) c.args.r c.walk.waiting.items c.walk.at c.walk.invariant.path, c.requires)
+belongs c = omega (arith, path_within (known_in c.walk.sizes) c.args.r c.walk.waiting.items c.walk.at c.walk.invariant.path, c.requires)
 
 -- its size is put in, and the others stay
-put : (c : In_ok-insert-in-Sized) → get nat_eq c.insert.new.self c.walk.at ≡ Some c.in-Sized.size
-put c = ap (get nat_eq c.insert.new.self) (sym c.place.ensures.place) ∙ c.in_ok-insert-in-Sized.ensures.updates.1
+put : (c : In_ok-insert-in-Sized) → known_in c.insert.new.self c.walk.at ≡ Some c.in-Sized.size
+put c = ap (known_in c.insert.new.self) (sym c.place.ensures.place) ∙ c.in_ok-insert-in-Sized.ensures.put
 
-others : (c : In_ok-insert-in-Sized) (q : ℕ) → (q ≡ c.walk.at → ⊥) → get nat_eq c.insert.new.self q ≡ get nat_eq c.walk.sizes q
-others c q ne = c.in_ok-insert-in-Sized.ensures.updates.2 q (ne_eqb c.place.result q (λ e. ne (sym e ∙ c.place.ensures.place)))
+others : (c : In_ok-insert-in-Sized) (q : ℕ) → (q ≡ c.walk.at → ⊥) → known_in c.insert.new.self q ≡ known_in c.walk.sizes q
+others c q ne = c.in_ok-insert-in-Sized.ensures.others q (λ e. ne (e ∙ c.place.ensures.place))
 
-sizes : (c : In_ok-insert-in-Sized) → AreSizes c.args.store.now.nodes c.args.free.now (get nat_eq c.insert.new.self)
+sizes : (c : In_ok-insert-in-Sized) → AreSizes c.args.store.now.nodes c.args.free.now (known_in c.insert.new.self)
 sizes c =
-    sizes_more (get nat_eq c.walk.sizes) (get nat_eq c.insert.new.self) c.walk.at c.in-Sized.size (put c) (others c)
+    sizes_more (known_in c.walk.sizes) (known_in c.insert.new.self) c.walk.at c.in-Sized.size (put c) (others c)
     c.args.store.now.nodes c.args.free.now c.walk.invariant.sizes c.in-Sized.ensures.0 c.in-Sized.ensures.1
 
 -- the path without it
-path : (c : In-Some) → IsPath (get nat_eq c.walk.sizes) c.args.r ((c.pop.new.self.items ++ c.in-Some.next ∷ []) ++ c.walk.at ∷ [])
-path c = subst (λ ws. IsPath (get nat_eq c.walk.sizes) c.args.r (ws ++ c.walk.at ∷ [])) c.in-Some.ensures.items c.walk.invariant.path
+path : (c : In-Some) → IsPath (known_in c.walk.sizes) c.args.r ((c.pop.new.self.items ++ c.in-Some.next ∷ []) ++ c.walk.at ∷ [])
+path c = subst (λ ws. IsPath (known_in c.walk.sizes) c.args.r (ws ++ c.walk.at ∷ [])) c.in-Some.ensures.items c.walk.invariant.path
 
-shorter : (c : In-Some) → IsPath (get nat_eq c.insert.new.self) c.args.r (c.pop.new.self.items ++ c.in-Some.next ∷ [])
+shorter : (c : In-Some) → IsPath (known_in c.insert.new.self) c.args.r (c.pop.new.self.items ++ c.in-Some.next ∷ [])
 shorter c =
     let at = goal.at.In-Some c in
-    path_shorter (get nat_eq c.walk.sizes) (get nat_eq c.insert.new.self) c.walk.at c.in-Sized.size (put at.In_ok-insert-in-Sized) (others at.In_ok-insert-in-Sized)
+    path_shorter (known_in c.walk.sizes) (known_in c.insert.new.self) c.walk.at c.in-Sized.size (put at.In_ok-insert-in-Sized) (others at.In_ok-insert-in-Sized)
     c.args.r (c.pop.new.self.items ++ c.in-Some.next ∷ []) (path c) (omega (arith, length-append c.pop.new.self.items (c.in-Some.next ∷ [])))
 
 pub walk-preserved-in-Waits : goal.walk-preserved-in-Waits
 walk-preserved-in-Waits c =
-    let known = get nat_eq c.walk.sizes in
+    let known = known_in c.walk.sizes in
     record {
       sizes = c.walk.invariant.sizes;
       path = subst (λ ws. IsPath known c.args.r (ws ++ c.in-Waits.end ∷ [])) (sym c.in_ok-push-in-Waits.ensures.items)
@@ -51,9 +50,9 @@ returns-in_default-clause-sizes c = let at = goal.at.returns-in_default-clause-s
 pub walk-smaller : goal.walk-smaller
 walk-smaller c =
     let at = goal.at.walk-smaller c in
-    let known = get nat_eq c.walk.sizes in
-    let next = path_within (get nat_eq c.insert.new.self) c.args.r c.pop.new.self.items c.in-Some.next (shorter c) in
-    work_less known (get nat_eq c.insert.new.self) c.walk.at c.in-Sized.size (put at.In_ok-insert-in-Sized) (others at.In_ok-insert-in-Sized)
+    let known = known_in c.walk.sizes in
+    let next = path_within (known_in c.insert.new.self) c.args.r c.pop.new.self.items c.in-Some.next (shorter c) in
+    work_less known (known_in c.insert.new.self) c.walk.at c.in-Sized.size (put at.In_ok-insert-in-Sized) (others at.In_ok-insert-in-Sized)
     (length c.args.store.now.nodes + 2) c.in-Some.next (belongs at.In-Sized) (omega (arith, next, c.requires))
     (path_absent known c.args.r c.walk.waiting.items c.walk.at c.walk.invariant.path)
 

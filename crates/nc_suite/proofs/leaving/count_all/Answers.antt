@@ -31,7 +31,7 @@ count-requires-clause-room g c =
     let numbers = map (λ t. map (λ p. p.0) t.now) ts in
     let few : length numbers < 2 ^ 32 - 1
     = omega (arith, length-map ts (λ t. map (λ p. p.0) t.now), length-take-le c.tests.nodes-index c.args.tests.now c.tests.auto.nodes-index-end, c.requires.few, c.tests-test.true) in
-    counts-room (node_flow c.args.graph.now) c.args.desk.now.listing.width numbers c.tests.tally few c.tests.invariant.counts
+    counts-room (node_flow c.args.graph.now) c.args.coverage.now.listing.width numbers c.tests.tally few c.tests.invariant.counts
 
 pub returns-in_err-count-clause-reached : goal.returns-in_err-count-clause-reached
 returns-in_err-count-clause-reached g c = c.count.ensures.reached ∙ c.tests.invariant.reached
@@ -46,10 +46,10 @@ tests-preserved g c = record {
   counts =
       let ts = take c.tests.nodes-index c.args.tests.now in
       let here = get_or c.args.tests.now c.tests.nodes-index (record { ref_ptr = (0, 0); now = [] }) in
-      subst (λ us. AreCounts (node_flow c.args.graph.now) c.args.desk.now.listing.width us c.count.new.tally)
+      subst (λ us. AreCounts (node_flow c.args.graph.now) c.args.coverage.now.listing.width us c.count.new.tally)
       (sym (ap (map (λ t. map (λ p. p.0) t.now)) (take_more c.args.tests.now c.tests.nodes-index (record { ref_ptr = (0, 0); now = [] }) c.tests-test.true)
       ∙ map-append (λ t. map (λ p. p.0) t.now) ts (here ∷ [])))
-      (counts-more (node_flow c.args.graph.now) c.args.desk.now.listing.width (map (λ t. map (λ p. p.0) t.now) ts) (map (λ p. p.0) here.now) c.tests.tally c.count.new.tally
+      (counts-more (node_flow c.args.graph.now) c.args.coverage.now.listing.width (map (λ t. map (λ p. p.0) t.now) ts) (map (λ p. p.0) here.now) c.tests.tally c.count.new.tally
       c.tests.invariant.counts c.in_ok-count.ensures.adds);
 }
 
@@ -61,4 +61,4 @@ returns-clause-width g c = c.tests.invariant.width
 
 pub returns-clause-counts : goal.returns-clause-counts
 returns-clause-counts g c =
-    subst (λ ts. AreCounts (node_flow c.args.graph.now) c.args.desk.now.listing.width (map (λ t. map (λ p. p.0) t.now) ts) c.tests.tally) (take_all c.tests.nodes-index c.args.tests.now c.tests-test.false) c.tests.invariant.counts
+    subst (λ ts. AreCounts (node_flow c.args.graph.now) c.args.coverage.now.listing.width (map (λ t. map (λ p. p.0) t.now) ts) c.tests.tally) (take_all c.tests.nodes-index c.args.tests.now c.tests-test.false) c.tests.invariant.counts

@@ -5,7 +5,7 @@ use Rattle.nc_suite.proofs.leaving.count_all.Given as goal
 
 abbrev pub invariant-tests : goal.invariant-tests
 invariant-tests g l = record {
-  reached : l.desk.reached.items ≡ l.initial.desk.reached.items;
-  width : l.desk.listing.width ≡ l.initial.desk.listing.width;
-  counts : AreCounts (node_flow l.graph) l.initial.desk.listing.width (map (λ t. map (λ p. p.0) t.now) (take l.nodes-index l.tests)) l.tally;
+  reached : l.coverage.reached.items ≡ l.initial.coverage.reached.items;
+  width : l.coverage.listing.width ≡ l.initial.coverage.listing.width;
+  counts : AreCounts (node_flow l.graph) l.initial.coverage.listing.width (map (λ t. map (λ p. p.0) t.now) (take l.nodes-index l.tests)) l.tally;
 }

@@ -1,4 +1,4 @@
-use Rattle.std.proofs.Common.{◌≡◌, ◌++◌, ◌∙◌, ℕ, Bool, List, is_some, refl, sym, ap, subst}
+use Rattle.std.proofs.Common.{◌≡◌, ◌++◌, ◌∙◌, Bool, List, is_some, refl, sym, ap, subst}
 use Rattle.nc_types.specs.Config.{ConfigView}
 use Rattle.nc_tables.specs.State.{StateView, IsState}
 use Rattle.nc_formula.specs.Session.{AreDrawn}
@@ -8,7 +8,7 @@ use Rattle.nc_rules.specs.Seen.{state_of, asked_of}
 use Rattle.nc_command.specs.declared.command.Command.TheVariants.{Dead}
 use Rattle.nc_command.specs.Command.{Asks}
 use Rattle.nc_engine.specs.Engine.{InfersFor}
-use Rattle.nc_engine.specs.Session.{TellsDead, posed_in}
+use Rattle.nc_engine.specs.Session.{posed_in}
 use Rattle.nc_engine.specs.Work.{IsMarked, IsKnownDead, kept_of, known_text, tests_of}
 use Rattle.nc_engine.proofs.Unmarked.{told-by}
 use Rattle.nc_engine.proofs.work.Work.dead.Goals as goal

@@ -1,4 +1,4 @@
-use Rattle.std.proofs.Common.{◌≡◌, ◌++◌, ◌∙◌, ℕ, ◌<◌, List, Bor, All, length, map, refl, sym, ap, subst}
+use Rattle.std.proofs.Common.{◌∙◌, ℕ, ◌<◌, List, Bor, All, length, map, refl, sym, ap, subst}
 use Rattle.nc_types.specs.Network.{element_count}
 use Rattle.nc_graph.specs.Nodes.{node_flow}
 use Rattle.nc_graph.specs.declared.node.NodeId.{NodeId}

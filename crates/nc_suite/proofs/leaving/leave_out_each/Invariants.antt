@@ -4,14 +4,14 @@ use Rattle.nc_marks.specs.Marks.{marked_elements}
 use Rattle.nc_marks.specs.Sets.{flag}
 use Rattle.nc_suite.specs.Counts.{AreCounts, HasRoom}
 use Rattle.nc_suite.specs.Suite.{Leaves, IsSuite, still}
-use Rattle.nc_suite.proofs.leaving.suite.Given as goal
+use Rattle.nc_suite.proofs.leaving.leave_out_each.Given as goal
 
 abbrev pub invariant-turns : goal.invariant-turns
 invariant-turns g l = record {
   within : l.turn ≤ length l.tests;
-  width : l.desk.listing.width ≡ marked_elements l.marks.marks;
-  len : length l.desk.reached.items ≡ length l.graph.facts;
-  lowered : (i : ℕ) → flag l.desk.reached.items i ≡ false;
+  width : l.coverage.listing.width ≡ marked_elements l.marks.marks;
+  len : length l.coverage.reached.items ≡ length l.graph.facts;
+  lowered : (i : ℕ) → flag l.coverage.reached.items i ≡ false;
   counts : AreCounts (node_flow l.graph) (marked_elements l.marks.marks) (still (map (λ t. map (λ p. p.0) t.now) l.tests) l.turn (reverse l.places.items)) l.tally;
   room : HasRoom l.tally;
   leaves : (suite : List ℕ) → Leaves (node_flow l.graph) (marked_elements l.marks.marks) (map (λ t. map (λ p. p.0) t.now) l.tests) l.turn (reverse l.places.items) suite
