@@ -5,6 +5,7 @@ the generators are tried. `refuses` says that a row is there for what it refuses
 """
 import typing
 
+import filtered
 import routed
 import static
 
@@ -46,6 +47,7 @@ NETWORKS = {
     "maps16": Network("16 routers, a session between each two, each with a map of 250 clauses, 900 networks", routed.maps, routed.maps_rows, (16, 900, 250), (4, 9, 9)),
     "lists16": Network("16 routers, a session between each two, each with a map of 21 clauses over 200 community lists, 900 networks", routed.lists, routed.lists_rows, (16, 900, 20), (4, 9, 2)),
     "backbone": Network("a backbone of ten routers with 200 external systems, policies with lists and communities", routed.backbone, routed.backbone_rows, (10, 20), (4, 3)),
+    "filters20": Network("4 spines and 16 leaves, static routes over all spines, a list of 2,002 entries each way at each end of a link and toward the hosts", filtered.fabric, filtered.fabric_rows, (4, 16, 2000, 1000), (2, 3, 5, 12)),
     "behind60": Network("60 routers on one segment, 25 in a line behind them, one internal session from end to end", static.behind_one, static.behind_one_rows, (60, 25), (3, 3)),
     "behind230": Network("230 routers on one segment, 25 in a line behind them, 230 internal sessions with the last", static.behind_all, static.behind_all_rows, (230, 25), (3, 3)),
     "fat8": Network("the generated fat tree of 80 routers", generated, own_session, (8,), (2,)),

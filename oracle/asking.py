@@ -3,7 +3,7 @@ import itertools
 
 import oracle
 from network import HOPS
-from paths import arrives
+from paths import arrives, flows
 from pieces import R, dotted
 from reading import Fault, read_file
 from routes import entry_of, main_table, settle
@@ -42,6 +42,19 @@ def of_packets(net, there):
     asks = itertools.product(range(len(net.routers)), (False, True))
     found = [(every, r, a) for r, every in asks for a in packets(net, r) if arrives(net, every, r, a, HOPS) == there]
     return [f"{'every' if every else 'reach'} {named(net, r)} {dotted(a)}" for every, r, a in R.sample(found, min(len(found), 8))]
+
+
+def of_flows(net, hosts, count):
+    """Tests of flows between these hosts and the routers' own addresses: those that are let pass to their end, and those that aren't. So many
+    are tried, most of them of packets that have a way."""
+    ends = hosts + sorted(net.owners)
+    found = {True: [], False: []}
+    for _ in range(count):
+        r, source, target = R.randrange(len(net.routers)), R.choice(ends), R.choice(ends)
+        if R.random() < 0.7 and not arrives(net, False, r, target, HOPS):
+            continue
+        found[flows(net, r, source, target, HOPS)].append(f"flow {named(net, r)} {dotted(source)} {dotted(target)}")
+    return list(dict.fromkeys(found[True])), list(dict.fromkeys(found[False]))
 
 
 def of_elements(net):

@@ -2,10 +2,11 @@
 """Random and systematic cases for the comparison of NetCov with the oracle: files, words and a session each.
 
 Those of route maps and lists alone stand in policies.py, those of processes and sessions in peers.py, those of routes by
-BGP in exchanges.py, those of several ways in ways.py, those of the limit of facts in most_facts.py.
+BGP in exchanges.py, those of several ways in ways.py, those of access lists in filtered.py, those of the limit of facts in most_facts.py.
 """
 import oracle
 from exchanges import kind_routes
+from filtered import kind_filters
 from pieces import MASKS, R, Case, b, dotted, mutate_words, named, network, random_banner, render, session_for
 from peers import kind_peers, kind_sides
 from policies import kind_policy
@@ -69,8 +70,14 @@ ip vrf forwarding V
 ip policy route-map X
 ip nat inside
 ip access-group 5 in
+ip access-group S out
 ip access-list standard S
+ip access-list extended S
 access-list 10 permit any
+access-list 100 permit ip any any log
+5 permit ip host 10.0.0.1 10.0.0.0 0.0.0.255
+deny 10.0.0.1 log
+permit tcp any any eq 80
 ip community-list 5 permit 1:1
 ip forward-protocol nd
 ip cef
@@ -139,7 +146,7 @@ Interface Ethernet0
 IP route 10.9.0.0 255.255.0.0 10.0.0.2
 Hostname x
 """.split("\n")[:-1]
-CONTEXTS = ["none", "interface", "outside", "clause", "process", "interface-comment", "after-route", "top", "top-indented", "deep", "plain-interface"]
+CONTEXTS = ["none", "interface", "outside", "clause", "process", "list", "interface-comment", "after-route", "top", "top-indented", "deep", "plain-interface"]
 
 
 # --- kinds of cases -----------------------------------------------------------------------------------
@@ -289,6 +296,7 @@ def in_context(line_words, context):
         "clause": [b"hostname r1", b"interface Ethernet0", b" ip address 10.0.0.1 255.255.255.0", b"ip prefix-list A permit 10.0.0.0/8", b"ip community-list 5 permit 1:1",
                    b"ip community-list standard C permit 1:1", b"route-map M deny 10", (b" ",), b" set metric 7", b"ip prefix-list B permit 10.0.0.0/8", b" set metric 8"],
         "process": [b"hostname r1", b"interface Ethernet0", b" ip address 10.0.0.1 255.255.255.0", b"router bgp 65001", b" neighbor 10.0.0.2 remote-as 2", (b" ",), b" neighbor 10.0.0.2 activate"],
+        "list": [b"hostname r1", b"interface Ethernet0", b" ip address 10.0.0.1 255.255.255.0", b" ip access-group S in", b"ip access-list extended S", (b" ",), b" permit ip any any"],
         "interface-comment": [b"hostname r1", b"interface Ethernet0", b"!", b"banner motd ^C", b"interface X ^C", (b"\t",), b" ip address 10.0.0.1 255.255.255.0"],
         "after-route": [b"hostname r1", b"interface Ethernet0", b" ip address 10.0.0.1 255.255.255.0", b"ip route 10.9.0.0 255.255.0.0 10.0.0.2", (b" ",), None],
         "top": [None, b" shutdown", b" ip address 10.0.0.1 255.255.255.0", b"hostname r1"],
@@ -300,7 +308,7 @@ def in_context(line_words, context):
     for x in out:
         lines.append(b" ".join(line_words) if x is None else x[0] + b" ".join(line_words) if isinstance(x, tuple) else x)
     data = b"\n".join(lines) + b"\n"
-    return Case({b"r1.cfg": data}, [b"r1.cfg"], b"rib r1 10.0.0.0/24\nrib r1 10.9.0.0/16\nrib r1 0.0.0.0/0\nrib r1 10.0.1.0/24\n")
+    return Case({b"r1.cfg": data}, [b"r1.cfg"], b"rib r1 10.0.0.0/24\nrib r1 10.9.0.0/16\nrib r1 0.0.0.0/0\nrib r1 10.0.1.0/24\nflow r1 10.9.0.1 10.0.0.9\n")
 
 
 def table_cases(count):
@@ -472,6 +480,7 @@ RANDOM_KINDS = {
     "sides": kind_sides,
     "routes": kind_routes,
     "ways": kind_ways,
+    "filters": kind_filters,
     "names": kind_names,
     "bytes": kind_bytes,
     "banner": kind_banner,

@@ -51,6 +51,8 @@ NEAREST = {
     "Main": ["CaseForwarding"],
     "Forwarding": ["CaseForwarding"],
     "Levels": ["CaseForwarding"],
+    "Filters": ["CaseFilters"],
+    "Flows": ["CaseFilters"],
 }
 CRATE = "definition_edits"
 LIB = """//! Definitions with an edit each, and the cases over them.

@@ -458,4 +458,37 @@ RELATIONS = of(
     ("IsState", "pub valid : IsValid s.routers", "pub valid : s ≡ s", "the routers needn't be valid"),
 )
 
-EDITS = NETWORK + JOINING + COMMUNITIES + SETTING + WORDS + BASE + ORDER + LONGEST + REACH + SESSIONS + POLICY + CHOICE + ROUNDS + SETTLING + STATE + MAIN + FORWARDING + LEVELS + RELATIONS
+FILTERS = of(
+    "Filters",
+    ("matches", "bit_or addr m.wild.0 == bit_or m.addr.0 m.wild.0", "addr == m.addr.0", "a wildcard does nothing"),
+    ("matches", ("bit_or, List", "bit_or addr m.wild.0 == bit_or m.addr.0 m.wild.0"), ("bit_or, nat_le, List", "nat_le m.addr.0 addr && nat_le addr (bit_or m.addr.0 m.wild.0)"),
+     "a wildcard is of all addresses between two"),
+    ("group_of", "bytes_eq iface g.iface && (if inward then g.inward else not g.inward)", "bytes_eq iface g.iface", "a filter is of both directions"),
+    ("group_of", "(if inward then g.inward else not g.inward)", "(if inward then not g.inward else g.inward)", "the directions are exchanged"),
+    ("group_of", "bytes_eq iface g.iface && (if inward", "(if inward", "a filter is of all interfaces"),
+    ("decides", "e.ip && (matches e.from from && matches e.to to)", "matches e.from from && matches e.to to", "an entry of another protocol decides"),
+    ("decides", "matches e.from from && matches e.to to", "matches e.from to && matches e.to from", "source and destination are exchanged"),
+    ("decides", "matches e.from from && matches e.to to", "matches e.to to", "the source doesn't count"),
+    ("decides", "matches e.from from && matches e.to to", "matches e.from from", "the destination doesn't count"),
+    ("deciding", "is_of list e && decides e", "decides e", "entries of all lists decide"),
+    ("deciding", "is_of list e && decides e", "is_of list e", "the first entry decides, whatever it is of"),
+    ("said_by", "if e.permit then By group entry else Deny", "By group entry", "an entry that denies lets pass"),
+    ("said_by", "if e.permit then By group entry else Deny", "if e.permit then By entry group else Deny", "the filter and its entry are exchanged"),
+    ("passing", "(deciding c g.list) Deny else Free", "(deciding c g.list) Deny else Deny", "a list without entries denies"),
+    ("passing", "(deciding c g.list) Deny else Free", "(deciding c g.list) Free else Free", "what no entry decides on passes"),
+    ("passing", "list_any (is_of g.list) c.filters", "list_any (λ e. is_of g.list e && e.ip) c.filters", "a list of other protocols alone lets pass"),
+    ("passes", "is_some (up_at routers router iface) && not", "not", "an interface that isn't up lets pass"),
+    ("passes", "not (is_denied (passing_at routers router iface inward))", "is_denied (passing_at routers router iface inward)", "what is denied passes"),
+) + of(
+    "Flows",
+    ("leaves", "passes from to s.routers router iface false", "passes from to s.routers router iface true", "on the way out the filter for what comes in is asked"),
+    ("enters", "passes from to s.routers next.router next.place true", "passes from to s.routers next.router next.place false", "on the way in the filter for what goes out is asked"),
+    ("enters", "enters Deliver = true", "enters Deliver = false", "nothing is delivered"),
+    ("lets", "enters way.outcome && leaves router way", "enters way.outcome", "what goes out isn't filtered"),
+    ("lets", "enters way.outcome && leaves router way", "leaves router way", "what comes in isn't filtered"),
+    ("flows", "arrives_by (flows hops) way.outcome", "arrives_by nowhere way.outcome", "a flow never goes on"),
+    ("flow_step_at", "nat_le hops HOP_LIMIT\n      &&", "true\n      &&", "thirty-one hops are not too many"),
+    ("flow_step_at", "lets router way && arrives_by (goes_on", "arrives_by (goes_on", "a step isn't filtered"),
+)
+
+EDITS = NETWORK + JOINING + COMMUNITIES + SETTING + WORDS + BASE + ORDER + LONGEST + REACH + SESSIONS + POLICY + CHOICE + ROUNDS + SETTLING + STATE + MAIN + FORWARDING + LEVELS + RELATIONS + FILTERS

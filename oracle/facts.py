@@ -1,6 +1,7 @@
 """Facts, their parents, and the marks of lines."""
+from filters import passing
 from network import HOPS, route_interface
-from paths import alternatives, step
+from paths import alternatives, flow_step, gates, step
 from routes import AGGREGATE, LEARNT, ORIGIN, chosen_at, contributors_of, entry_of, main_table, message_of
 
 
@@ -72,7 +73,7 @@ def aggregate(net, r, place):
 
 
 def decided(net, r, places):
-    """The elements of a clause and of entries by which a map decided."""
+    """The elements of a clause and of entries by which a map decided, or of a filter and its entry."""
     return [("Element", net.before[r] + place) for place in places]
 
 
@@ -96,11 +97,15 @@ def main(net, r, row):
     return "Every", [main_table(net, r)[row][1]]
 
 
-def on_the_way(net, whole_kind, r, a, m, t):
-    """What a step by alternative m rests on."""
+def on_the_way(net, r, a, m, onward):
+    """What a step by alternative m rests on; onward gives the fact that the packet arrives from the router to which it leads."""
     row, base_row, outcome = alternatives(net, r, a)[m]
-    behind = [("Connected",) + outcome[1:], (whole_kind, outcome[1], a, t - 1)] if outcome[0] == "Go" else []
-    return "Every", [("Main", r, row)] + ([] if base_row is None else [("Base", r, base_row)]) + behind
+    behind = [("Connected",) + outcome[1:], onward(outcome[1])] if outcome[0] == "Go" else []
+    return [("Main", r, row)] + ([] if base_row is None else [("Base", r, base_row)]) + behind
+
+
+def by_step(net, whole_kind, r, a, m, t):
+    return "Every", on_the_way(net, r, a, m, lambda s: (whole_kind, s, a, t - 1))
 
 
 def by_ways(net, kind, step_kind, every, r, a, t):
@@ -109,10 +114,27 @@ def by_ways(net, kind, step_kind, every, r, a, t):
     return kind, [(step_kind, r, a, m, t) for m in range(len(alternatives(net, r, a))) if step(net, every, r, a, m, t)]
 
 
+def passed(net, r, k, inward, source, target):
+    return "Every", [("Connected", r, k)] + decided(net, r, passing(net.routers[r], k, inward, source, target))
+
+
+def by_flow_step(net, r, source, target, m, t):
+    way = on_the_way(net, r, target, m, lambda s: ("Flow", s, source, target, t - 1))
+    return "Every", way + [("Pass", *gate, source, target) for gate in gates(net, r, target, m)]
+
+
+def by_flows(net, r, source, target, t):
+    if net.owns(r, target):
+        return "Any", [("Connected",) + net.owners[target]]
+    ways = range(len(alternatives(net, r, target)))
+    return "Any", [("FlowStep", r, source, target, m, t) for m in ways if flow_step(net, r, source, target, m, t)]
+
+
 KINDS = {"Element": leaf, "Connected": connected, "Static": static, "Base": base, "Resolve": resolve, "Reach": reach, "Hop": hop, "Session": session, "NetSource": net_source,
          "Origin": origin, "Contrib": contrib, "Aggregate": aggregate, "Message": message, "Entry": entry, "Chosen": chosen, "Main": main,
-         "Step": lambda net, *f: on_the_way(net, "Trace", *f), "Trace": lambda net, *f: by_ways(net, "Any", "Step", False, *f),
-         "AllStep": lambda net, *f: on_the_way(net, "All", *f), "All": lambda net, *f: by_ways(net, "Every", "AllStep", True, *f)}
+         "Step": lambda net, *f: by_step(net, "Trace", *f), "Trace": lambda net, *f: by_ways(net, "Any", "Step", False, *f),
+         "AllStep": lambda net, *f: by_step(net, "All", *f), "All": lambda net, *f: by_ways(net, "Every", "AllStep", True, *f),
+         "Pass": passed, "FlowStep": by_flow_step, "Flow": by_flows}
 
 
 def closure(net, facts):

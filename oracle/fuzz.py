@@ -18,6 +18,7 @@ import tempfile
 import oracle
 from cases import RANDOM_KINDS, grid_cases, limit_cases, table_cases
 from exchanges import exchange_cases
+from filtered import filter_cases
 from most_facts import facts_cases
 from pieces import R, Case
 from peers import peer_cases
@@ -26,7 +27,7 @@ from policies import policy_cases
 HERE = os.path.dirname(os.path.abspath(__file__))
 BUILT = os.path.join(os.path.dirname(HERE), "crates", "netcov", "out", "netcov")
 SYSTEMATIC = {"table": table_cases, "grid": grid_cases, "policies": policy_cases, "processes": peer_cases,
-              "exchanges": exchange_cases, "limits": limit_cases, "facts": facts_cases}
+              "exchanges": exchange_cases, "lists": filter_cases, "limits": limit_cases, "facts": facts_cases}
 compared = []
 reached = collections.Counter()
 total = collections.Counter()
@@ -122,7 +123,8 @@ def note_tests(session, replies):
         refused = [absent, b"refused router " + w[1], b"refused line", b"refused limit tests", b"refused limit facts"]
         reply = next((x for x in replies if x in refused or x.startswith(b"test ")), None)
         if reply not in refused[1:] + [None]:
-            reached[f"{'absent' if reply == absent else 'accepted'} {b' '.join(w[:1] + w[3:4]).decode()}"] += 1
+            form = w[:1] if w[0] == b"flow" else w[:1] + w[3:4]
+            reached[f"{'absent' if reply == absent else 'accepted'} {b' '.join(form).decode()}"] += 1
 
 
 def note(status, out, kind, session):

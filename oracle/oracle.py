@@ -13,7 +13,7 @@ from carriers import lacking
 from cuts import least_cut
 from facts import closure, marks_of
 from network import HOPS, Net, base_table, join
-from paths import arrives
+from paths import arrives, flows
 from reading import Fault, read_file
 from reports import as_json, lcov, report, show
 from routes import chosen_at, entry_of, main_table, settle
@@ -43,6 +43,8 @@ def served(session):
 
 def asked_for(w):
     """(command, router's name, what, the address behind it or None) of a test, or None"""
+    if w[0] == b"flow" and len(w) == 4 and None not in (address(w[2]), address(w[3])):
+        return w[0], w[1], address(w[2]), address(w[3])
     if w[0] in (b"session", b"reach", b"every") and len(w) == 3 and address(w[2]) is not None:
         return w[0], w[1], address(w[2]), None
     if w[0] == b"element" and len(w) == 3 and large(w[2]) is not None:
@@ -70,6 +72,8 @@ def tested_facts(net, command, r, what, a):
         return owners_of(net, r, what)
     if command in (b"reach", b"every"):
         return [("Trace" if command == b"reach" else "All", r, what, HOPS)] if arrives(net, command == b"every", r, what, HOPS) else []
+    if command == b"flow":
+        return [("Flow", r, what, a, HOPS)] if flows(net, r, what, a, HOPS) else []
     if command == b"session":
         return [("Session", r, n) for n in neighbors_at(net, r, what) if (r, n) in net.sessions]
     if command == b"rib":

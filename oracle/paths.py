@@ -1,4 +1,6 @@
-"""Ways of packets over main tables: the alternatives of a router for an address, and whether a packet arrives by one of them, or by all."""
+"""Ways of packets over main tables: the alternatives of a router for an address, and whether a packet arrives by one of them, or by all,
+or by one on which the filters of interfaces let it pass."""
+from filters import passing
 from routes import main_table
 from texts import covers
 
@@ -53,3 +55,36 @@ def arrives(net, every, r, a, t):
 def step(net, every, r, a, m, t):
     outcome = alternatives(net, r, a)[m][2]
     return outcome == DELIVER or (outcome[0] == "Go" and t > 0 and arrives(net, every, outcome[1], a, t - 1))
+
+
+# --- past the filters of interfaces --------------------------------------------------------------
+def passes(net, r, k, inward, source, target):
+    """Whether an interface that is up lets a packet in or out."""
+    return net.routers[r]["interfaces"][k]["up"] and passing(net.routers[r], k, inward, source, target) is not None
+
+
+def gates(net, r, target, m):
+    """The interfaces by which alternative m leaves a router and comes to the next one: (router, interface, whether it comes in)"""
+    row, base_row, outcome = alternatives(net, r, target)[m]
+    k = main_table(net, r)[row][1][2] if base_row is None else base_row
+    out = (r, net.exit(r, k, target)[0], False)
+    return [out] if outcome == DELIVER else [out, outcome[1:] + (True,)]
+
+
+def flow_step(net, r, source, target, m, t):
+    """Whether a packet from source to target arrives from r by alternative m within t hops, and is let pass all along."""
+    outcome = alternatives(net, r, target)[m][2]
+    if outcome == LOST or outcome != DELIVER and t == 0:
+        return False
+    if not all(passes(net, *gate, source, target) for gate in gates(net, r, target, m)):
+        return False
+    return outcome == DELIVER or flows(net, outcome[1], source, target, t - 1)
+
+
+def flows(net, r, source, target, t):
+    """Whether a packet from source to target, which stands at r past what filters come in there, arrives within t hops."""
+    key = ("flow", r, source, target, t)
+    if key not in net.kept:
+        ways = range(len(alternatives(net, r, target)))
+        net.kept[key] = net.owns(r, target) or any(flow_step(net, r, source, target, m, t) for m in ways)
+    return net.kept[key]

@@ -102,8 +102,8 @@ PREFIXES = [("10.9.0.0", "255.255.0.0"), ("10.9.1.0", "255.255.255.0"), ("0.0.0.
 PASSED = [b"version 15.2", b"end", b"exit", b"ip cef", b"ip forward-protocol nd", b"shutdown", b"ip address 10.0.0.9 255.255.255.0",
           b"line vty 0 4", b"ip prefix-list Q description banner", b"ip prefix-list sequence-number", b"no ip route x", b"router",
           b"ip", b"no router bgp 1", b"ip community-list expanded E permit .*", b"ip community-list 100 permit x", b"no route-map M permit 10", b"match x", b"set",
-          b"no ip prefix-list A", b"banner^C", b"\x00", b"access-list 10 permit any", b"no shutdown", b"vrf definition V"]
-PASSED_IN_BLOCK = [b" description x", b" no match community A", b" ip prefix-list A permit x", b" route-map M permit x", b"  duplex auto", b" ipv6 address x", b"\tip access-group 5 in", b" hostname q", b" interface E9",
+          b"no ip prefix-list A", b"banner^C", b"\x00", b"access-list 10 remark permit any", b"no shutdown", b"vrf definition V"]
+PASSED_IN_BLOCK = [b" description x", b" no match community A", b" ip prefix-list A permit x", b" route-map M permit x", b"  duplex auto", b" ipv6 address x", b"\tip access-group 5", b" hostname q", b" interface E9",
                    b" banner motd ^C", b" router ospf 1", b" Shutdown", b" no ip route", b" ip route 1.0.0.0 255.0.0.0 Null0"]
 IDLE = [b"!", b"! x", b"!x", b"", b"  ", b"\t", b" ! x", b"\t!y", b"!\r", b"\r"]
 

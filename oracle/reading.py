@@ -1,4 +1,5 @@
 """The configuration of a file: its blocks, its elements, its faults."""
+from filters import in_list, judged
 from statements import LAST_SEQ, SYNTAX, UNSUPPORTED, statement
 from texts import bits, words
 
@@ -23,7 +24,7 @@ def behind_banner(lines, k):
 
 def block_of(what):
     """The block that an unindented statement opens: its kind and by what it is told from others, or None."""
-    if what[0] == "interface":
+    if what[0] in ("interface", "access list"):
         return what
     if what[0] == "router bgp":
         return ("bgp",)
@@ -37,6 +38,13 @@ def one_process(asn, what):
     return ("fault", TWO_PROCESSES)
 
 
+def in_block(w, block):
+    """What an indented statement says in its block, or in none."""
+    if block is not None and block[0] == "access list":
+        return in_list(w, *block[1:])
+    return statement(w, "no block" if block is None else block[0])
+
+
 def sayings_of(lines):
     """[(line number, the block in which it is or None, what it says)]"""
     said, k, current, asn = [], 0, None, None
@@ -46,7 +54,7 @@ def sayings_of(lines):
         if not w or w[0][:1] == b"!":
             continue
         if line[:1] in (b" ", b"\t"):
-            said.append((k, current, statement(w, "no block" if current is None else current[0])))
+            said.append((k, current, in_block(w, current)))
         elif w[0] == b"banner":
             last, cause = behind_banner(lines, k)
             if cause is not None:
@@ -83,9 +91,11 @@ def key_of(n, block, what):
         return ("route",) + what[1][:3]
     if what[0] == "entry":
         return ("entry",) + what[1][:2]
-    if what[0] == "community entry":
-        return ("community entry", n)
-    return None if what[0] in ("hostname", "outside") else block
+    if what[0] in ("community entry", "filter"):
+        return (what[0], n)
+    if what[0] == "group":
+        return ("group", block[1], what[1])
+    return None if what[0] in ("hostname", "outside", "access list") else block
 
 
 def interface_of(name, place, mine):
@@ -148,7 +158,7 @@ def nameless(said):
 
 def read_file(lines):
     """The configuration of a file, or Fault(line, cause)."""
-    said = counted(sayings_of(lines))
+    said = judged(counted(sayings_of(lines)))
     faults = sorted([(n, what[1]) for n, _, what in said if what[0] == "fault"] + nameless(said))
     if faults:
         raise Fault(*faults[0])
@@ -156,7 +166,7 @@ def read_file(lines):
     if not names:
         raise Fault(0, b"no-name")
     config = {"count": len(lines), "name": names[-1][1], "name_line": names[-1][0], "interfaces": [], "statics": [],
-              "clauses": [], "lists": {}, "community lists": {}, "process": None}
+              "clauses": [], "lists": {}, "community lists": {}, "filters": {}, "groups": {}, "process": None}
     statements = {}
     for n, block, what in said:
         if key_of(n, block, what) is not None:
@@ -181,6 +191,10 @@ def read_file(lines):
             config["process"]["aggregates"].append({"prefix": e[1], "summary": what[2], "element": place})
         elif e[0] == "entry":
             config["lists"].setdefault(e[1], {})[e[2]] = what[1][2:] + (place,)
+        elif e[0] == "filter":
+            config["filters"].setdefault(what[1], []).append(what[2] + (place,))
+        elif e[0] == "group":
+            config["groups"][e[1:]] = (what[2], place)
         else:
             config["community lists"].setdefault(what[1][0], []).append(what[1][1:] + (place,))
     return config

@@ -1,4 +1,6 @@
-"""What a statement says, by its words and the block in which it stands; those of a process stand in processes.py."""
+"""What a statement says, by its words and the block in which it stands; those of a process stand in processes.py, those of access
+lists in filters.py."""
+from filters import numbered, read_group, read_list_header
 from processes import in_process, read_process_header
 from texts import address, bits, digits, large, mask, number, prefix_of, starts
 
@@ -173,6 +175,10 @@ def statement(w, block):
         if starts(w, "ip community-list"):
             got = read_community_list(w)
             return ("outside",) if got is None else ("fault", got) if isinstance(got, bytes) else ("community entry", got)
+        if starts(w, "ip access-list"):
+            return read_list_header(w)
+        if w[0] == b"access-list":
+            return numbered(w)
         if w[0] == b"hostname":
             if len(w) != 2 or not 1 <= len(w[1]) <= 63 or any(not 0x21 <= c <= 0x7E for c in w[1]):
                 return ("fault", SYNTAX)
@@ -184,6 +190,8 @@ def statement(w, block):
         for text in ("ip unnumbered", "vrf forwarding", "ip vrf forwarding", "ip policy", "ip nat", "ip address dhcp", "ip address negotiated", "ip address pool"):
             if starts(w, text):
                 return ("fault", UNSUPPORTED)
+        if starts(w, "ip access-group"):
+            return read_group(w)
         if starts(w, "ip address"):
             r = w[2:]
             if len(r) < 2 or address(r[0]) is None or mask(r[1]) is None:

@@ -1,4 +1,5 @@
-"""Suites of tests that suffice, and elements that no test of a route, an accepted route or a session could mark."""
+"""Suites of tests that suffice, and elements that no test of a route, an accepted route or a session could mark and that are neither
+entries of access lists nor filters of interfaces."""
 import itertools
 
 from facts import closure, stands
@@ -48,7 +49,8 @@ def roots(net):
 
 
 def dead(net, most):
-    """The elements that stand in no derivation of a root, ascending; None where the roots rest on more than so many facts.
+    """The elements that stand in no derivation of a root, but for filters and their entries, which only packets need, ascending; None where
+    the roots rest on more than so many facts.
 
     An element stands in some derivation of a fact exactly where the way down from the fact comes to it: each choice takes some parent, and one
     takes those on the way.
@@ -56,5 +58,5 @@ def dead(net, most):
     reached = closure(net, roots(net))
     if len(reached) > most:
         return None
-    count = sum(len(c["elements"]) for c in net.routers)
-    return [e for e in range(count) if ("Element", e) not in reached]
+    kinds = [key[0] for c in net.routers for key, _ in c["elements"]]
+    return [e for e, kind in enumerate(kinds) if kind not in ("filter", "group") and ("Element", e) not in reached]

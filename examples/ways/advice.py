@@ -45,6 +45,8 @@ ADVICE = (
     ("unsupported", r"^ip route", "route to an interface without a next hop: write the next hop behind it"),
     ("unsupported", r"route-reflector-client", "route reflection: write sessions between all routers of the system"),
     ("unsupported", r"^ip address|ip unnumbered", "address that isn't written: write the address that it has"),
+    ("unsupported", r"^(\d+ )?(permit|deny)|^access-list", "entry of an access list by which an interface filters, in a form that isn't read: write"
+     " it by addresses and wildcards, or take it out, and mind that the entries behind it decide on its packets then"),
     ("unsupported", r"^(match|set|continue)", "form of a route map that isn't read: write the clause with prefix lists and"
      " community lists, or take it out and mind what it did"),
 )

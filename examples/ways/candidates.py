@@ -1,7 +1,9 @@
 """Tests that could rest on a line of a configuration, by what the line is about."""
-from configurations import Clause, Entry, Interface, Neighbor, Router, Static
+import ipaddress
 
-NEAR = 8
+from configurations import Clause, Entry, Filter, Interface, Neighbor, Permission, Router, Static, agrees
+
+NEAR, MOST_ENDS = 8, 32
 
 
 def naming(router, entry):
@@ -14,6 +16,16 @@ def used(router):
     return {name for neighbor in router.neighbors.values() for name in neighbor.maps.values()}
 
 
+def filtering(router, permission):
+    """The filters that name the list of an entry."""
+    return [f for f in router.filters.values() if f.list == permission.list]
+
+
+def deciding(router, name, source, target):
+    """The entry of a list that decides on a packet between these addresses; None where none is of it."""
+    return next((entry for entry in router.permissions_of(name) if entry.is_of(source, target)), None)
+
+
 class Candidates:
     """Makes tests of a network's files."""
 
@@ -21,6 +33,7 @@ class Candidates:
         self.net = net
         self.begun = sorted({prefix for router in net.routers for prefix in (*router.networks, *router.aggregates) if prefix})
         self.around = {router.name: self.near(router) for router in net.routers}
+        self.ends = self.hosts()
 
     def near(self, router):
         """The routers to which routes of this one may go, the nearest first, at most NEAR."""
@@ -34,9 +47,40 @@ class Candidates:
     def of(self, router, thing):
         """The tests that could rest on a thing of a router's file, those that say most first."""
         kinds = {Interface: self.of_interface, Static: self.of_static, Neighbor: self.of_neighbor, Clause: self.of_clause,
-                 Entry: self.of_entry, Router: self.of_process, tuple: self.of_begun}
+                 Entry: self.of_entry, Router: self.of_process, tuple: self.of_begun,
+                 Permission: self.of_permission, Filter: self.of_filter}
         make = kinds.get(type(thing))
         return list(dict.fromkeys(make(router, thing))) if make else []
+
+    def hosts(self):
+        """Addresses of packets: one in each network of the files that has room for hosts, then those of routers."""
+        faces = [i for router in self.net.routers for i in router.interfaces.values() if i.up and i.prefix]
+        nets = dict.fromkeys(int(i.prefix[9]) for i in faces if i.prefix.prefixlen < 29)
+        return [*nets, *(int(ipaddress.ip_address(i.address)) for i in faces)]
+
+    def of_permission(self, router, permission):
+        """An entry of an access list that permits: flows on which it decides, past each filter that names its list."""
+        return [test for found in filtering(router, permission) for test in self.past(router, found, permission)]
+
+    def of_filter(self, router, found):
+        """A filter of an interface: flows on which an entry of its list decides."""
+        return [test for permission in router.permissions_of(found.list) for test in self.past(router, found, permission)]
+
+    def past(self, router, found, permission):
+        """Flows past a filter on which an entry decides: out of its router, or into it from one beside its interface."""
+        if not permission.permit or not permission.ip or not found.interface.up:
+            return []
+        own = [int(ipaddress.ip_address(found.interface.address)), permission.target[0]]
+        targets = [a for a in [*self.ends[:MOST_ENDS], *own] if agrees(permission.target, a)]
+        pairs = [(self.source(router, permission, target), target) for target in dict.fromkeys(targets)]
+        beside = (r for r in self.net.routers if r is not router and any(i.up and i.prefix == found.interface.prefix for i in r.interfaces.values()))
+        begins = [router] if found.way == "out" else list(beside)
+        return [f"flow {begin.name} {ipaddress.ip_address(a)} {ipaddress.ip_address(b)}" for begin in begins for a, b in pairs if a is not None]
+
+    def source(self, router, permission, target):
+        """An address from which a packet comes on which an entry decides; None where none is known."""
+        ends = (a for a in [*self.ends, permission.source[0]] if a != target)
+        return next((a for a in ends if deciding(router, permission.list, a, target) is permission), None)
 
     def of_interface(self, router, interface):
         """An interface that is up: its prefix, where it is announced also on the routers around."""

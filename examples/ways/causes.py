@@ -5,6 +5,7 @@ import re
 import shutil
 import tempfile
 
+from candidates import deciding
 from program import ask
 
 
@@ -62,6 +63,8 @@ class Trail:
             return self.of_session(router, words[2])
         if words[0] in ("reach", "every"):
             return self.of_packet(words[0], router, words[2], [])
+        if words[0] == "flow":
+            return self.of_flow(router, words[2], words[3], [])
         if words[0] not in ("rib", "bgp"):
             return f"what `{words[0]}` rests on isn't known to this script"
         prefix = ipaddress.ip_network(words[2])
@@ -264,6 +267,32 @@ class Trail:
                 return self.of_packet(command, other, address, [*passed, router.name])
         return "the packet arrives from each next router: the way has more than 30 hops"
 
+    def of_flow(self, router, source, target, passed):
+        """Follows a flow from router to router up to the filter that stops it."""
+        if not self.holds(f"reach {router.name} {target}"):
+            return self.of_packet("reach", router, target, [])
+        others = self.next_routers(router, target)
+        for other in others:
+            if other.name not in passed and not self.holds(f"flow {other.name} {source} {target}"):
+                return self.of_flow(other, source, target, [*passed, router.name])
+        return self.by_filters(router, others, source, target) or f"filters stop it on each way from {router.name}"
+
+    def next_routers(self, router, target):
+        """The routers to which a router may hand a packet."""
+        covers = [ipaddress.ip_network(f"{target}/{length}", strict=False) for length in range(32, -1, -1)]
+        held = self.asker.all([f"rib {router.name} {prefix}" for prefix in covers])
+        prefix = next(prefix for prefix, holds in zip(covers, held) if holds)
+        found = [next_router(self.net, router, hop) for hop in self.hops_of(router, prefix) or [target]]
+        return [other for other in dict.fromkeys(found) if other not in (None, router)]
+
+    def by_filters(self, router, others, source, target):
+        """Which filter between a router and the next ones stops a flow, tried on copies without it."""
+        test = f"flow {router.name} {source} {target}"
+        for at, way in ((router, "out"), *((other, "in") for other in others)):
+            if self.asker.without(at.file, rf"^ +ip access-group \S+ {way} *$", "!", test):
+                return f"{at.name} doesn't let it {way}: {denied(at, way, source, target)}"
+        return None
+
     def no_route(self, router, address, covers):
         """Why a router has no route for an address: where one that covers it is begun, that one is followed."""
         begun = {prefix for other in self.net.routers for prefix in (*other.networks, *other.aggregates)}
@@ -277,6 +306,20 @@ class Trail:
         """Where a longer prefix with the address is begun, why it isn't here."""
         within = [p for other in self.net.routers for p in other.networks if ipaddress.ip_address(address) in p and p.prefixlen > prefix.prefixlen]
         return f"; {max(within, key=lambda p: p.prefixlen)} isn't there: " + self.of_chosen(router, max(within, key=lambda p: p.prefixlen)) if within else ""
+
+
+def denied(router, way, source, target):
+    """Which entries of a router's filters of a direction deny a packet, by their lines."""
+    found = []
+    for name in dict.fromkeys(f.list for f in router.filters.values() if f.way == way):
+        ends = [int(ipaddress.ip_address(address)) for address in (source, target)]
+        entry = deciding(router, name, *ends)
+        if entry is None and router.permissions_of(name):
+            found.append(f"no entry of {name} is of it")
+        elif entry is not None and not entry.permit:
+            number = router.line_of(entry)
+            found.append(f"{router.name}:{number} {' '.join(router.lines[number - 1].text.split())}")
+    return ", ".join(found)
 
 
 def covering(router, address):

@@ -32,6 +32,25 @@ def is_address(word):
     return True
 
 
+ALL = 2**32 - 1
+STANDARD = (*range(1, 100), *range(1300, 2000))
+
+
+def agrees(end, address):
+    """Whether an address agrees with an end of an entry in every bit that is 0 in the wildcard."""
+    return not (address ^ end[0]) & ~end[1]
+
+
+def end_of(words):
+    """The end of an entry with which some words begin, and the words behind it."""
+    if words[0] == "any":
+        return (0, ALL), words[1:]
+    address = int(ipaddress.IPv4Address(words[words[0] == "host"]))
+    if words[0] == "host" or len(words) < 2 or not is_address(words[1]):
+        return (address, 0), words[1 + (words[0] == "host"):]
+    return (address, int(ipaddress.IPv4Address(words[1]))), words[2:]
+
+
 @dataclass
 class Interface:
     """An interface with what its statements set."""
@@ -86,6 +105,35 @@ class Entry:
 
 
 @dataclass
+class Permission:
+    """An entry of an access list: its ends are an address and a wildcard each, and `ip` says whether it is of every protocol."""
+
+    list: str
+    permit: bool
+    ip: bool = True
+    source: tuple = (0, ALL)
+    target: tuple = (0, ALL)
+
+    def is_of(self, source, target):
+        """Whether it is of a packet between these addresses."""
+        return self.ip and agrees(self.source, source) and agrees(self.target, target)
+
+    def takes_all(self, other):
+        """Whether it is of all packets of which another entry is."""
+        ends = ((self.source, other.source), (self.target, other.target))
+        return self.ip and all(agrees(mine, theirs[0]) and not theirs[1] & ~mine[1] for mine, theirs in ends)
+
+
+@dataclass
+class Filter:
+    """The filter of an interface for what comes in or goes out, with the name of its list."""
+
+    interface: Interface
+    way: str
+    list: str
+
+
+@dataclass
 class Static:
     """A static route; distance is what its line says, or 1."""
 
@@ -112,6 +160,7 @@ class Router:
         self.file, self.name, self.system = file, None, None
         self.lines, self.interfaces, self.neighbors, self.clauses = [], {}, {}, {}
         self.networks, self.aggregates, self.statics, self.entries = {}, {}, [], []
+        self.permissions, self.filters = [], {}
         header, banner = "", False
         for number, text in enumerate(lines_of(open(file, "rb").read()), 1):
             words = text.split()
@@ -153,7 +202,25 @@ class Router:
             entry = self.prefix_entry(words[2:]) if words[1] == "prefix-list" else self.community_entry(words[2:])
             self.entries.append(entry)
             return entry
+        if words[0] == "access-list":
+            return self.permission(words[1], words[2:], int(words[1]) in STANDARD)
         return None
+
+    def permission(self, name, words, standard):
+        """An entry of an access list, of the words from its number or its action on; None where it is none."""
+        words = words[1:] if words[0].isdigit() else words
+        if words[0] not in ("permit", "deny"):
+            return None
+        entry = Permission(name, words[0] == "permit")
+        if standard:
+            entry.source, _ = end_of(words[1:])
+        elif words[1] == "ip":
+            entry.source, rest = end_of(words[2:])
+            entry.target, _ = end_of(rest)
+        else:
+            entry.ip = False
+        self.permissions.append(entry)
+        return entry
 
     @staticmethod
     def static_of(words):
@@ -184,13 +251,16 @@ class Router:
             return self.of_interface(self.interfaces[header[1]], words)
         if header[:2] == ["router", "bgp"]:
             return self.of_process(words)
+        if header[:2] == ["ip", "access-list"]:
+            return self.permission(header[3], words, header[2] == "standard")
         if header[0] == "route-map":
             return self.of_clause(self.clauses[header[1], header[3]], words)
         return None
 
-    @staticmethod
-    def of_interface(interface, words):
+    def of_interface(self, interface, words):
         """A line of an interface's block."""
+        if words[:2] == ["ip", "access-group"]:
+            return self.filter_of(interface, words[2:])
         if words[:2] == ["ip", "address"]:
             interface.address, interface.prefix = words[2], network(words[2], words[3])
         if words[:3] == ["no", "ip", "address"]:
@@ -198,6 +268,18 @@ class Router:
         if words in (["shutdown"], ["no", "shutdown"]):
             interface.shut = words == ["shutdown"]
         return interface
+
+    def filter_of(self, interface, words):
+        """The filter of an interface in a direction; None where a line is none."""
+        if len(words) != 2 or words[1] not in ("in", "out"):
+            return None
+        found = self.filters.setdefault((interface.name, words[1]), Filter(interface, words[1], words[0]))
+        found.list = words[0]
+        return found
+
+    def permissions_of(self, name):
+        """The entries of an access list, in order."""
+        return [entry for entry in self.permissions if entry.list == name]
 
     def of_process(self, words):
         """A line of a process's block."""

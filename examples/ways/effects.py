@@ -2,9 +2,10 @@
 
 EFFECTS = (
     ("taken out of a copy by `refusals`, and missing", r"unread"),
-    ("packets are filtered: reach and every pass the filter over", r"ip access-group|ipv4 access-group|ip inspect|zone-member security|service-policy|"
+    ("packets are filtered, and no test asks this filter", r"ip access-group|ipv4 access-group|ip inspect|zone-member security|service-policy|"
      r"traffic-filter|ip verify|crypto map"),
-    ("entries of such filters", r"ip access-list|access-list|permit|deny|\d+ (permit|deny)|zone-pair|policy-map|class-map|crypto"),
+    ("entries of such filters, and lines of lists that aren't read", r"ip access-list(?! (?:standard|extended) \S+$)|access-list(?! \d+ remark)|"
+     r"no (?:ip )?access-list|no \d+|evaluate|permit|deny|\d+ (permit|deny)|zone-pair|policy-map|class-map|crypto"),
     ("an address that routers share: the gateway that a host has isn't in the files", r"standby|vrrp|glbp"),
     ("routes are accepted or chosen otherwise", r"bgp (maxas-limit|nexthop|bestpath|enforce-first-as|listen|suppress-inactive|deterministic-med|"
      r"cluster-id|client-to-client|dmzlink-bw|redistribute-internal|update-delay|rpki|graceful-shutdown|slow-peer)|no bgp(?! log)|"
@@ -25,7 +26,7 @@ QUIET = (
     r"ip (classless|cef|helper-address|domain|name-server|ssh|http|ftp|tftp|scp|forward-protocol|subnet-zero|bgp-community new-format|tacacs|radius|flow)|"
     r"no ip (domain|http|bootp|finger|gratuitous-arps|redirects|unreachables|proxy-arp|source-route|directed-broadcast|mroute-cache|route-cache)|"
     r"ip route-cache|bgp log-neighbor-changes|neighbor \S+ (description|send-community extended|soft-reconfiguration)|no auto-summary|no synchronization|"
-    r"alias|archive|log config|hidekeys|license|redundancy|multilink|memory-size|stopbits|access-class|history|"
+    r"remark|\d+ remark|access-list \d+ remark|ip access-list|alias|archive|log config|hidekeys|license|redundancy|multilink|memory-size|stopbits|access-class|history|"
     r"cdp|no cdp|lldp|no lldp|tacacs|radius|certificate|quit|crypto pki|[0-9A-F]{8}|enrollment|subject-name|revocation-check|rsakeypair|"
     r"no (aaa|shutdown)|ip prefix-list|no platform|platform|control-plane|diagnostic|mode|spanning-tree extend|subscriber|process|hw-module|card|Building|Current|boot-\w+-marker|no ipv6|no mpls|vrf definition|ip vrf|rd|route-target|address-family|exit-address-family"
 )

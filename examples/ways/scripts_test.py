@@ -21,6 +21,7 @@ HERE = os.path.dirname(os.path.abspath(__file__))
 EXAMPLES = os.path.dirname(HERE)
 BACKBONE = sorted(glob.glob(os.path.join(EXAMPLES, "backbone", "*.cfg")))
 SYSTEMS = sorted(glob.glob(os.path.join(EXAMPLES, "three-systems", "*.cfg")))
+EDGE = sorted(glob.glob(os.path.join(EXAMPLES, "guarded-edge", "*.cfg")))
 ONLY_DENY = {("north", line) for line in (53, 54, 55, 56, 57, 58, 61, 62, 63, 64)}
 
 
@@ -123,6 +124,19 @@ def suggest_asks_few_of_dead_lines(folder):
     has(replies(BACKBONE, "dead\n"), " bank:18 east:49 ")
 
 
+def suggest_flows(folder):
+    """Flows cover entries of access lists and filters; of what they can't cover stands why."""
+    said = run("suggest", EDGE)[1]
+    tests = [line for line in said.splitlines() if line.startswith("flow ")]
+    assert len(tests) == 3 and any("edge:8-9 " in line and "edge:27 " in line for line in said.splitlines()), said
+    has(said, "edge:29 permit ip 198.51.100.0 0.0.0.255 203.0.113.8 0.0.0.7: line 27 takes every packet that it is of\n")
+    has(said, "edge:31 permit tcp any 203.0.113.64 0.0.0.63 established: it is of another protocol than ip")
+    has(said, "edge:34 access-list 10 deny   203.0.113.8 0.0.0.7: it only denies\n")
+    text = open(EDGE[0], encoding="utf-8").read().replace(" permit ip any 203.0.113.0 0.0.0.15\n", " permit ip any 203.0.113.0 0.0.0.7\n permit ip any 203.0.113.8 0.0.0.7\n")
+    text = text.replace(" permit ip 198.51.100.0 0.0.0.255 203.0.113.8 0.0.0.7\n", " permit ip 198.51.100.0 0.0.0.255 203.0.113.0 0.0.0.15\n")
+    has(run("suggest", [file_of(folder, "edge.cfg", text), *EDGE[1:]])[1], "203.0.113.0 0.0.0.15: no flow is known on which it decides\n")
+
+
 def why_ends_with(files, test, end):
     status, said, _ = run("why", files, test + "\n")
     same(status, 1)
@@ -149,6 +163,13 @@ def changed(folder, name, *changes):
         assert old in text, old
         text = text.replace(old, new)
     return [other if other != file else file_of(folder, name, text) for other in BACKBONE]
+
+
+def why_flows(_):
+    why_ends_with(EDGE, "flow edge 203.0.113.10 203.0.113.70", "edge doesn't let it out: edge:34 access-list 10 deny 203.0.113.8 0.0.0.7")
+    why_ends_with(EDGE, "flow provider 198.18.0.10 203.0.113.70", "edge doesn't let it in: no entry of FROM-OUTSIDE is of it")
+    why_ends_with(EDGE, "flow provider 203.0.113.3 203.0.113.2", "edge doesn't let it in: edge:25 deny ip 203.0.113.0 0.0.0.255 any")
+    why_ends_with(EDGE, "flow office 203.0.113.70 192.0.2.9", "provider has no route to 192.0.2.9, and no file begins one by BGP")
 
 
 def why_sessions(folder):
@@ -296,7 +317,7 @@ def outside_as_the_document_says(folder):
     """Each statement of LANGUAGE's table of what is outside is accepted, and its line is outside and is listed as one that matters."""
     text = open(os.path.join(os.path.dirname(EXAMPLES), "docs", "LANGUAGE.md"), encoding="utf-8").read()
     rows = re.findall(r"^\| (.*?) \| (`.*?) \| ", text.partition("## What is outside")[2].partition("\n## ")[0], re.M)
-    headers = {"interface": "interface Ethernet0\n ip address 10.0.0.1 255.255.255.0", "process": "router bgp 1"}
+    headers = {"interface": "interface Ethernet0\n ip address 10.0.0.1 255.255.255.0", "process": "router bgp 1", "list": "ip access-list extended NAME"}
     lines, count = ["hostname a"], 0
     for where, statements in rows:
         lines += headers[where].split("\n") if where in headers else []
@@ -308,7 +329,7 @@ def outside_as_the_document_says(folder):
     status, said, told = run("outside", [file_of(folder, "a.cfg", "\n".join(lines) + "\n")])
     same((status, told), (0, ""))
     same(said.count("\n  "), count)
-    same(said.splitlines()[-1], "0 statements carry no traffic")
+    same(said.splitlines()[-1], "1 statements carry no traffic")
     assert "not known here" not in said, said
 
 
@@ -390,7 +411,7 @@ def help_is_there(_):
 TESTS = (
     suggest_without_the_first_half, suggest_without_each_second, suggest_from_nothing, suggest_nothing_needless,
     suggest_for_weak_lines, suggest_tells_refused_lines, suggest_tells_what_was_not_asked, suggest_tells_dead_lines,
-    suggest_asks_few_of_dead_lines, why_routes, why_packets, why_sessions, why_next_hop, why_shut_interfaces, why_routes_inside, why_distances,
+    suggest_asks_few_of_dead_lines, suggest_flows, why_routes, why_packets, why_flows, why_sessions, why_next_hop, why_shut_interfaces, why_routes_inside, why_distances,
     why_shared_addresses, why_nothing_absent, why_lines_that_are_not_asked, refusals_in_one_go,
     refusals_take_whole_families_out, refusals_of_banners, refusals_of_what_has_pitfalls, refusals_of_another_encoding,
     refusals_of_a_missing_file, groups_written_out, outside_most_telling_first, outside_as_the_document_says, elements_by_text, check_compares_lines,

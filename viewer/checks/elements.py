@@ -72,6 +72,39 @@ shutdown
 line vty 0 4
  login
 end
+interface Ethernet0
+ ip access-group F in
+ ip access-group 10 out
+ ip access-group F
+interface Ethernet1
+ ip access-group F in
+interface Ethernet0
+ ip access-group G in
+ip access-list extended G
+ remark x
+ permit ip any any log-input
+ 10 deny ip host 10.0.0.1 10.0.0.0 0.0.0.255 log
+ permit tcp any any eq 80
+ permit any
+ip access-list standard F
+ permit any log
+ deny 10.0.0.1
+ 20 permit 10.0.0.0 0.0.0.254
+!
+	deny   host 10.0.0.3
+ip access-list standard H
+ permit any any
+ permit host 10.0.0.1 log x
+ permit 10.0.0.1
+ 05 permit any
+access-list 10 permit any
+access-list 10 remark x
+access-list 200 permit any
+access-list 2000 permit ip any any
+access-list 1300 deny host 10.0.0.9
+ permit any
+ip access-list extended X y
+ permit ip any any
 """
 
 READ = """[...sides.now.routers.values()].map(router => [router.name, [...router.marks].map((mark, k) => mark === OUTSIDE ? [] : linesOfElement(router, k))])"""
@@ -92,7 +125,7 @@ def told_by_netcov(files):
 
 
 def check_examples(page):
-    for example in ("three-systems", "two-ways", "static-pair", "first-run", "backbone"):
+    for example in ("three-systems", "two-ways", "static-pair", "first-run", "backbone", "guarded-edge"):
         files = files_of(example)
         agree(page, files)
 
@@ -112,7 +145,8 @@ def check_odd_forms(page):
     agree(page, [page.file("odd.cfg", ODD)])
     lines = dict(page.run(READ))["odd"]
     assert sum(bool(one) for one in lines) > 40
-    assert lines[5] == [3, 5, 11, 12] and lines[13] == [13, 14] and lines[44] == [44, 45], lines
+    assert lines[5] == [3, 5, 11, 12, 68, 74] and lines[13] == [13, 14] and lines[44] == [44, 45], lines
+    assert lines[69] == [69, 75] and lines[70] == [70] and lines[80] == [80] and lines[87] == [87] and lines[90] == [], lines
 
 
 CHECKS = (check_examples, check_odd_forms)

@@ -154,7 +154,7 @@ def marks_beside(files, tests, asked):
 def check_likely(page):
     """The likely tests of uncovered lines are lines of a session, and all but few of them hold and cover their line."""
     for example, kept, misses in (("three-systems", slice(4, 5), set()), ("two-systems", slice(1), set()), ("two-ways", slice(1), set()),
-                                  ("backbone", slice(0, None, 3), {("east", 48)})):
+                                  ("backbone", slice(0, None, 3), {("east", 48)}), ("guarded-edge", slice(1), set())):
         files, tests = files_of(example), tests_of(example)[kept]
         page.fresh()
         page.read(("replies", Session(files).write("\n".join(tests) + "\n" + shows_of(files))))
@@ -219,4 +219,26 @@ def check_begun(page):
     assert legend == ["S strong", "W weak", "U uncovered", ". outside"] and page.run("part('file-legend').getBoundingClientRect().bottom <= innerHeight"), legend
 
 
-CHECKS = (check_refused, check_broken, check_percent, check_first, check_uncertain, check_likely, check_copied, check_asked, check_begun)
+def check_flows(page):
+    """Flows are tests like others: what is refused stands on top, a covered line tells the flow that covered it first, and an uncovered
+    entry the flow that would, or why there is none."""
+    files, tests = files_of("guarded-edge"), tests_of("guarded-edge")
+    asked = "\n".join(tests[:2] + tests[6:8]) + "\n" + shows_of(files)
+    page.fresh()
+    page.read(("replies", Session(files).write(asked)), ("session", asked.encode()))
+    assert page.messages() == [], page.messages()
+    told = ["4 flow provider 198.18.0.10 203.0.113.70 no such packet arrives past all filters"]
+    assert page.run(LIST) == told, page.run(LIST)
+    taken = "Line 27 takes every packet that it is of, so no test rests on it."
+    for line, about in ((27, ["edge 27: strong, an entry of an access list. Covered first by test 1, flow provider 198.18.0.10 203.0.113.2."]),
+                        (29, ["edge 29: uncovered, an entry of an access list. ", taken]),
+                        (31, ["edge 31: uncovered, an entry of an access list. ", "An entry of another protocol than ip decides on no flow, so no test rests on it."])):
+        page.go(f"#edge:{line}")
+        assert page.run(ABOUT) == about, page.run(ABOUT)
+    page.go("#edge:18")
+    assert page.run(ABOUT)[1].startswith("Likely test: flow edge "), page.run(ABOUT)
+    page.go("#edge:34")
+    assert page.run(ABOUT)[1].startswith("Once somebody has looked at it: element edge 34 "), page.run(ABOUT)
+
+
+CHECKS = (check_refused, check_broken, check_percent, check_first, check_uncertain, check_likely, check_flows, check_copied, check_asked, check_begun)

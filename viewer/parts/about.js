@@ -3,7 +3,7 @@
 const KINDS = {
   interface: "an interface", route: "a static route", process: "the BGP process", network: "a network of the process",
   aggregate: "an aggregate", neighbor: "a neighbor", clause: "a clause of a route map", entry: "an entry of a prefix list",
-  community: "an entry of a community list",
+  community: "an entry of a community list", filter: "an entry of an access list", group: "the filter of an interface in a direction",
 };
 
 /** Shows below the file what is known of the marked line, and tells readers of screens which it is. */

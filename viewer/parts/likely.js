@@ -17,17 +17,26 @@ function isHeldBack(aggregates, prefix) {
 /** What the files of all routers of a session tell of the network. Files that aren't here are missing in it. */
 class Network {
   constructor(routers) {
-    Object.assign(this, { owners: new Map(), begun: [], communities: new Set(), others: new Map() });
+    Object.assign(this, { owners: new Map(), begun: [], communities: new Set(), others: new Map(), faces: [], finders: new Map() });
     for (const router of routers.values()) this.take(router, [...elementsOf(router)?.all.values() ?? []]);
   }
 
   take(router, elements) {
     const aggregates = elements.filter(({ kind }) => kind === "aggregate");
-    for (const { kind, address, shut, prefix, sets } of elements) {
-      if (kind === "interface" && address !== null && !shut) this.owners.set(addressText(address), router);
+    for (const { kind, address, length, shut, prefix, sets } of elements) {
+      if (kind === "interface" && address !== null && !shut) {
+        this.owners.set(addressText(address), router);
+        this.faces.push({ router, address, prefix: prefixOf(address, length) });
+      }
       if ((kind === "network" || kind === "aggregate") && !isHeldBack(aggregates, prefix)) this.begun.push({ router, prefix });
       if (kind === "clause") sets.forEach((community) => this.communities.add(community));
     }
+  }
+
+  /** What finds flows past the filters of a router. */
+  flows(router) {
+    if (!this.finders.has(router)) this.finders.set(router, new Flows(this, router));
+    return this.finders.get(router);
   }
 
   /** The prefixes that routers other than this one begin and send, without repetition. */
@@ -49,7 +58,7 @@ function usersOf(elements, { kind, list }) {
 
 /** Whether a line can't do more than deny: a clause or an entry that says so, and an entry that clauses name which all deny. */
 function onlyDenies(elements, element) {
-  if (element.permits !== true || element.kind === "clause") return element.permits === false;
+  if (element.permits !== true || element.kind === "clause" || element.kind === "filter") return element.permits === false;
   const users = usersOf(elements, element);
   return users.length > 0 && users.every(({ permits }) => !permits);
 }
@@ -147,11 +156,19 @@ class Likely {
     return this.through(usersOf(this.elements, entry), () => true, []);
   }
 
+  filter(entry) {
+    return onlyDenies(this.elements, entry) ? this.denies(entry) : this.known.flows(this.router).ofEntry(entry);
+  }
+
+  group(group) {
+    return this.known.flows(this.router).ofGroup(group);
+  }
+
   denies(element) {
     const line = element.lines[0] + 1;
     return {
       tests: [`element ${this.name} ${line}`],
-      note: "A line that only denies is covered by no test of a route: a test rests on what is there.",
+      note: "A line that only denies is covered by no test of a route or a flow: a test rests on what is there.",
     };
   }
 

@@ -29,6 +29,40 @@ function classLength(address) {
   return first < 128 ? 8 : first < 192 ? 16 : 24;
 }
 
+/** The numbers of access lists by which `access-list` tells a standard one, and an extended one. */
+const isBetween = (number, ...ranges) => ranges.some(([low, high]) => number >= low && number <= high);
+const isStandard = (number) => isBetween(number, [1, 99], [1300, 1999]);
+const isExtended = (number) => isBetween(number, [100, 199], [2000, 2699]);
+const isNumber = (word) => /^(?:0|[1-9]\d*)$/.test(word ?? "");
+const isAction = (word) => word === "permit" || word === "deny";
+
+const ANYWHERE = { address: 0, wild: -1 };
+
+/** Whether an address agrees with that of an entry in every bit that is 0 in the wildcard. */
+const agrees = (side, address) => ((side.address ^ address) & ~side.wild) === 0;
+
+/** The addresses that some words begin with and the words behind, or null; in a standard list an address may stand alone. */
+function sideOf(words, standard) {
+  const [first, second] = words;
+  if (first === "any") return { side: ANYWHERE, rest: words.slice(1) };
+  const [address, wild] = [addressOf(first), addressOf(second)];
+  if (first === "host" && wild !== null) return { side: { address: wild, wild: 0 }, rest: words.slice(2) };
+  if (address !== null && wild !== null) return { side: { address, wild }, rest: words.slice(2) };
+  return standard && address !== null ? { side: { address, wild: 0 }, rest: words.slice(1) } : null;
+}
+
+/** What an entry of an access list says, of the words from `permit` or `deny` on; null where it is read by no form. */
+function entryOf([action, ...words], standard) {
+  const said = { permits: action === "permit", ip: true, to: ANYWHERE };
+  if (!standard && words.length > 0 && words[0] !== "ip") return { ...said, ip: false, from: ANYWHERE };
+  const from = sideOf(standard ? words : words.slice(1), standard);
+  const to = standard || from === null ? from : sideOf(from.rest, false);
+  if (to === null || to.rest.length > 1) return null;
+  const [last = "log"] = to.rest;
+  if (last !== "log" && (standard || last !== "log-input")) return null;
+  return { ...said, from: from.side, ...(standard ? {} : { to: to.side }) };
+}
+
 /**
  * The elements of a file: what its statements make, an interface, a route, a clause and so on. Several lines may be of one.
  * `of` has the element of each line, null where it makes none; `all` has each element once, by its key.
@@ -83,6 +117,8 @@ class Elements {
     } else if (first === "ip" && second === "route") return this.route(words, k);
     else if (first === "ip" && second === "prefix-list") return this.entry(words, k);
     else if (first === "ip" && second === "community-list") return this.community(words, k);
+    else if (first === "ip" && second === "access-list") return this.openList(words);
+    else if (first === "access-list") return this.numbered(words, k);
     return this.block;
   }
 
@@ -125,16 +161,45 @@ class Elements {
     });
   }
 
+  /** The header of an access list: its lines are elements, and it is none. */
+  openList(words) {
+    const kind = words[2];
+    if (words.length === 4 && (kind === "standard" || kind === "extended")) this.block = { kind: "list", name: words[3], standard: kind === "standard" };
+    return null;
+  }
+
+  /** An entry of an access list that `access-list` tells. */
+  numbered([, number, ...words], k) {
+    if (!isNumber(number) || !isAction(words[0]) || !(isStandard(number) || isExtended(number))) return null;
+    return this.filter(number, entryOf(words, isStandard(number)), k);
+  }
+
+  inList(words, k, { name, standard }) {
+    const entry = isNumber(words[0]) ? words.slice(1) : words;
+    return isAction(entry[0]) ? this.filter(name, entryOf(entry, standard), k) : null;
+  }
+
+  filter(list, said, k) {
+    return said === null ? null : this.element("filter", k, k, { list, ...said });
+  }
+
+  /** The filter of an interface and a direction; the last one tells the list. */
+  group([, , list, way], block, k) {
+    return Object.assign(this.element("group", `${block.name} ${way}`, k, { face: block, way }), { list });
+  }
+
   inBlock(words, k) {
     const { block } = this;
     if (block === null) return null;
-    if (block.kind === "interface") return this.inInterface(words, block);
+    if (block.kind === "interface") return this.inInterface(words, k, block);
+    if (block.kind === "list") return this.inList(words, k, block);
     if (block.kind === "clause") return this.inClause(words, block);
     return this.inProcess(words, k, block);
   }
 
-  inInterface(words, block) {
+  inInterface(words, k, block) {
     const said = words.join(" ");
+    if (/^ip access-group \S+ (?:in|out)$/.test(said)) return this.group(words, block, k);
     if (said === "shutdown" || said === "no shutdown") block.shut = words.length === 1;
     else if (said === "no ip address") Object.assign(block, { address: null, length: null });
     else if (said.startsWith("ip address ")) {

@@ -4,7 +4,7 @@ const TESTS = ["rib", "bgp", "session", "reach", "every", "element", "flow"];
 
 const ABSENT = {
   rib: "its main table has no such row", bgp: "no such route is chosen", session: "no such session is established",
-  reach: "no packet arrives", every: "there is no way, or one of them doesn't arrive", flow: "no packet arrives so",
+  reach: "no packet arrives", every: "there is no way, or one of them doesn't arrive", flow: "no such packet arrives past all filters",
 };
 const REFUSALS = [
   ["refused syntax", "the line is no command"],
