@@ -56,58 +56,56 @@ made_same : (name : List ℕ) (f g : Option Fault) (a b : Option (ℕ × IfaceAd
 made_same name f g a b s t ls ms e h i j =
     ap (λ (f : Option Fault). made name f a s ls) e ∙ ap (λ (a : Option (ℕ × IfaceAddr)). made name g a s ls) h ∙ ap (λ (s : Bool). made name g b s ls) i ∙ ap (λ (ls : List ℕ). made name g b t ls) j
 
-goes_on : (name : List ℕ) (old new : Draft) (l : Numbered) (block : List Numbered) → interface_fault (l ∷ block) ≡ interface_fault block
+goes_on : (name before after : List ℕ) (old new : Draft) (l : Numbered) (block : List Numbered) → interface_fault (l ∷ block) ≡ interface_fault block
     → address_behind old.address (interface_statements (l ∷ block)) ≡ address_behind new.address (interface_statements block)
     → shut_behind old.shut (interface_statements (l ∷ block)) ≡ shut_behind new.shut (interface_statements block)
-    → old.lines.items ++ lines_in (l ∷ block) ≡ new.lines.items ++ lines_in block → finished name old (l ∷ block) ≡ finished name new block
+    → before ++ lines_in (l ∷ block) ≡ after ++ lines_in block → finished name before old (l ∷ block) ≡ finished name after new block
 unfolding finished
-goes_on name old new l block e h i j = made_same name _ _ _ _ _ _ _ _ e h i j
+goes_on name before after old new l block e h i j = made_same name _ _ _ _ _ _ _ _ e h i j
 
--- a header adds its line
-pub takes_header : (name : List ℕ) (old new : Draft) (l : Numbered) (block : List Numbered) → is_indented l.text ≡ false
-    → new.address ≡ old.address → new.shut ≡ old.shut → new.lines.items ≡ old.lines.items ++ l.line ∷ [] → finished name old (l ∷ block) ≡ finished name new block
-takes_header name old new l block header address shut lines =
+-- a header sets nothing, and counts
+pub takes_header : (name before : List ℕ) (d : Draft) (l : Numbered) (block : List Numbered) → is_indented l.text ≡ false
+    → finished name before d (l ∷ block) ≡ finished name (before ++ l.line ∷ []) d block
+takes_header name before d l block header =
     let says = header_says l header in
     let same = not_stated line_says l block Outside says refl in
-    goes_on name old new l block (no_fault line_says l block Outside says refl)
-    (ap (address_behind old.address) same ∙ ap (λ (a : Option (ℕ × IfaceAddr)). address_behind a (interface_statements block)) (sym address))
-    (ap (shut_behind old.shut) same ∙ ap (λ (b : Bool). shut_behind b (interface_statements block)) (sym shut))
-    (counted l block old.lines.items (ap (λ (b : Bool). not b || is_some (said_of (line_says l))) header) ∙ ap (λ (ls : List ℕ). ls ++ lines_in block) (sym lines))
+    goes_on name before (before ++ l.line ∷ []) d d l block (no_fault line_says l block Outside says refl) (ap (address_behind d.address) same) (ap (shut_behind d.shut) same)
+    (counted l block before (ap (λ (b : Bool). not b || is_some (said_of (line_says l))) header))
 
 -- what isn't read adds nothing
-pub passes_line : (name : List ℕ) (d : Draft) (l : Numbered) (block : List Numbered) → is_indented l.text ≡ true → setting_says (words_of l.text) ≡ Outside
-    → finished name d (l ∷ block) ≡ finished name d block
-passes_line name d l block inside e =
+pub passes_line : (name before : List ℕ) (d : Draft) (l : Numbered) (block : List Numbered) → is_indented l.text ≡ true → setting_says (words_of l.text) ≡ Outside
+    → finished name before d (l ∷ block) ≡ finished name before d block
+passes_line name before d l block inside e =
     let says = indented_says l inside ∙ e in
     let same = not_stated line_says l block Outside says refl in
-    goes_on name d d l block (no_fault line_says l block Outside says refl) (ap (address_behind d.address) same) (ap (shut_behind d.shut) same)
-    (ap (λ (ls : List ℕ). d.lines.items ++ ls) (uncounted l block (ap (λ (b : Bool). not b || is_some (said_of (line_says l))) inside ∙ ap (λ (r : Reading Setting). is_some (said_of r)) says)))
+    goes_on name before before d d l block (no_fault line_says l block Outside says refl) (ap (address_behind d.address) same) (ap (shut_behind d.shut) same)
+    (ap (λ (ls : List ℕ). before ++ ls) (uncounted l block (ap (λ (b : Bool). not b || is_some (said_of (line_says l))) inside ∙ ap (λ (r : Reading Setting). is_some (said_of r)) says)))
 
--- a statement sets what it says, and adds its line
-pub takes_statement : (name : List ℕ) (old new : Draft) (l : Numbered) (s : Setting) (block : List Numbered) → is_indented l.text ≡ true → setting_says (words_of l.text) ≡ Says s
-    → new.address ≡ unwrap_or (address_by l.line s) old.address → new.shut ≡ unwrap_or (shut_by s) old.shut → new.lines.items ≡ old.lines.items ++ l.line ∷ []
-    → finished name old (l ∷ block) ≡ finished name new block
-takes_statement name old new l s block inside e address shut lines =
+-- a statement sets what it says, and counts
+pub takes_statement : (name before : List ℕ) (old new : Draft) (l : Numbered) (s : Setting) (block : List Numbered) → is_indented l.text ≡ true → setting_says (words_of l.text) ≡ Says s
+    → new.address ≡ unwrap_or (address_by l.line s) old.address → new.shut ≡ unwrap_or (shut_by s) old.shut
+    → finished name before old (l ∷ block) ≡ finished name (before ++ l.line ∷ []) new block
+takes_statement name before old new l s block inside e address shut =
     let says = indented_says l inside ∙ e in
     let same = stated line_says l block s says in
-    goes_on name old new l block (no_fault line_says l block (Says s) says refl)
+    goes_on name before (before ++ l.line ∷ []) old new l block (no_fault line_says l block (Says s) says refl)
     (ap (address_behind old.address) same ∙ address_more old.address l.line s (interface_statements block) ∙ ap (λ (a : Option (ℕ × IfaceAddr)). address_behind a (interface_statements block)) (sym address))
     (ap (shut_behind old.shut) same ∙ shut_more old.shut l.line s (interface_statements block) ∙ ap (λ (b : Bool). shut_behind b (interface_statements block)) (sym shut))
-    (counted l block old.lines.items (ap (λ (b : Bool). not b || is_some (said_of (line_says l))) inside ∙ ap (λ (r : Reading Setting). is_some (said_of r)) says) ∙ ap (λ (ls : List ℕ). ls ++ lines_in block) (sym lines))
+    (counted l block before (ap (λ (b : Bool). not b || is_some (said_of (line_says l))) inside ∙ ap (λ (r : Reading Setting). is_some (said_of r)) says))
 
 -- a faulty line is told of
-pub tells_line : (name : List ℕ) (d : Draft) (l : Numbered) (cause : Cause) (block : List Numbered) → is_indented l.text ≡ true → setting_says (words_of l.text) ≡ Faulty cause
-    → finished name d (l ∷ block) ≡ Err (record { line = l.line; cause = cause })
+pub tells_line : (name before : List ℕ) (d : Draft) (l : Numbered) (cause : Cause) (block : List Numbered) → is_indented l.text ≡ true → setting_says (words_of l.text) ≡ Faulty cause
+    → finished name before d (l ∷ block) ≡ Err (record { line = l.line; cause = cause })
 unfolding finished
-tells_line name d l cause block inside e =
-    ap (λ (f : Option Fault). made name f (address_behind d.address (interface_statements (l ∷ block))) (shut_behind d.shut (interface_statements (l ∷ block))) (d.lines.items ++ lines_in (l ∷ block))) (a_fault line_says l block cause (indented_says l inside ∙ e))
+tells_line name before d l cause block inside e =
+    ap (λ (f : Option Fault). made name f (address_behind d.address (interface_statements (l ∷ block))) (shut_behind d.shut (interface_statements (l ∷ block))) (before ++ lines_in (l ∷ block))) (a_fault line_says l block cause (indented_says l inside ∙ e))
 
 -- the first line of a block finds nothing set
-pub started : (name : List ℕ) (d : Draft) (block : List Numbered) → d.address ≡ None → d.shut ≡ false → d.lines.items ≡ [] → finished name d block ≡ interface_in name block
+pub started : (name : List ℕ) (d : Draft) (block : List Numbered) → d.address ≡ None → d.shut ≡ false → finished name [] d block ≡ interface_in name block
 unfolding finished interface_in
-started name d block none opened bare =
+started name d block none opened =
     let ss = interface_statements block in
     made_same name _ _ _ _ _ _ _ _ refl
     (ap (λ (a : Option (ℕ × IfaceAddr)). address_behind a ss) none ∙ last_from None (filter_map (λ (s : InterfaceStatement). address_by s.line s.setting) ss))
     (ap (λ (b : Bool). shut_behind b ss) opened ∙ last_from false (filter_map (λ (s : InterfaceStatement). shut_by s.setting) ss))
-    (ap (λ (ls : List ℕ). ls ++ lines_in block) bare)
+    refl

@@ -1,5 +1,5 @@
 -- An interface as the lines so far leave it, and what the lines behind them make of it.
-use Rattle.std.specs.Prelude.{◌≡◌, ℕ, Bool, false, List, ◌∷◌, ◌++◌, Option, Some, None, Result, Ok, Err, unwrap_or}
+use Rattle.std.specs.Prelude.{◌≡◌, ℕ, Bool, true, false, List, [], ◌∷◌, ◌++◌, Option, Some, None, Result, Ok, Err, unwrap_or}
 use Rattle.std.specs.List.{filter_map, last_or}
 use Rattle.std.specs.Option.{option_map, option_map_or}
 use Rattle.nc_types.specs.declared.fault.Fault.{Fault}
@@ -32,13 +32,18 @@ part_of name address shut lines =
       lines = lines;
     }
 
--- the interface of this name that lines make behind those before them, or the fault of the first faulty one
-unfoldable pub finished : List ℕ → Draft → List Numbered → Result InterfacePart Fault
-finished name d block =
+-- the interface of this name that lines make behind those before them, of which it has these, or the fault of the first faulty one
+unfoldable pub finished : List ℕ → List ℕ → Draft → List Numbered → Result InterfacePart Fault
+finished name before d block =
     option_map_or Err (interface_fault block)
-    (Ok (part_of name (address_behind d.address (interface_statements block)) (shut_behind d.shut (interface_statements block)) (d.lines.items ++ lines_in block)))
+    (Ok (part_of name (address_behind d.address (interface_statements block)) (shut_behind d.shut (interface_statements block)) (before ++ lines_in block)))
 
--- what is told of a line, which some lines follow: it was taken, or it is faulty
-abbrev pub Takes : List ℕ → Result (Unit {0}) ConfigFault → Draft → Draft → Numbered → List Numbered → Type 0
-Takes name (Ok done) old new l block = finished name old (l ∷ block) ≡ finished name new block
-Takes name (Err fault) old new l block = IsFault fault (finished name old (l ∷ block))
+-- these lines, and one more where it counts
+abbrev pub with_counted : List ℕ → Bool → ℕ → List ℕ
+with_counted before true line = before ++ line ∷ []
+with_counted before false line = before
+
+-- what is told of a line, which some lines follow: it was taken, and whether it is one of the interface's, or it is faulty
+abbrev pub Takes : List ℕ → List ℕ → Result Bool ConfigFault → Draft → Draft → Numbered → List Numbered → Type 0
+Takes name before (Ok counts) old new l block = finished name before old (l ∷ block) ≡ finished name (with_counted before counts l.line) new block
+Takes name before (Err fault) old new l block = IsFault fault (finished name before old (l ∷ block))

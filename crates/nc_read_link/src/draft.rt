@@ -10,29 +10,24 @@ use crate::setting::{Setting, read_setting};
 use nc_lines::cut::is_indented;
 use nc_lines::statement::Reading;
 use nc_types::{ConfigFault, IfaceAddr, Interface, Text};
-use std::alloc::Global;
 
 /// What the lines so far have set.
-#[derive(Drop)]
+#[derive(Clone, Copy)]
 pub(crate) struct Draft {
     // The address in force, with its line.
     address: Option<(u32, IfaceAddr)>,
     shut: bool,
-    // The headers and the lines of the statements.
-    lines: Vec<u32>,
 }
 
 impl Draft {
     /// What no line has set.
-    pub(crate) fn new(alloc: Global) -> Draft
+    pub(crate) fn new() -> Draft
         ensures address { result.address ≡ None }
         ensures shut { result.shut ≡ false }
-        ensures lines { result.lines.items ≡ [] }
     {
         Draft {
             address: None,
             shut: false,
-            lines: Vec::new(alloc),
         }
     }
 
@@ -40,7 +35,6 @@ impl Draft {
     fn apply(&mut self, line: u32, setting: Setting)
         ensures address { self.new.address ≡ unwrap_or (address_by line setting) self.old.address }
         ensures shut { self.new.shut ≡ unwrap_or (shut_by setting) self.old.shut }
-        ensures lines { self.new.lines.items ≡ self.old.lines.items }
     {
         match setting {
             Setting::Address(address) => self.address = Some((line, address)),
@@ -49,25 +43,23 @@ impl Draft {
         }
     }
 
-    /// One more line, of this number.
+    /// One more line, of this number: whether it is a header or a statement.
     ///
     /// # Errors
     ///
-    /// The line, where it is faulty; memory that runs out.
-    pub(crate) fn take(&mut self, line: u32, text: &[u8]) -> Result<(), ConfigFault>
-        ensures { (name : List ℕ) (block : List Numbered) → Takes name result self.old self.new (record { line = line; text = text.now }) block }
+    /// The line, where it is faulty.
+    pub(crate) fn take(&mut self, line: u32, text: &[u8]) -> Result<bool, ConfigFault>
+        ensures { (name before : List ℕ) (block : List Numbered) → Takes name before result self.old self.new (record { line = line; text = text.now }) block }
     {
         if !is_indented(text) {
-            self.lines.push(line)?;
-            return Ok(());
+            return Ok(true);
         }
         match read_setting(text) {
-            Reading::Outside => Ok(()),
+            Reading::Outside => Ok(false),
             Reading::Faulty(cause) => Err(ConfigFault::Bad { line, cause }),
             Reading::Says(setting) => {
-                self.lines.push(line)?;
                 self.apply(line, setting);
-                Ok(())
+                Ok(true)
             }
         }
     }
@@ -86,18 +78,17 @@ impl Draft {
         self.address.map_or(0, |a| a.0)
     }
 
-    /// The interface of this name where no line is left, and the lines.
+    /// The interface of this name where no line is left.
     #[tactic(auto, unfolding(crate::specs::Drafts::finished))]
-    pub(crate) fn finish(self, name: Text) -> (Interface, Vec<u32>)
-        ensures { finished name self [] ≡ Ok (record { interface = result.0; lines = result.1.items }) }
+    pub(crate) fn finish(self, name: Text) -> Interface
+        ensures { (before : List ℕ) → finished name before self [] ≡ Ok (record { interface = result; lines = before }) }
     {
-        let interface = Interface {
+        Interface {
             name,
             address: self.address(),
             address_line: self.address_line(),
             shut: self.shut,
             element: 0,
-        };
-        (interface, self.lines)
+        }
     }
 }

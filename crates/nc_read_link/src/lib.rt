@@ -16,6 +16,7 @@ mod next_hop;
 mod options;
 mod setting;
 mod statics;
+mod usual;
 
 pub use interfaces::read_interface;
 pub use setting::Setting;

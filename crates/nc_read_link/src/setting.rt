@@ -7,6 +7,7 @@ ghost use Rattle.nc_read_link.specs.Interfaces.{setting_says};
 
 use crate::first::{First, read_first};
 use crate::masks::iface_addr;
+use crate::usual::{is_outside, read_usual};
 use nc_lines::cut::cut_word;
 use nc_lines::numbers::read_masked;
 use nc_lines::statement::{Reading, after_one, alone, begins_one, is_word};
@@ -109,11 +110,18 @@ fn behind_vrf(rest: &[u8]) -> Reading<Setting>
     }
 }
 
-/// What an indented line in an interface's block says: what isn't supported is looked at first.
+/// What an indented line in an interface's block says: what isn't supported is looked at first. Most
+/// lines are told by their second byte or as they stand.
 #[tactic(auto, unfolding(crate::specs::Interfaces::is_unsupported, crate::specs::Interfaces::read_says))]
 pub(crate) fn read_setting(line: &[u8]) -> Reading<Setting>
     ensures { reading_of result ≡ setting_says (words_of line.now) }
 {
+    if is_outside(line) {
+        return Reading::Outside;
+    }
+    if let Some(setting) = read_usual(line) {
+        return Reading::Says(setting);
+    }
     let Some((word, rest)) = cut_word(line) else {
         return Reading::Outside;
     };

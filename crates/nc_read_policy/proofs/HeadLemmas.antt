@@ -36,7 +36,7 @@ split_append (x ∷ a) b g gap = on (is_gap x) (split_append a b g gap)
 abbrev full : List (List ℕ) → List (List ℕ)
 full parts = filter (λ (word : List ℕ). not (is_empty word)) parts
 
-words_append : (head rest : List ℕ) → is_indented rest ≡ true → words_of (head ++ rest) ≡ words_of head ++ words_of rest
+pub words_append : (head rest : List ℕ) → is_indented rest ≡ true → words_of (head ++ rest) ≡ words_of head ++ words_of rest
 unfolding words_of
 words_append head [] gap = absurd (cc)
 words_append head (g ∷ rest) gap =

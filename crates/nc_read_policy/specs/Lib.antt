@@ -3,6 +3,7 @@ pub mod Communities
 pub mod Clauses
 pub mod Entries
 pub mod Lists
+pub mod Fronts
 pub mod Heads
 pub mod CommunityEntries
 pub mod Outcomes

@@ -1,5 +1,5 @@
 -- What reading a clause, an entry or a list returns.
-use Rattle.std.specs.Prelude.{◌≡◌, ℕ, List, map, Result, Ok, Err}
+use Rattle.std.specs.Prelude.{◌≡◌, ℕ, List, [], ◌∷◌, ◌++◌, map, Result, Ok, Err}
 use Rattle.std.specs.declared.alloc.Global.{Global}
 use Rattle.std.specs.declared.vec.Vec.{Vec}
 use Rattle.nc_types.specs.Config.{clause_view}
@@ -44,9 +44,13 @@ abbrev pub AreStatements : Result (Vec ListEntry Global) ConfigFault → Result 
 AreStatements (Ok entries) read = read ≡ Ok entries.items
 AreStatements (Err fault) read = IsFault fault read
 
+-- the lines of the statements of an entry: those before the one that holds, and its own
+abbrev pub entry_lines : EntryLines → List ℕ
+entry_lines p = p.earlier.items ++ p.entry.line ∷ []
+
 -- an entry with the lines of its statements
 abbrev pub entry_part : EntryLines → EntryPart
-entry_part p = record { entry = p.entry; lines = p.lines.items }
+entry_part p = record { entry = p.entry; lines = entry_lines p }
 
 -- what was returned are these entries, or this fault, unless memory ran out
 abbrev pub AreEntries : Result (Vec EntryLines Global) ConfigFault → Result (List EntryPart) Fault → Type 0

@@ -5,6 +5,7 @@ ghost use Rattle.nc_lines.specs.Lines.{words_of};
 ghost use Rattle.nc_read_policy.specs.Entries.{length_of, one_bound, two_bounds, written_bounds};
 ghost use Rattle.nc_read_policy.specs.Entries.{bounds_of};
 
+use crate::frequent::frequent_bounds;
 use nc_lines::cut::cut_word;
 use nc_lines::numbers::read_number;
 use nc_lines::statement::is_word;
@@ -48,6 +49,12 @@ fn two_bounds(first: &[u8], low: &[u8], second: &[u8], high: &[u8]) -> Option<(u
 fn written_bounds(len: u8, text: &[u8]) -> Option<(u8, u8)>
     ensures { result ≡ written_bounds len (words_of text.now) }
 {
+    if text.is_empty() {
+        return Some((len, len));
+    }
+    if let Some(frequent) = frequent_bounds(len, text) {
+        return Some(frequent);
+    }
     let Some((first, rest)) = cut_word(text) else {
         return Some((len, len));
     };

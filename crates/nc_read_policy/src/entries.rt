@@ -1,24 +1,27 @@
 //! The `ip prefix-list` statement.
 
-ghost use Rattle.std.specs.Prelude.{◌≡◌, ◌<◌, ◌≤◌, ◌∷◌, [], length, option_and_then, codes};
+ghost use Rattle.std.specs.Prelude.{◌≡◌, ◌<◌, ◌≤◌, ◌∷◌, [], ℕ, None, MatchOption, length};
+ghost use Rattle.std.specs.Prelude.{option_and_then, codes};
 ghost use Rattle.std.specs.Option.{option_map};
 ghost use Rattle.nc_lines.specs.Lines.{words_of, line_at};
 ghost use Rattle.nc_lines.specs.Statements.{after};
 ghost use Rattle.nc_read_policy.specs.Entries.{seq_of, counted_seq, entry_of, numbered_entry};
 ghost use Rattle.nc_read_policy.specs.Entries.{any_entry, named_entry, entry_at};
+ghost use Rattle.nc_read_policy.specs.Fronts.{entry_behind};
 ghost use Rattle.nc_read_policy.specs.Outcomes.{IsEntry};
 
 use crate::action::action;
 use crate::bounds::bounds;
+use crate::frequent::{behind_seq, cut_seq, cut_target};
 use nc_lines::Lines;
 use nc_lines::cut::cut_word;
 use nc_lines::numbers::{read_around, read_number};
-use nc_lines::statement::{after_one, after_two};
-use nc_types::{Cause, ConfigFault, ListEntry, Text};
+use nc_lines::statement::after_two;
+use nc_types::{Cause, ConfigFault, ListEntry, Prefix, Text};
 use std::alloc::Global;
 
-// The greatest number of an entry.
-const GREATEST_SEQ: u32 = u32::MAX - 1;
+/// The greatest number of an entry.
+pub(crate) const GREATEST_SEQ: u32 = u32::MAX - 1;
 
 // The number of an entry, from 1.
 fn seq(word: &[u8]) -> Option<u32>
@@ -39,14 +42,29 @@ fn counted_seq(highest: u32) -> Option<u32>
     }
 }
 
-// What follows the number of an entry: an action, a prefix and bounds.
-fn entry(line: u32, seq: u32, text: &[u8]) -> Option<ListEntry>
-    ensures { result ≡ entry_of line seq (words_of text.now) }
+// The action and the prefix of an entry, and what follows.
+fn target(text: &[u8]) -> Option<(bool, Prefix, &[u8])>
+    ensures { MatchOption result ((line seq : ℕ) → entry_of line seq (words_of text.now) ≡ None)
+        (λ cut. (line seq : ℕ) → entry_of line seq (words_of text.now)
+        ≡ entry_behind line seq cut.0 cut.1 (words_of cut.2.now)) }
 {
+    if let Some(frequent) = cut_target(text) {
+        return Some(frequent);
+    }
     let (word, rest) = cut_word(text)?;
     let (prefix, rest) = cut_word(rest)?;
     let permit = action(word)?;
     let prefix = read_around(prefix)?;
+    Some((permit, prefix, rest))
+}
+
+// What follows the number of an entry: an action, a prefix and bounds.
+fn entry(line: u32, seq: u32, text: &[u8]) -> Option<ListEntry>
+    ensures { result ≡ entry_of line seq (words_of text.now) }
+{
+    let Some((permit, prefix, rest)) = target(text) else {
+        return None;
+    };
     let (low, high) = bounds(prefix.len(), rest)?;
     Some(ListEntry {
         seq,
@@ -63,6 +81,9 @@ fn entry(line: u32, seq: u32, text: &[u8]) -> Option<ListEntry>
 fn numbered_entry(line: u32, text: &[u8]) -> Option<ListEntry>
     ensures { result ≡ numbered_entry line (words_of text.now) }
 {
+    if let Some((number, rest)) = cut_seq(text) {
+        return entry(line, number, rest);
+    }
     let (word, rest) = cut_word(text)?;
     let number = seq(word)?;
     entry(line, number, rest)
@@ -72,7 +93,7 @@ fn numbered_entry(line: u32, text: &[u8]) -> Option<ListEntry>
 pub(crate) fn any_entry(line: u32, highest: u32, text: &[u8]) -> Option<ListEntry>
     ensures { result ≡ any_entry line highest (words_of text.now) }
 {
-    if let Some(rest) = after_one(text, "seq") {
+    if let Some(rest) = behind_seq(text) {
         return numbered_entry(line, rest);
     }
     let number = counted_seq(highest)?;

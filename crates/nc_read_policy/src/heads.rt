@@ -8,20 +8,15 @@ ghost use Rattle.nc_read_policy.specs.Heads.{IsHead};
 use nc_lines::cut::{cut_word, is_indented};
 use nc_lines::statement::after_two;
 
-// What follows a known beginning, with a gap between them; `None` where the line begins otherwise.
-fn behind_known<'a>(text: &'a [u8], head: &[u8]) -> Option<&'a [u8]>
+/// What follows a known beginning, with a gap between them; `None` where the line begins otherwise.
+/// A few bytes that the caller knows are compared as a number where it is inlined.
+#[inline(always)]
+pub(crate) fn behind_known<'a>(text: &'a [u8], head: &[u8]) -> Option<&'a [u8]>
     ensures whole { IfSome result (λ rest. text.now ≡ head.now ++ rest.now) }
     ensures gap { IfSome result (λ rest. is_indented rest.now ≡ true) }
 {
-    if text.len() < head.len() {
-        return None;
-    }
-    let (front, rest) = text.split_at(head.len());
-    if front == head && is_indented(rest) {
-        Some(rest)
-    } else {
-        None
-    }
+    let rest = text.strip_prefix(head)?;
+    if is_indented(rest) { Some(rest) } else { None }
 }
 
 // What follows `ip prefix-list W`; `None` where a line begins otherwise.

@@ -1,7 +1,8 @@
 //! The statements of route maps, prefix lists and community lists.
 //!
 //! A line is read by its words: the forms that are read are looked at first, then what the tool
-//! refuses to pass over, and all else is outside. The crate stands on `nc_lines` for lines and
+//! refuses to pass over, and all else is outside. An entry of a prefix list in its frequent form is
+//! read from its bytes, without cutting it into words. The crate stands on `nc_lines` for lines and
 //! words and on `nc_community` for communities, and makes the types of `nc_types`. Its contract
 //! promises that [`read_clause_header`] gives the name, the number and the action of a header,
 //! [`read_clause`] the clause that the lines of its block make, where the last statement of each
@@ -17,6 +18,8 @@ mod clauses;
 mod communities;
 mod draft;
 mod entries;
+mod frequent;
+mod fronts;
 mod header;
 mod heads;
 pub mod laws;

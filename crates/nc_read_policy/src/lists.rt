@@ -11,6 +11,7 @@ ghost use Rattle.nc_read_policy.specs.Heads.{IsHead};
 ghost use Rattle.nc_read_policy.specs.Outcomes.{IsStatement, AreStatements, AreEntries};
 
 use crate::entries::any_entry;
+use crate::frequent::begins_entry;
 use crate::heads::{cut_behind, read_head};
 use crate::parts::{EntryLines, gather_entries};
 use nc_lines::cut::cut_word;
@@ -28,6 +29,9 @@ pub fn read_list_name(rest: &[u8]) -> Reading<&[u8]>
     let Some((name, rest)) = cut_word(rest) else {
         return Reading::Faulty(Cause::Syntax);
     };
+    if begins_entry(rest) {
+        return Reading::Says(name);
+    }
     let is_remark = match cut_word(rest) {
         None => is_word(name, "sequence-number"),
         Some((second, _)) => is_word(second, "description"),

@@ -11,12 +11,13 @@ ghost use Rattle.nc_read_policy.specs.Outcomes.{entry_part};
 use nc_types::ListEntry;
 use std::alloc::{AllocError, Global};
 
-/// An entry of a prefix list with the lines of its statements.
+/// An entry of a prefix list with the lines of its statements: those before the one that holds, and
+/// the entry's own. Mostly there is one statement, and the earlier lines take no memory.
 #[derive(Drop)]
 pub struct EntryLines {
     pub entry: ListEntry,
-    /// The lines, ascending, from 1.
-    pub lines: Vec<u32>,
+    /// The lines of the statements before, ascending, from 1.
+    pub earlier: Vec<u32>,
 }
 
 // How many statements at the front have this number.
@@ -39,13 +40,12 @@ fn part(alloc: Global, first: ListEntry, run: &[ListEntry]) -> Result<EntryLines
     ensures { IfOk result (λ p. part_of (first ∷ run.now) ≡ Some (entry_part p)) }
 {
     let mut entry = first;
-    let mut lines = Vec::with_capacity(alloc, run.len() + 1)?;
-    lines.push(first.line)?;
+    let mut earlier = Vec::new(alloc);
     for statement in run {
-        lines.push(statement.line)?;
+        earlier.push(entry.line)?;
         entry = *statement;
     }
-    Ok(EntryLines { entry, lines })
+    Ok(EntryLines { entry, earlier })
 }
 
 // The entries that statements in order of their numbers make.

@@ -1,8 +1,7 @@
 -- The parts of a file are those of the definitions, and make its configuration.
-use Rattle.std.proofs.Common.{◌≡◌, ℕ, zero, suc, ◌+◌, ◌<◌, ◌≤◌, List, [], ◌∷◌, ◌++◌, length, map, take, get_or, Option, Some, None, Result, Ok, Err, refl, sym, ap, ◌∙◌, arith}
+use Rattle.std.proofs.Common.{◌≡◌, ℕ, List, [], ◌∷◌, length, map, Option, Some, None, Result, Ok, Err, refl, sym, ap, ◌∙◌, arith}
 use Rattle.std.specs.List.{filter_map}
 use Rattle.std.specs.Option.{option_map_or}
-use Rattle.std.proofs.lemmas.List.{take_all}
 use Rattle.nc_types.specs.Config.{ElementView, ConfigView}
 use Rattle.nc_types.specs.Faults.{lowest}
 use Rattle.nc_types.specs.declared.fault.Fault.{Fault}
@@ -34,22 +33,14 @@ read-blocks lines process (t ∷ topics) (b ∷ blocks) (g ∷ gs) named same =
     ap (λ (ks : List ℕ). part_in lines process t ks ∷ parts_by lines process topics blocks) first ∙ ap (λ (t : Topic). part_in lines process t g.values ∷ parts_by lines process topics blocks) key
     ∙ ap (λ (rs : List (Result Part Fault)). part_in lines process g.key g.values ∷ rs) (read-blocks lines process topics blocks gs keys rest)
 
--- the next topic
-pub parts_by-more : (lines : List (List ℕ)) (process : Option ℕ) (topics : List Topic) (blocks : List Block) (k : ℕ) (topic : Topic) (block : Block) → length topics ≡ length blocks → k < length blocks → topic ≡ get_or topics k topic → block ≡ get_or blocks k block
-    → parts_by lines process (take (k + 1) topics) (take (k + 1) blocks) ≡ parts_by lines process (take k topics) (take k blocks) ++ part_in lines process topic block.lines.items ∷ []
-parts_by-more lines process topics blocks k topic block len lt named read = let e : k + 1 ≡ suc k = omega arith in rw e (by_places topics blocks k len lt named read)
-  where
-    by_places : (topics : List Topic) (blocks : List Block) (k : ℕ) → length topics ≡ length blocks → k < length blocks → topic ≡ get_or topics k topic → block ≡ get_or blocks k block
-        → parts_by lines process (take (suc k) topics) (take (suc k) blocks) ≡ parts_by lines process (take k topics) (take k blocks) ++ part_in lines process topic block.lines.items ∷ []
-    by_places [] blocks k len lt named read = absurd (omega arith)
-    by_places (t ∷ topics) [] k len lt named read = absurd (omega arith)
-    by_places (t ∷ topics) (b ∷ blocks) zero len lt named read = ap (λ (s : Topic). part_in lines process s b.lines.items ∷ []) (sym named) ∙ ap (λ (c : Block). part_in lines process topic c.lines.items ∷ []) (sym read)
-    by_places (t ∷ topics) (b ∷ blocks) (suc k) len lt named read =
-        ap (λ (rs : List (Result Part Fault)). part_in lines process t b.lines.items ∷ rs) (by_places topics blocks k (omega arith) (omega arith) named read)
+-- topics for which no block is left make nothing
+pub parts_by-none : (lines : List (List ℕ)) (process : Option ℕ) (topics : List Topic) → parts_by lines process topics [] ≡ []
+parts_by-none lines process [] = refl
+parts_by-none lines process (topic ∷ topics) = refl
 
--- all of them
-pub parts_by-all : (lines : List (List ℕ)) (process : Option ℕ) (topics : List Topic) (blocks : List Block) (k : ℕ) → length topics ≡ length blocks → length blocks ≤ k → parts_by lines process (take k topics) (take k blocks) ≡ parts_by lines process topics blocks
-parts_by-all lines process topics blocks k len past = ap (λ (ts : List Topic). parts_by lines process ts (take k blocks)) (take_all k topics (omega arith)) ∙ ap (parts_by lines process topics) (take_all k blocks past)
+pub none_left : (blocks : List Block) → length blocks ≡ 0 → blocks ≡ []
+none_left [] none = refl
+none_left (block ∷ blocks) none = absurd (omega arith)
 
 -- ---- the configuration
 

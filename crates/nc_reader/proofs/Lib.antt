@@ -4,6 +4,7 @@ pub mod ProcessTopics
 pub mod PieceLemmas
 pub mod LineOrder
 pub mod Elements
+pub mod RoleLemmas
 pub mod RouteKeys
 pub mod PushLemmas
 pub mod FaultLemmas

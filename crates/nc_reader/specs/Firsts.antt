@@ -1,5 +1,6 @@
 -- The words with which unindented statements begin.
-use Rattle.std.specs.Prelude.{◌≡◌, ℕ, List, ◌∷◌, codes}
+use Rattle.std.specs.Prelude.{◌≡◌, ℕ, Bool, ◌||◌, ◌==◌, List, ◌∷◌, codes}
+use Rattle.nc_lines.specs.Lines.{is_gap}
 use Rattle.nc_reader.specs.declared.first.First.{First}
 use Rattle.nc_reader.specs.declared.first.First.TheVariants as first
 use Rattle.nc_reader.specs.Roles.{Passed, header_role}
@@ -14,3 +15,7 @@ IsFirst first.RouteMap word = word ≡ codes "route-map"
 IsFirst first.No word = word ≡ codes "no"
 IsFirst first.AccessList word = word ≡ codes "access-list"
 IsFirst first.Other word = (words : List (List ℕ)) → header_role (word ∷ words) ≡ Passed
+
+-- a byte with which a comment or what applies a list may begin, or a gap
+abbrev pub is_open : ℕ → Bool
+is_open b = (b == 105) || ((b == 33) || is_gap b)

@@ -13,8 +13,9 @@ use indexmap::IndexSet;
 use nc_lines::Block;
 use std::alloc::{AllocError, Global};
 
-// For how many lines a new block has room: a header and a few statements.
-const BLOCK_ROOM: usize = 4;
+// For how many lines a new block has room: a header and the usual statements. Six numbers take no
+// more of the memory than four do.
+const BLOCK_ROOM: usize = 6;
 
 // A block of one line.
 fn make_block(alloc: Global, line: u32) -> Result<Block, AllocError>

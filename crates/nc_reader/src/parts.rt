@@ -1,6 +1,6 @@
 //! The parts of a file: its name, and what each of its topics makes.
 
-ghost use Rattle.std.specs.Prelude.{◌≡◌, List, length, All, OnOk, IfOk};
+ghost use Rattle.std.specs.Prelude.{◌≡◌, List, All, OnOk, IfOk};
 ghost use Rattle.nc_types.specs.declared.fault.Fault.{Fault};
 ghost use Rattle.nc_types.specs.Faults.{lowest};
 ghost use Rattle.nc_reader.specs.Gathering.{IsLine};
@@ -10,10 +10,11 @@ ghost use Rattle.nc_reader.specs.Topics.{process_among};
 ghost use Rattle.nc_reader.specs.Whole.{AreParts};
 
 use crate::faults::note;
-use crate::gather::gather;
+use crate::gather::{Gathered, gather};
 use crate::odd::note_odd;
 use crate::things::{Part, read_part};
 use crate::topic::Topic;
+use indexmap::IndexSet;
 use nc_lines::{Block, Lines};
 use nc_types::{Fault, Text};
 use std::alloc::{AllocError, Global};
@@ -55,15 +56,15 @@ fn read_one(
     alloc: Global,
     lines: &Lines,
     process: Option<u32>,
-    topic: &Topic,
-    block: &Block,
+    topic: Topic,
+    block: Block,
     parts: &mut Vec<Part>,
     told: &mut Option<Fault>,
 ) -> Result<(), AllocError>
-    requires { All (IsLine lines.now) block.now.lines.items }
-    ensures parts { OnOk result (Reads (part_in lines.now process topic.now block.now.lines.items)
+    requires { All (IsLine lines.now) block.lines.items }
+    ensures parts { OnOk result (Reads (part_in lines.now process topic block.lines.items)
         parts.old.items parts.new.items) }
-    ensures told { OnOk result (Tells (part_in lines.now process topic.now block.now.lines.items)
+    ensures told { OnOk result (Tells (part_in lines.now process topic block.lines.items)
         told.old told.new) }
 {
     match read_part(alloc, lines, process, topic, block) {
@@ -79,21 +80,23 @@ fn read_all(
     alloc: Global,
     lines: &Lines,
     process: Option<u32>,
-    topics: &[Topic],
-    blocks: &[Block],
+    topics: IndexSet<Topic>,
+    blocks: Vec<Block>,
     before: Option<Fault>,
 ) -> Result<Made, AllocError>
-    requires lines { All (λ b. All (IsLine lines.now) b.lines.items) blocks.now }
-    requires named { length topics.now ≡ length blocks.now }
+    requires { All (λ b. All (IsLine lines.now) b.lines.items) blocks.items }
     ensures parts { IfOk result (λ r. AreRead r.parts.items
-        (parts_by lines.now process topics.now blocks.now)) }
+        (parts_by lines.now process topics.keys blocks.items)) }
     ensures told { IfOk result (λ r. (fs : List Fault) → before ≡ lowest fs
-        → IsLowest fs r.fault (parts_by lines.now process topics.now blocks.now)) }
+        → IsLowest fs r.fault (parts_by lines.now process topics.keys blocks.items)) }
 {
     let mut parts = Vec::with_capacity(alloc, blocks.len())?;
     let mut told = before;
-    'blocks: for (place, block) in blocks.iter().enumerate() {
-        let topic = &topics[place];
+    let mut left = blocks.into_iter();
+    'topics: for topic in topics {
+        let Some(block) = left.next() else {
+            continue;
+        };
         read_one(alloc, lines, process, topic, block, &mut parts, &mut told)?;
     }
     Ok(Made { parts, fault: told })
@@ -103,20 +106,17 @@ fn read_all(
 pub(crate) fn read_parts(alloc: Global, lines: &Lines) -> Result<Parts, AllocError>
     ensures { IfOk result (AreParts lines.now) }
 {
-    let gathered = gather(alloc, lines)?;
-    let topics = gathered.topics.as_slice();
-    let process = process_among(topics);
-    let read = read_all(
-        alloc,
-        lines,
-        process,
+    let Gathered {
+        name,
         topics,
-        &gathered.lines,
-        gathered.fault,
-    )?;
+        lines: blocks,
+        fault,
+    } = gather(alloc, lines)?;
+    let process = process_among(topics.as_slice());
+    let read = read_all(alloc, lines, process, topics, blocks, fault)?;
     let fault = note_odd(alloc, &read.parts, read.fault)?;
     Ok(Parts {
-        name: gathered.name,
+        name,
         made: read.parts,
         fault,
     })

@@ -138,17 +138,23 @@ impl Piece for EntryLines {
     type Thing = ListEntry;
 
     ghost use Rattle.nc_reader.specs.Configuration.{entry_with_place};
+    ghost use Rattle.nc_read_policy.specs.Outcomes.{entry_lines};
 
-    ghost lines_of = { λ p. p.lines.items };
+    ghost lines_of = { entry_lines };
 
     ghost placed = { λ place p. entry_with_place place p.entry };
 
     fn first(&self) -> u32 {
-        first_in(&self.lines)
+        match self.earlier.as_slice().first() {
+            None => self.entry.line,
+            Some(line) => *line,
+        }
     }
 
     fn split(self, _alloc: Global, place: u32) -> Result<(ListEntry, Vec<u32>), AllocError> {
-        let EntryLines { mut entry, lines } = self;
+        let EntryLines { mut entry, earlier } = self;
+        let mut lines = earlier;
+        lines.push(entry.line)?;
         entry.element = place;
         Ok((entry, lines))
     }

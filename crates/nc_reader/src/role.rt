@@ -1,11 +1,12 @@
 //! What each line of a file is, but for the block in which it stands.
 
-ghost use Rattle.std.specs.Prelude.{◌≡◌, ◌<◌, ◌≤◌, not, ◌&&◌, length, drop};
+ghost use Rattle.std.specs.Prelude.{◌≡◌, ◌<◌, ◌≤◌, ℕ, List, None, true, false, not, ◌&&◌, length, drop};
 ghost use Rattle.std.specs.List.{list_any};
 ghost use Rattle.nc_lines.specs.Lines.{line_at};
 ghost use Rattle.nc_lines.specs.Blocks.{has_mark, leaves_open};
+ghost use Rattle.nc_reader.specs.Firsts.{is_open};
 ghost use Rattle.nc_reader.specs.Readings.{kind_of_role};
-ghost use Rattle.nc_reader.specs.Steps.{banner_fault, kind_of};
+ghost use Rattle.nc_reader.specs.Steps.{Idle, Member, banner_fault, kind_of};
 
 use crate::header::{Header, read_header};
 use nc_lines::Lines;
@@ -67,6 +68,37 @@ fn banner_fault(lines: &Lines, number: u32) -> Option<Cause>
     None
 }
 
+// Whether the first byte of a line tells that it is a comment.
+fn is_comment(line: &[u8]) -> bool
+    ensures { result ≡ true → (later : List (List ℕ)) → kind_of false line.now later ≡ Idle }
+{
+    let Some((first, _)) = line.split_first() else {
+        return false;
+    };
+    *first == b'!'
+}
+
+// Whether a word of this first byte may begin a comment or what applies a list, or it is a gap.
+fn is_open(byte: u8) -> bool
+    ensures { result ≡ is_open byte }
+{
+    byte == b'i' || byte == b'!' || byte == b' ' || byte == b'\t'
+}
+
+// Whether the second byte of a line tells that it is an indented one which applies no list.
+fn is_plain(line: &[u8]) -> bool
+    ensures { result ≡ true → (later : List (List ℕ)) → kind_of false line.now later
+        ≡ Member None }
+{
+    let Some(byte) = line.get(1) else {
+        return false;
+    };
+    if is_open(*byte) {
+        return false;
+    }
+    is_indented(line)
+}
+
 /// What the line of a number is, where a banner is open or isn't.
 #[tactic(auto, unfolding(crate::specs::Steps::kind_of))]
 pub(crate) fn read_role(lines: &Lines, number: u32, in_banner: bool) -> Role<'_>
@@ -78,6 +110,12 @@ pub(crate) fn read_role(lines: &Lines, number: u32, in_banner: bool) -> Role<'_>
     let line = lines.line(number);
     if in_banner {
         return Role::Banner(!has_mark(line), None);
+    }
+    if is_comment(line) {
+        return Role::Idle;
+    }
+    if is_plain(line) {
+        return Role::Member(None);
     }
     if is_indented(line) {
         return match first_byte(line) {

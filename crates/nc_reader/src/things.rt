@@ -73,18 +73,21 @@ fn read_group_part(
     lines: &Lines,
     name: &[u8],
     inward: bool,
-    block: &Block,
+    block: Block,
 ) -> Result<Part, ConfigFault>
-    requires { All (IsLine lines.now) block.now.lines.items }
+    requires { All (IsLine lines.now) block.lines.items }
     ensures { IsPart result
-        (part_in lines.now None (topics.Group name.now inward) block.now.lines.items) }
+        (part_in lines.now None (topics.Group name.now inward) block.lines.items) }
 {
-    let group = read_applied(alloc, lines, name, inward, block)?;
-    let lines = Vec::from_slice(alloc, &block.lines)?;
-    Ok(Part::AGroup(GroupLines { group, lines }))
+    let group = read_applied(alloc, lines, name, inward, &block)?;
+    Ok(Part::AGroup(GroupLines {
+        group,
+        lines: block.lines,
+    }))
 }
 
-/// Reads what the lines of a topic make, in a file that has this process.
+/// Reads what the lines of a topic make, in a file that has this process. What is made takes the
+/// topic's name and the memory of its lines.
 ///
 /// # Errors
 ///
@@ -93,15 +96,15 @@ pub(crate) fn read_part(
     alloc: Global,
     lines: &Lines,
     process: Option<u32>,
-    topic: &Topic,
-    block: &Block,
+    topic: Topic,
+    block: Block,
 ) -> Result<Part, ConfigFault>
-    requires { All (IsLine lines.now) block.now.lines.items }
-    ensures { IsPart result (part_in lines.now process topic.now block.now.lines.items) }
+    requires { All (IsLine lines.now) block.lines.items }
+    ensures { IsPart result (part_in lines.now process topic block.lines.items) }
 {
     match topic {
         Topic::Interface(name) => {
-            let (interface, lines) = read_interface(alloc, lines, name.bytes(), block)?;
+            let (interface, lines) = read_interface(lines, name, block)?;
             Ok(Part::AnInterface(InterfaceLines { interface, lines }))
         }
         Topic::Statics => {
@@ -109,27 +112,27 @@ pub(crate) fn read_part(
             Ok(Part::Routes(routes))
         }
         Topic::Process(asn) => {
-            let part = read_process_part(alloc, lines, process, *asn, block)?;
+            let part = read_process_part(alloc, lines, process, asn, &block)?;
             Ok(part)
         }
         Topic::Clause(_, _) => {
-            let (clause, lines) = read_clause(alloc, lines, block)?;
+            let (clause, lines) = read_clause(alloc, lines, &block)?;
             Ok(Part::AClause(ClauseLines { clause, lines }))
         }
         Topic::List(name) => {
-            let entries = read_list(alloc, lines, block)?;
-            Ok(Part::Entries(Text::new(alloc, name.bytes())?, entries))
+            let entries = read_list(alloc, lines, &block)?;
+            Ok(Part::Entries(name, entries))
         }
         Topic::Communities(name) => {
             let entries = read_communities(alloc, lines, &block.lines)?;
-            Ok(Part::Communities(Text::new(alloc, name.bytes())?, entries))
+            Ok(Part::Communities(name, entries))
         }
         Topic::Filters => {
-            let part = read_filters_part(alloc, lines, block)?;
+            let part = read_filters_part(alloc, lines, &block)?;
             Ok(part)
         }
         Topic::Group(name, inward) => {
-            let part = read_group_part(alloc, lines, name.bytes(), *inward, block)?;
+            let part = read_group_part(alloc, lines, name.bytes(), inward, block)?;
             Ok(part)
         }
     }
