@@ -1,3 +1,7 @@
 pub mod Wildcards
-pub mod Chaining
+pub mod Naming
+pub mod Classes
+pub mod Spotting
+pub mod Going
 pub mod Saying
+pub mod Forming

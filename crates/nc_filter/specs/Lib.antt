@@ -1,3 +1,6 @@
 pub mod Agreement
-pub mod Chains
+pub mod Gates
+pub mod Names
+pub mod Spots
 pub mod Tables
+pub mod Walks

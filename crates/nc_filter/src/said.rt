@@ -1,6 +1,6 @@
 //! What an interface says of a packet, without memory.
 
-ghost use Rattle.std.specs.Prelude.{◌≡◌, ◌<◌, ◌^◌, ◌&&◌, is_some, length, not, position};
+ghost use Rattle.std.specs.Prelude.{◌≡◌, ◌<◌, ◌^◌, ◌&&◌, if◌then◌else◌, is_some, length, not, position};
 ghost use Rattle.std.specs.List.{list_any};
 ghost use Rattle.nc_types.specs.Config.{config_view};
 ghost use Rattle.nc_types.specs.WellFormed.{IsWellFormed};
@@ -12,11 +12,18 @@ use crate::matching::decides;
 use nc_tables::Passing;
 use nc_types::{Addr, FilterEntry, Group, IfaceId, Network, RouterConfig, RouterId, Text};
 
-/// Whether a filter is that of an interface, by its name, in a direction.
-pub(crate) fn is_at(name: &Text, inward: bool, group: &Group) -> bool
+/// Whether a filter is one in a direction.
+pub(crate) fn is_inward(group: &Group, inward: bool) -> bool
+    ensures { result ≡ (if inward then group.now.inward else not group.now.inward) }
+{
+    if inward { group.inward } else { !group.inward }
+}
+
+// Whether a filter is that of an interface, by its name, in a direction.
+fn is_at(name: &Text, inward: bool, group: &Group) -> bool
     ensures { result ≡ is_at name.now inward group.now }
 {
-    *name == group.iface && if inward { group.inward } else { !group.inward }
+    *name == group.iface && is_inward(group, inward)
 }
 
 // The filter of an interface, by its name, in a direction, by its place.

@@ -2,49 +2,59 @@
 
 ghost use Rattle.std.specs.Prelude.{◌≡◌, ◌<◌, ◌+◌, ◌^◌, Some, IfOk, length, slice_get};
 ghost use Rattle.std.specs.Option.{option_map_or};
-ghost use Rattle.nc_types.specs.Config.{config_view};
-ghost use Rattle.nc_tables.specs.Filters.{deciding, group_of, passing_at, passing_by, passes};
+ghost use Rattle.nc_types.specs.Config.{ConfigView, config_view};
+ghost use Rattle.nc_tables.specs.Filters.{passing_at, passing_by, passes};
 ghost use Rattle.nc_tables.specs.declared.filters.Passing.TheVariants.{Free};
-ghost use Rattle.nc_filter.specs.Chains.{first_from, AreChained};
-ghost use Rattle.nc_filter.specs.Tables.{lists_of, IsOf, AreKept, AreFilters};
+ghost use Rattle.nc_filter.specs.Gates.{gate_for, gate_of};
+ghost use Rattle.nc_filter.specs.Spots.{IsIndexed};
+ghost use Rattle.nc_filter.specs.Tables.{IsOf, IsDeciding, AreKept, AreFilters};
 
-use crate::chains::Chains;
 use crate::configs::config_of;
+use crate::gates::{Gate, gates_of};
+use crate::index::Index;
 use crate::kept::Kept;
+use crate::names::lists_of;
 use crate::said::{lets_by, said_by};
-use crate::walks::{deciding_in, group_in};
+use crate::walks::deciding_in;
 use nc_tables::Passing;
-use nc_types::{Addr, IfaceId, Network, RouterConfig, RouterId, Text};
+use nc_types::{Addr, IfaceId, Network, RouterConfig, RouterId};
 use std::alloc::{AllocError, Global};
 
-/// The tables of a router: its filters by interface, and its entries by list.
+/// The tables of a router: the filters of its interfaces in both directions, and its entries.
 #[derive(Drop)]
 pub(crate) struct RouterFilters {
-    pub(crate) groups: Chains,
-    pub(crate) lists: Chains,
+    pub(crate) inward: Vec<Option<Gate>>,
+    pub(crate) outward: Vec<Option<Gate>>,
+    pub(crate) index: Index,
 }
 
 // Those of a configuration.
 fn filters_of(alloc: Global, config: &RouterConfig) -> Result<RouterFilters, AllocError>
+    requires { length config.now.filters.items < 2 ^ 32 }
     ensures { IfOk result (IsOf (config_view config.now)) }
 {
-    let groups = Chains::new(alloc, &config.groups)?;
-    let lists = Chains::new(alloc, &config.filters)?;
-    Ok(RouterFilters { groups, lists })
+    let lists = lists_of(alloc, &config.filters)?;
+    let inward = gates_of(alloc, config, &lists, true)?;
+    let outward = gates_of(alloc, config, &lists, false)?;
+    let index = Index::new(alloc, &config.filters, &lists)?;
+    Ok(RouterFilters {
+        inward,
+        outward,
+        index,
+    })
 }
 
-// The filter of an interface of a router in a direction, by its place.
-fn group_at(
-    filters: &RouterFilters,
-    config: &RouterConfig,
-    iface: IfaceId,
-    inward: bool,
-) -> Option<usize>
-    requires { IsOf (config_view config.now) filters.now }
-    ensures { result ≡ group_of (config_view config.now) iface.0 inward }
+// The filter of an interface of a router in a direction.
+fn gate_at(filters: &RouterFilters, iface: IfaceId, inward: bool) -> Option<Gate>
+    ensures { (c : ConfigView) → IsOf c filters.now → result ≡ gate_of c iface.0 inward }
 {
-    let interface = config.interfaces.get(iface.0 as usize)?;
-    group_in(&config.groups, &filters.groups, &interface.name, inward)
+    let gates = if inward {
+        &filters.inward
+    } else {
+        &filters.outward
+    };
+    let gate = gates.get(iface.0 as usize)?;
+    *gate
 }
 
 // The entry of a list that decides on the packet of which something is kept. The list is gone through once.
@@ -53,23 +63,20 @@ fn deciding(
     network: &Network,
     router: RouterId,
     config: &RouterConfig,
-    lists: &Chains,
-    list: &Text,
-    first: usize,
+    index: &Index,
+    list: usize,
 ) -> Result<Option<usize>, AllocError>
     requires config { slice_get network.now router.0 ≡ Some (config_view config.now) }
-    requires lists { AreChained (lists_of (config_view config.now)) lists.now }
-    requires first { first_from list.now 0 (lists_of (config_view config.now)) ≡ Some first }
+    requires index { IsIndexed config.now.filters.items index.now }
     requires kept { AreKept network.now kept.old }
     ensures kept { AreKept network.now kept.new }
-    ensures deciding { IfOk result (λ entry. entry
-        ≡ deciding kept.old.from.0 kept.old.to.0 (config_view config.now) list.now) }
+    ensures deciding { IfOk result (IsDeciding network.now kept.old.from.0 kept.old.to.0 router.0 list) }
 {
-    if let Some(entry) = kept.get(router, first) {
+    if let Some(entry) = kept.get(router, list) {
         return Ok(entry);
     }
-    let entry = deciding_in(&config.filters, lists, list, kept.from, kept.to);
-    kept.put(router, first, entry)?;
+    let entry = deciding_in(&config.filters, index, list, kept.from, kept.to);
+    kept.put(router, list, entry)?;
     Ok(entry)
 }
 
@@ -79,25 +86,24 @@ fn passing_in(
     network: &Network,
     router: RouterId,
     config: &RouterConfig,
-    lists: &Chains,
-    place: usize,
+    index: &Index,
+    gate: Gate,
 ) -> Result<Passing, AllocError>
     requires config { slice_get network.now router.0 ≡ Some (config_view config.now) }
-    requires lists { AreChained (lists_of (config_view config.now)) lists.now }
-    requires group { place < length config.now.groups.items }
+    requires index { IsIndexed config.now.filters.items index.now }
+    requires gate { gate_for (config_view config.now) gate.group ≡ Some gate }
     requires few { length config.now.filters.items + length config.now.groups.items < 2 ^ 32 }
     requires kept { AreKept network.now kept.old }
     ensures kept { AreKept network.now kept.new }
     ensures passing { IfOk result (λ answer. answer
-        ≡ option_map_or (passing_by kept.old.from.0 kept.old.to.0 (config_view config.now) place)
-        (slice_get config.now.groups.items place) Free) }
+        ≡ option_map_or (passing_by kept.old.from.0 kept.old.to.0 (config_view config.now) gate.group)
+        (slice_get config.now.groups.items gate.group) Free) }
 {
-    let list = &config.groups[place].list;
-    let Some(first) = lists.first(list.bytes()) else {
+    let Some(list) = gate.list else {
         return Ok(Passing::Free);
     };
-    match deciding(kept, network, router, config, lists, list, first)? {
-        Some(entry) => Ok(said_by(config, place, entry)),
+    match deciding(kept, network, router, config, index, list)? {
+        Some(entry) => Ok(said_by(config, gate.group, entry)),
         None => Ok(Passing::Deny),
     }
 }
@@ -119,6 +125,7 @@ impl FilterTables {
     pub fn new(alloc: Global, network: &Network) -> Result<FilterTables, AllocError>
         ensures { IfOk result (AreFilters network.now) }
     {
+        let _few = network.element_count();
         let configs = network.routers();
         let mut routers = Vec::with_capacity(alloc, configs.len())?;
         'routers: for config in configs {
@@ -155,7 +162,7 @@ impl FilterTables {
             return Ok(Passing::Free);
         };
         let filters = &self.routers[router.0 as usize];
-        let Some(place) = group_at(filters, config, iface, inward) else {
+        let Some(gate) = gate_at(filters, iface, inward) else {
             return Ok(Passing::Free);
         };
         self.kept.turn_to(from, to);
@@ -164,8 +171,8 @@ impl FilterTables {
             network,
             router,
             config,
-            &filters.lists,
-            place,
+            &filters.index,
+            gate,
         )?;
         Ok(passing)
     }

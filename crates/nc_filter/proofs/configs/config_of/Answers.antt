@@ -1,13 +1,8 @@
-use Rattle.std.proofs.Common.{◌≡◌, ℕ, List, Some, All, sym, subst, arith}
-use Rattle.std.specs.Prelude.{slice_get}
-use Rattle.std.proofs.lemmas.Option.{get_or_from_slice_get, slice_get_within}
-use Rattle.nc_types.specs.Config.{ConfigView, config_view}
-use Rattle.nc_types.specs.WellFormed.{IsWellFormed}
+use Rattle.std.proofs.Common.{sym, arith}
+use Rattle.nc_types.specs.Config.{config_view}
 use Rattle.nc_types.proofs.Few.{few_filters, few_groups, few_in_network}
+use Rattle.nc_filter.proofs.Forming.{formed_of}
 use Rattle.nc_filter.proofs.configs.config_of.Goals as goal
-
-formed_of : (routers : List ConfigView) → All IsWellFormed routers → (router : ℕ) (c : ConfigView) → slice_get routers router ≡ Some c → IsWellFormed c
-formed_of routers each router c at = subst IsWellFormed (get_or_from_slice_get routers router c c at) (each router c (slice_get_within routers router c at))
 
 pub returns-clause-formed : goal.returns-clause-formed
 returns-clause-formed c =

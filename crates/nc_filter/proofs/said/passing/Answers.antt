@@ -8,11 +8,11 @@ use Rattle.nc_types.specs.declared.filters.Group.{Group}
 use Rattle.nc_types.proofs.Few.{few_elements, few_filters, few_groups}
 use Rattle.nc_tables.specs.Filters.{passing_by}
 use Rattle.nc_tables.specs.declared.filters.Passing.TheVariants.{Free}
-use Rattle.nc_filter.proofs.Saying.{filtered, unfiltered}
+use Rattle.nc_filter.proofs.Saying.{filtered, unnamed}
 use Rattle.nc_filter.proofs.said.passing.Goals as goal
 
 pub returns-in_default : goal.returns-in_default
-returns-in_default c = unfiltered c.args.from.0 c.args.to.0 (config_view c.args.config.now) c.args.iface.0 c.args.inward (sym c.in_default.is ∙ c.group_of.ensures)
+returns-in_default c = unnamed c.args.from.0 c.args.to.0 (config_view c.args.config.now) c.args.iface.0 c.args.inward (sym c.in_default.is ∙ c.group_of.ensures)
 
 pub passing_by-requires-clause-group : goal.passing_by-requires-clause-group
 passing_by-requires-clause-group c =

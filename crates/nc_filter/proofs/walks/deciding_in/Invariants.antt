@@ -1,15 +1,18 @@
-use Rattle.std.proofs.Common.{◌≡◌, ◌-◌, ◌<◌, length, map}
+use Rattle.std.proofs.Common.{◌≡◌, ◌-◌, ℕ, List, Some, length}
 use Rattle.std.specs.Prelude.{position}
-use Rattle.nc_types.specs.declared.filters.FilterEntry.{FilterEntry}
-use Rattle.nc_tables.specs.Filters.{decides}
-use Rattle.nc_filter.proofs.Chaining.{IsNamed, passes, walked}
+use Rattle.nc_tables.specs.Filters.{is_of}
+use Rattle.nc_filter.specs.Walks.{AreAhead}
+use Rattle.nc_filter.proofs.Going.{decides_for, least}
+use Rattle.nc_filter.proofs.Spotting.{found_from}
 use Rattle.nc_filter.proofs.walks.deciding_in.Given as goal
 
--- the walk stands at an item of the name, or behind all, and finds from there what is the first
+-- the walk stands at the first of the three, and finds from there what is the first of all
 abbrev pub invariant-entries : goal.invariant-entries
 invariant-entries l = record {
-  same : walked (λ (x : FilterEntry). x.list) l.list (decides l.fn.from.0 l.fn.to.0) l.entries l.place ≡ position (passes (λ (x : FilterEntry). x.list) l.list (decides l.fn.from.0 l.fn.to.0)) l.entries;
-  named : l.place < length l.entries → IsNamed (map (λ (x : FilterEntry). x.list) l.entries) l.list 0 l.place;
+  size : l.count ≡ length l.entries;
+  place : l.place ≡ least l.ahead;
+  ahead : AreAhead l.entries l.list l.fn.from l.fn.to l.place l.ahead;
+  found : (q : List ℕ) → position (is_of q) l.entries ≡ Some l.list → found_from (decides_for l.fn.from l.fn.to q) l.entries l.place ≡ position (decides_for l.fn.from l.fn.to q) l.entries;
 }
 
 abbrev pub decreases-entries : goal.decreases-entries
