@@ -111,7 +111,8 @@ skip_from name matches all from =
     ap (λ (ns : List (List ℕ)). rest_of (of_map name matches) all (position_from (bytes_eq name) from ns)) (drop-map (λ (k : ClauseView). k.map_name) from all)
     ∙ skip name matches all from (drop from all) refl
 
-first_left : {X : Type 0} (all : List X) (from : ℕ) (x : X) (xs : List X) → x ∷ xs ≡ drop from all → slice_get all from ≡ Some x
+-- the first of those from a place on stands there
+pub first_left : {X : Type 0} (all : List X) (from : ℕ) (x : X) (xs : List X) → x ∷ xs ≡ drop from all → slice_get all from ≡ Some x
 first_left [] from x xs e = absurd (let none : x ∷ xs ≡ [] = e ∙ drop_all from [] (omega arith) in cc)
 first_left (y ∷ ys) zero x xs e = let same : y ≡ x = cc in ap (λ z. Some z) same
 first_left (y ∷ ys) (suc from) x xs e = first_left ys from x xs e

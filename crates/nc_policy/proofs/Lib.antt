@@ -7,4 +7,5 @@ pub mod Naming
 pub mod Tables
 pub mod SpotOrder
 pub mod Keeping
+pub mod Asking
 pub mod Outside

@@ -9,7 +9,7 @@ use Rattle.nc_types.specs.Config.{ConfigView, PrefixListView}
 use Rattle.nc_types.specs.declared.config.ListEntry.{ListEntry}
 use Rattle.nc_tables.specs.Policy.{is_of}
 use Rattle.nc_policy.specs.Statements.{aggregates_in, networks_in}
-use Rattle.nc_policy.specs.Kept.{AreKept}
+use Rattle.nc_policy.specs.Kept.{AreAsked, AreKept, AskedTable}
 use Rattle.nc_policy.specs.Spans.{AreSpans}
 use Rattle.nc_policy.specs.Guards.{AreGuards}
 use Rattle.nc_policy.specs.declared.guards.Guard.{Guard}
@@ -98,6 +98,7 @@ pub record RouterTables : Type 0 where
   pub spans : List Span
   pub guards : List Guard
   pub kept : List (Asking × Option Decided)
+  pub asked : List (Option AskedTable)
 
 -- each of these prefix lists has its table, or none
 pub record AreEntryTables (lists : List PrefixListView) (tables : List (Option EntryTable)) : Type 0 where
@@ -114,6 +115,7 @@ pub record AreTablesOf (c : ConfigView) (t : RouterTables) : Type 0 where
   pub spans : AreSpans c t.spans
   pub guards : AreGuards c t.guards
   pub kept : AreKept c t.kept
+  pub asked : AreAsked c t.asked
 
 -- ---- the tables of a network
 

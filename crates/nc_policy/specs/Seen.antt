@@ -15,6 +15,8 @@ use Rattle.nc_policy.specs.declared.spot_table.Placed.{Placed}
 use Rattle.nc_policy.specs.declared.index.ListIndex.{ListIndex}
 use Rattle.nc_policy.specs.declared.names.NameIndex.{NameIndex}
 use Rattle.nc_policy.specs.declared.router_index.RouterIndex.{RouterIndex}
+use Rattle.nc_policy.specs.Kept.{AskedTable}
+use Rattle.nc_policy.specs.declared.kept.Asked.{Asked}
 use Rattle.nc_policy.specs.declared.kept.Asking.{Asking}
 use Rattle.nc_policy.specs.declared.kept.Decided.{Decided}
 use Rattle.nc_policy.specs.declared.kept.Kept.{Kept}
@@ -63,6 +65,12 @@ IsPrefixIndex prefixes index = IsPrefixTable prefixes (prefix_table index)
 abbrev pub kept_table : Kept → List (Asking × Option Decided)
 kept_table x = x.decided.entries
 
+abbrev pub asked_view : Asked → AskedTable
+asked_view x = record { numbers = x.numbers.keys; flat = x.flat }
+
+abbrev pub asked_table : Kept → List (Option AskedTable)
+asked_table x = map (option_map asked_view) x.asked.items
+
 -- ---- the tables of a router
 
 abbrev pub router_tables : RouterIndex → RouterTables
@@ -77,6 +85,7 @@ router_tables x =
       spans = x.spans.items;
       guards = x.guards.items;
       kept = kept_table x.kept;
+      asked = asked_table x.kept;
     }
 
 abbrev pub IsIndexed : ConfigView → RouterIndex → Type 0

@@ -142,8 +142,11 @@ fn is_unheld(index: Option<&RouterIndex>, place: usize, held: &Held) -> bool
         → slice_get config.clauses place ≡ Some k → result ≡ true
         → met (community_place config held.now) k.community_lists ≡ None }
 {
-    match index {
-        Some(index) => index.is_unheld(place, held),
+    let Some(index) = index else {
+        return false;
+    };
+    match index.guards.get(place) {
+        Some(guard) => guard.is_unheld(held),
         None => false,
     }
 }
@@ -225,25 +228,23 @@ fn clause_behind(
     }
 }
 
-// What is kept of a map and a prefix, if the router has tables.
+// What is kept of a map and a prefix, if the router has tables and if these communities meet no clause
+// of the map that asks for some.
 fn decided(
     config: &RouterConfig,
     index: Option<&RouterIndex>,
     map: &[u8],
     first: Option<usize>,
     prefix: Prefix,
+    held: &Held,
 ) -> Option<Option<Decided>>
     requires indexed { IfSome index (λ x. IsIndexed (config_view config.now) x.now) }
     requires first { first ≡ place_from map.now 0 (map_names (config_view config.now)) }
-    ensures { IfSome result (λ d. (held : List ℕ)
-        → IsDecided (config_view config.now) map.now (asked prefix held) d) }
+    ensures { IfSome result (IsDecided (config_view config.now) map.now (asked prefix held.now)) }
 {
     let index = index?;
     let first = first?;
-    if !index.kept.has(first) {
-        return None;
-    }
-    index.kept.get(first, prefix)
+    index.kept.get(first, prefix, held)
 }
 
 // Whether a prefix lies outside of what the prefix lists of a clause permit, as far as the router's
@@ -254,8 +255,11 @@ fn is_missed(index: Option<&RouterIndex>, place: usize, prefix: Prefix) -> bool
         → slice_get config.clauses place ≡ Some k → result ≡ true
         → met (prefix_place config prefix) k.lists ≡ None }
 {
-    match index {
-        Some(index) => index.misses(place, prefix),
+    let Some(index) = index else {
+        return false;
+    };
+    match index.spans.get(place) {
+        Some(span) => span.misses(prefix.addr()),
         None => false,
     }
 }
@@ -335,7 +339,7 @@ pub(crate) fn deciding<'a>(
     ensures candidate { IfSome result (IsCandidate (config_view config.now) (asked prefix held.now)) }
 {
     let first = first_clause(config, index, map);
-    match decided(config, index, map, first, prefix) {
+    match decided(config, index, map, first, prefix, held) {
         Some(decided) => candidate_of(config, decided),
         None => scanned(config, index, map, first, prefix, held),
     }

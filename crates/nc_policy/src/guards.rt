@@ -6,12 +6,14 @@ ghost use Rattle.nc_types.specs.Communities.{has};
 ghost use Rattle.nc_types.specs.Config.{ClauseView, CommunityListView, ConfigView, community_list_view, config_view};
 ghost use Rattle.nc_tables.specs.Policy.{community_place, first_place, is_held, met, permitting_community};
 ghost use Rattle.nc_policy.specs.Guards.{is_unheld, AreGuards};
+ghost use Rattle.nc_policy.specs.Kept.{IsApart};
 ghost use Rattle.nc_policy.specs.Seen.{IsNameIndex};
 
 use crate::names::NameIndex;
 use nc_community::Held;
 use nc_types::{CommunityEntry, Reference, RouterConfig};
 use std::alloc::{AllocError, Global};
+use std::collections::HashSet;
 
 // How many numbers a guard has at most.
 const GUARD_LIMIT: usize = 64;
@@ -24,19 +26,42 @@ pub(crate) struct Guard {
     pub(crate) sound: bool,
 }
 
-// Whether communities have one of some numbers.
-fn has_one(held: &Held, numbers: &[u32]) -> bool
-    ensures { result ≡ list_any (λ n. has n held.now) numbers.now }
+// Whether one of some communities is among numbers.
+fn has_one(numbers: &[u32], communities: &[u32]) -> bool
+    ensures { result ≡ list_any (λ n. has n numbers.now) communities.now }
 {
-    numbers.iter().any(|number| held.has(*number))
+    communities
+        .iter()
+        .any(|community| numbers.contains(community))
 }
 
 impl Guard {
     /// Whether these communities have none of the numbers, as far as they say something.
     pub(crate) fn is_unheld(&self, held: &Held) -> bool
-        ensures { result ≡ is_unheld self.now held.now }
+        ensures { result ≡ true → is_unheld self.now held.now ≡ true }
     {
-        self.sound && !has_one(held, &self.numbers)
+        if !self.sound {
+            return false;
+        }
+        let numbers: &[u32] = &self.numbers;
+        let (first, added) = held.parts();
+        !has_one(numbers, first) && !has_one(numbers, added)
+    }
+
+    /// Adds its numbers to others, where it is sound, and tells whether it is.
+    pub(crate) fn add_to(&self, numbers: &mut HashSet<u32>) -> Result<bool, AllocError>
+        ensures kept { OnOk result ((n : ℕ) → has n numbers.old.keys ≡ true
+            → has n numbers.new.keys ≡ true) }
+        ensures added { IfOk result (λ sound. sound ≡ true → (held : List ℕ)
+            → IsApart numbers.new.keys held → is_unheld self.now held ≡ true) }
+    {
+        if !self.sound {
+            return Ok(false);
+        }
+        'numbers: for number in &self.numbers {
+            numbers.insert(*number)?;
+        }
+        Ok(true)
     }
 
     // Adds the first member of an entry that permits, without which no route has all of them.

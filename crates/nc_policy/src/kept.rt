@@ -1,25 +1,27 @@
-//! Which clause of a map decides on a prefix, kept for maps that ask for no communities.
+//! Which clause of a map decides on a prefix, kept for routes whose communities meet no clause of the
+//! map that asks for some.
 
-ghost use Rattle.std.specs.Prelude.{◌≡◌, ◌&&◌, ℕ, List, map, [], false, length, nat_eq, IfSome, IfOk, None, OnOk, Some, if◌then◌else◌, slice_get};
+ghost use Rattle.std.specs.Prelude.{◌≡◌, ◌&&◌, ℕ, List, map, [], true, nat_eq, IfSome, IfOk, None, OnOk, Some, if◌then◌else◌, slice_get};
 ghost use Rattle.std.specs.List.{list_any};
 ghost use Rattle.std.specs.Option.{option_map};
 ghost use Rattle.nc_types.specs.Cidr.{Cidr, same_prefix};
-ghost use Rattle.nc_types.specs.Config.{ClauseView, clause_view, config_view};
+ghost use Rattle.nc_types.specs.Config.{ConfigView, clause_view, config_view};
 ghost use Rattle.nc_types.specs.WellFormed.{IsWellFormed};
 ghost use Rattle.nc_tables.specs.Policy.{deciding};
 ghost use Rattle.nc_tables.specs.declared.bgp.Route.{Route};
 ghost use Rattle.nc_policy.specs.Indexes.{place_from};
-ghost use Rattle.nc_policy.specs.Kept.{asks, asks_communities, kept_at, AreKept, IsDecided};
-ghost use Rattle.nc_policy.specs.Seen.{kept_table, IsIndexed};
-ghost use Rattle.nc_policy.specs.Views.{candidate_view, map_names, IsCandidate};
+ghost use Rattle.nc_policy.specs.Kept.{kept_at, lists_prefixes, AreAsked, AreKept, IsAskedOf, IsDecided, IsUnmet};
+ghost use Rattle.nc_policy.specs.Seen.{asked_table, asked_view, kept_table, IsIndexed};
+ghost use Rattle.nc_policy.specs.Views.{asked, candidate_view, map_names, IsCandidate};
 
+use crate::asked::{asked_by, is_apart};
 use crate::clauses::{Candidate, scanned};
 use crate::router_index::RouterIndex;
 use nc_community::Held;
 use nc_tables::Names;
-use nc_types::{Clause, Prefix, Reference, RouterConfig};
+use nc_types::{Addr, Clause, Prefix, Reference, RouterConfig};
 use std::alloc::{AllocError, Global};
-use std::collections::HashMap;
+use std::collections::{HashMap, HashSet};
 
 // How many decisions of a router's maps are kept at most.
 const KEPT_LIMIT: usize = 1 << 20;
@@ -38,55 +40,82 @@ pub(crate) struct Decided {
     pub(crate) names: Names,
 }
 
-/// What maps decide on prefixes, whatever communities a route has; `None` where no clause matches.
+/// Of what a map asks.
+#[derive(Drop)]
+pub(crate) struct Asked {
+    /// The numbers of which communities have to have one to meet a clause that asks for some.
+    pub(crate) numbers: HashSet<u32>,
+    /// What a map that names no prefix list decides on every prefix, for routes whose communities meet
+    /// no clause that asks for some.
+    pub(crate) flat: Option<Option<Decided>>,
+}
+
+/// What maps decide on prefixes, for routes whose communities meet no clause of the map that asks for
+/// some; `None` where no clause matches.
 #[derive(Drop)]
 pub(crate) struct Kept {
     pub(crate) decided: HashMap<Asking, Option<Decided>>,
-    /// Of which maps something is kept, by the places of their first clauses.
-    pub(crate) maps: Vec<bool>,
+    /// Of what maps ask, by the places of their first clauses; `None` where it isn't known.
+    pub(crate) asked: Vec<Option<Asked>>,
+    /// Which maps were gone through, by the same places.
+    done: Vec<bool>,
 }
 
 impl Kept {
-    /// Nothing is kept. Takes no memory.
-    pub(crate) fn new(alloc: Global) -> Kept
-        ensures { kept_table result ≡ [] }
+    /// Nothing is kept, but there is room for so many maps.
+    pub(crate) fn with_room(alloc: Global, count: usize) -> Result<Kept, AllocError>
+        ensures kept { IfOk result (λ kept. kept_table kept ≡ []) }
+        ensures asked { IfOk result (λ kept. (c : ConfigView) → AreAsked c (asked_table kept)) }
     {
-        Kept {
-            decided: HashMap::new(alloc),
-            maps: Vec::new(alloc),
+        let mut asked = Vec::with_capacity(alloc, count)?;
+        'maps: for _ in 0..count {
+            asked.push(None)?;
         }
-    }
-
-    // Nothing is kept, but there is room for so many maps.
-    fn with_room(alloc: Global, count: usize) -> Result<Kept, AllocError>
-        ensures { IfOk result (λ kept. kept_table kept ≡ []) }
-    {
-        let maps = vec![in alloc; false; count]?;
+        let done = vec![in alloc; false; count]?;
         Ok(Kept {
             decided: HashMap::new(alloc),
-            maps,
+            asked,
+            done,
         })
     }
 
-    /// Whether something is kept of a map. Takes no memory.
-    pub(crate) fn has(&self, map: usize) -> bool {
-        self.maps.get(map).copied().unwrap_or(false)
-    }
-
-    // Notes that something is kept of a map.
-    fn mark(&mut self, map: usize)
-        ensures { kept_table self.new ≡ kept_table self.old }
+    /// What is kept of a map and a prefix, for a route with these communities. Takes no memory.
+    pub(crate) fn get(&self, map: usize, prefix: Prefix, held: &Held) -> Option<Option<Decided>>
+        ensures { (config : ConfigView) (name : List ℕ) → AreAsked config (asked_table self.now)
+            → AreKept config (kept_table self.now) → slice_get (map_names config) map ≡ Some name
+            → IfSome result (IsDecided config name (asked prefix held.now)) }
     {
-        if map < self.maps.len() {
-            self.maps[map] = true;
+        let Some(Some(asked)) = self.asked.get(map) else {
+            return None;
+        };
+        if !is_apart(&asked.numbers, held) {
+            return None;
         }
+        if let Some(decided) = asked.flat {
+            return Some(decided);
+        }
+        self.decided_on(map, prefix)
     }
 
-    /// What is kept of a map and a prefix. Takes no memory.
-    pub(crate) fn get(&self, map: usize, prefix: Prefix) -> Option<Option<Decided>>
+    // What is kept of a map and a prefix.
+    fn decided_on(&self, map: usize, prefix: Prefix) -> Option<Option<Decided>>
         ensures { result ≡ kept_at (kept_table self.now) map prefix }
     {
         self.decided.get(&Asking { map, prefix }).copied()
+    }
+
+    // Notes that a map was gone through, and what was found.
+    fn mark(&mut self, map: usize, asked: Option<Asked>)
+        ensures kept { kept_table self.new ≡ kept_table self.old }
+        ensures asked { (config : ConfigView) (name : List ℕ) → AreAsked config (asked_table self.old)
+            → slice_get (map_names config) map ≡ Some name
+            → IfSome asked (λ a. IsAskedOf config name (asked_view a))
+            → AreAsked config (asked_table self.new) }
+    {
+        if map < self.done.len() && map < self.asked.len() {
+            self.done[map] = true;
+            self.asked[map] = asked;
+        }
     }
 
     // Keeps what a map decides on a prefix.
@@ -96,9 +125,10 @@ impl Kept {
         prefix: Prefix,
         decided: Option<Decided>,
     ) -> Result<(), AllocError>
-        ensures { OnOk result ((m : ℕ) (p : Cidr) → kept_at (kept_table self.new) m p
+        ensures put { OnOk result ((m : ℕ) (p : Cidr) → kept_at (kept_table self.new) m p
             ≡ (if nat_eq map m && same_prefix prefix p then Some decided
             else kept_at (kept_table self.old) m p)) }
+        ensures asked { asked_table self.new ≡ asked_table self.old }
     {
         self.decided.insert(Asking { map, prefix }, decided)?;
         Ok(())
@@ -135,15 +165,44 @@ fn decided_of(candidate: Option<Candidate<'_>>) -> Option<Decided>
     })
 }
 
-// Whether a clause of a map asks for communities.
-fn asks_communities(clauses: &[Clause], name: &[u8]) -> bool
-    ensures { result ≡ list_any (λ k. asks name.now (clause_view k)) clauses.now }
+// Whether a clause of a map names a prefix list.
+fn lists_prefixes(clauses: &[Clause], name: &[u8]) -> bool
+    ensures { result ≡ list_any (λ k. lists_prefixes name.now (clause_view k)) clauses.now }
 {
-    clauses.iter().any(|clause| !clause.community_lists.is_empty() && name == clause.map.bytes())
+    clauses.iter().any(|clause| !clause.lists.is_empty() && name == clause.map.bytes())
 }
 
-// Keeps what a map that asks for no communities decides on these prefixes. Its first clause stands
-// at this place.
+// What a map decides on every prefix, if it names no prefix list. Its first clause stands at this place.
+fn flat_of(
+    config: &RouterConfig,
+    index: &RouterIndex,
+    name: &[u8],
+    first: usize,
+) -> Option<Option<Decided>>
+    requires indexed { IsIndexed (config_view config.now) index.now }
+    requires formed { IsWellFormed (config_view config.now) }
+    requires unmet { IsUnmet (config_view config.now) name.now [] }
+    requires first { Some first ≡ place_from name.now 0 (map_names (config_view config.now)) }
+    ensures { IfSome result (λ d. (p : Cidr) (held : List ℕ)
+        → IsUnmet (config_view config.now) name.now held
+        → IsDecided (config_view config.now) name.now (asked p held) d) }
+{
+    if lists_prefixes(&config.clauses, name) {
+        return None;
+    }
+    let everywhere = Prefix::around(Addr(0), 0);
+    let found = scanned(
+        config,
+        Some(index),
+        name,
+        Some(first),
+        everywhere,
+        &Held::none(),
+    );
+    Some(decided_of(found))
+}
+
+// Keeps what a map decides on these prefixes. Its first clause stands at this place.
 fn keep_map(
     config: &RouterConfig,
     index: &RouterIndex,
@@ -154,10 +213,12 @@ fn keep_map(
 ) -> Result<(), AllocError>
     requires indexed { IsIndexed (config_view config.now) index.now }
     requires formed { IsWellFormed (config_view config.now) }
-    requires plain { asks_communities name.now (config_view config.now).clauses ≡ false }
+    requires unmet { IsUnmet (config_view config.now) name.now [] }
     requires first { Some first ≡ place_from name.now 0 (map_names (config_view config.now)) }
     requires kept { AreKept (config_view config.now) (kept_table kept.old) }
-    ensures { OnOk result (AreKept (config_view config.now) (kept_table kept.new)) }
+    requires asked { AreAsked (config_view config.now) (asked_table kept.old) }
+    ensures kept { OnOk result (AreKept (config_view config.now) (kept_table kept.new)) }
+    ensures asked { OnOk result (AreAsked (config_view config.now) (asked_table kept.new)) }
 {
     'prefixes: for prefix in prefixes {
         let found = scanned(
@@ -173,14 +234,10 @@ fn keep_map(
     Ok(())
 }
 
-// Whether nothing is to be kept of a map: where something is, and where it would be too much.
-fn is_done(kept: &Kept, map: usize, prefixes: &[Prefix]) -> bool {
-    kept.has(map) || prefixes.len() > KEPT_LIMIT - kept.decided.len().min(KEPT_LIMIT)
-}
-
-// Keeps what the map of a neighbor statement decides on these prefixes, if there is one that asks
-// for no communities, and if it wasn't kept before.
+// Keeps what the map of a neighbor statement decides on these prefixes, if there is one of which it is
+// known what communities it asks for, and if it wasn't kept before.
 fn keep_named(
+    alloc: Global,
     config: &RouterConfig,
     index: &RouterIndex,
     kept: &mut Kept,
@@ -190,7 +247,9 @@ fn keep_named(
     requires indexed { IsIndexed (config_view config.now) index.now }
     requires formed { IsWellFormed (config_view config.now) }
     requires kept { AreKept (config_view config.now) (kept_table kept.old) }
-    ensures { OnOk result (AreKept (config_view config.now) (kept_table kept.new)) }
+    requires asked { AreAsked (config_view config.now) (asked_table kept.old) }
+    ensures kept { OnOk result (AreKept (config_view config.now) (kept_table kept.new)) }
+    ensures asked { OnOk result (AreAsked (config_view config.now) (asked_table kept.new)) }
 {
     let Some(reference) = map else {
         return Ok(());
@@ -199,15 +258,24 @@ fn keep_named(
     let Some(first) = index.maps.place(name) else {
         return Ok(());
     };
-    if is_done(kept, first, prefixes) || asks_communities(&config.clauses, name) {
+    let room = KEPT_LIMIT - kept.decided.len().min(KEPT_LIMIT);
+    if kept.done.get(first).copied().unwrap_or(true) || prefixes.len() > room {
         return Ok(());
     }
-    kept.mark(first);
+    let Some(numbers) = asked_by(alloc, config, index, name, first)? else {
+        kept.mark(first, None);
+        return Ok(());
+    };
+    let flat = flat_of(config, index, name, first);
+    kept.mark(first, Some(Asked { numbers, flat }));
+    if flat.is_some() {
+        return Ok(());
+    }
     keep_map(config, index, kept, name, first, prefixes)
 }
 
-/// What the maps of a router's neighbor statements decide on these prefixes, as far as they ask for
-/// no communities.
+/// What the maps of a router's neighbor statements decide on these prefixes, for routes whose
+/// communities meet no clause of the map that asks for some.
 pub(crate) fn kept_of(
     alloc: Global,
     config: &RouterConfig,
@@ -216,15 +284,16 @@ pub(crate) fn kept_of(
 ) -> Result<Kept, AllocError>
     requires indexed { IsIndexed (config_view config.now) index.now }
     requires formed { IsWellFormed (config_view config.now) }
-    ensures { IfOk result (λ kept. AreKept (config_view config.now) (kept_table kept)) }
+    ensures kept { IfOk result (λ kept. AreKept (config_view config.now) (kept_table kept)) }
+    ensures asked { IfOk result (λ kept. AreAsked (config_view config.now) (asked_table kept)) }
 {
     let mut kept = Kept::with_room(alloc, config.clauses.len())?;
     let Some(process) = &config.process else {
         return Ok(kept);
     };
     'neighbors: for neighbor in &process.neighbors {
-        keep_named(config, index, &mut kept, &neighbor.map_in, prefixes)?;
-        keep_named(config, index, &mut kept, &neighbor.map_out, prefixes)?;
+        keep_named(alloc, config, index, &mut kept, &neighbor.map_in, prefixes)?;
+        keep_named(alloc, config, index, &mut kept, &neighbor.map_out, prefixes)?;
     }
     Ok(kept)
 }

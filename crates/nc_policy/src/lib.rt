@@ -10,9 +10,13 @@
 //! length of its entries' prefixes, at most 33.
 //!
 //! What the maps of neighbor statements decide on the prefixes of the network's networks and
-//! aggregates is worked out once and kept, for maps that ask for no communities. That takes memory
-//! for each of a router's maps in use times the prefixes, and for no more than 1,048,576 decisions
-//! of a router; what isn't kept is found by going over the clauses. [`pass`] tells the same without
+//! aggregates is worked out once and kept, for routes whose communities meet no clause of the map
+//! that asks for some. A table of the map says of which communities a route has to have one to meet
+//! such a clause: a route that has none of them is decided by two look-ups and one for each of its
+//! communities, however many clauses and lists there are. Of a map that names no prefix list one such
+//! decision is kept for all prefixes; of others what is kept takes memory for each of a router's maps
+//! in use times the prefixes, and for no more than 1,048,576 decisions of a router. What isn't kept is
+//! found by going over the clauses. [`pass`] tells the same without
 //! making the route, without a set of communities and without memory: which clause let it pass, and
 //! by which entries. The tables find the network and the aggregate of a prefix too.
 //!
@@ -21,6 +25,7 @@
 //! Its contract promises that both forms answer by that definition.
 #![tactic(auto)]
 
+mod asked;
 mod clauses;
 mod guards;
 mod index;

@@ -109,9 +109,10 @@ fn index_of<'a>(index: Option<&'a RouterIndex>, place: usize) -> Option<&'a List
         → slice_get config.lists place ≡ Some list
         → IfSome result (λ x. IsIndexOf list.entries x.now) }
 {
-    match index {
-        Some(index) => index.list(place),
-        None => None,
+    let index = index?;
+    match index.lists.get(place) {
+        Some(Some(table)) => Some(table),
+        _ => None,
     }
 }
 

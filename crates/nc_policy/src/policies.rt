@@ -29,7 +29,8 @@ use std::marker::Model;
 /// They are made once, and by them the clauses of a map are found one behind the other, a list by
 /// its name and a network or an aggregate by its prefix at one look-up, and what a longer prefix list
 /// says of a prefix at one binary search for each length that prefixes of its entries have. What maps
-/// of neighbor statements that ask for no communities decide on the network's prefixes is kept.
+/// of neighbor statements decide on the network's prefixes is kept, for routes whose communities meet
+/// no clause of the map that asks for some.
 #[derive(Drop)]
 pub struct Policies {
     routers: Vec<RouterIndex>,

@@ -1,9 +1,8 @@
 //! The tables of one router: of its lists and maps, and of its networks and aggregates.
 
-ghost use Rattle.std.specs.Prelude.{◌≡◌, map, true, IfOk, IfSome, None, Some, slice_get};
+ghost use Rattle.std.specs.Prelude.{map, IfOk, IfSome};
 ghost use Rattle.std.specs.Option.{option_map};
-ghost use Rattle.nc_types.specs.Config.{ClauseView, ConfigView, PrefixListView, config_view, list_view};
-ghost use Rattle.nc_tables.specs.Policy.{community_place, met, prefix_place};
+ghost use Rattle.nc_types.specs.Config.{config_view, list_view};
 ghost use Rattle.nc_types.specs.WellFormed.{IsWellFormed};
 ghost use Rattle.nc_policy.specs.Indexes.{AreEntryTables};
 ghost use Rattle.nc_policy.specs.Seen.{entry_table, IsIndexed, IsIndexOf};
@@ -14,7 +13,6 @@ use crate::kept::{Kept, kept_of};
 use crate::names::NameIndex;
 use crate::spans::{Span, clause_spans};
 use crate::statements::{PrefixIndex, aggregates_in, networks_in};
-use nc_community::Held;
 use nc_types::{Prefix, PrefixList, Reference, RouterConfig};
 use std::alloc::{AllocError, Global};
 
@@ -107,6 +105,7 @@ impl RouterIndex {
         let guards = clause_guards(alloc, config, &community_names)?;
         let networks = PrefixIndex::new(alloc, networks_in(config))?;
         let aggregates = PrefixIndex::new(alloc, aggregates_in(config))?;
+        let kept = Kept::with_room(alloc, 0)?;
         Ok(RouterIndex {
             names,
             community_names,
@@ -116,7 +115,7 @@ impl RouterIndex {
             lists,
             spans,
             guards,
-            kept: Kept::new(alloc),
+            kept,
         })
     }
 
@@ -132,43 +131,5 @@ impl RouterIndex {
         let mut tables = RouterIndex::bare(alloc, config)?;
         tables.kept = kept_of(alloc, config, &tables, prefixes)?;
         Ok(tables)
-    }
-
-    /// The table of the prefix list at a place, if it has one.
-    pub(crate) fn list(&self, place: usize) -> Option<&ListIndex>
-        ensures { (config : ConfigView) (list : PrefixListView) → IsIndexed config self.now
-            → slice_get config.lists place ≡ Some list
-            → IfSome result (λ index. IsIndexOf list.entries index.now) }
-    {
-        match self.lists.get(place) {
-            Some(Some(index)) => Some(index),
-            _ => None,
-        }
-    }
-
-    /// Whether a prefix lies outside of what the prefix lists of the clause at a place permit. Where
-    /// it does, the clause matches no route of it.
-    pub(crate) fn misses(&self, place: usize, prefix: Prefix) -> bool
-        ensures { (config : ConfigView) (k : ClauseView) → IsIndexed config self.now
-            → slice_get config.clauses place ≡ Some k → result ≡ true
-            → met (prefix_place config prefix) k.lists ≡ None }
-    {
-        match self.spans.get(place) {
-            Some(span) => span.misses(prefix.addr()),
-            None => false,
-        }
-    }
-
-    /// Whether communities have none without which the clause at a place matches no route. Takes no
-    /// memory.
-    pub(crate) fn is_unheld(&self, place: usize, held: &Held) -> bool
-        ensures { (config : ConfigView) (k : ClauseView) → IsIndexed config self.now
-            → slice_get config.clauses place ≡ Some k → result ≡ true
-            → met (community_place config held.now) k.community_lists ≡ None }
-    {
-        match self.guards.get(place) {
-            Some(guard) => guard.is_unheld(held),
-            None => false,
-        }
     }
 }

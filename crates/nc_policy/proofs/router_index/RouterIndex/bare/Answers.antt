@@ -24,7 +24,8 @@ returns c =
       aggregates = subst (λ (gs : List AggregateStatement). IsPrefixIndex (map (λ a. a.prefix) gs) c.in_ok-aggregates.aggregates) c.aggregates_in.ensures c.in_ok-aggregates.ensures;
       spans = c.in_ok-spans.ensures;
       guards = c.in_ok-guards.ensures;
-      kept = nothing_kept (config_view config) (kept_table c.new-6.result) c.new-6.ensures;
+      kept = nothing_kept (config_view config) (kept_table c.in_ok-kept.kept) c.in_ok-kept.ensures.kept;
+      asked = c.in_ok-kept.ensures.asked (config_view config);
     }
 
 pub clause_spans-requires : goal.clause_spans-requires

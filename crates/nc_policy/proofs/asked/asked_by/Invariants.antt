@@ -1,0 +1,21 @@
+use Rattle.std.proofs.Common.{◌≡◌, ◌-◌, ℕ, List, IfSome, Some, None, true, length}
+use Rattle.std.specs.Prelude.{slice_get}
+use Rattle.std.specs.Option.{option_map_or}
+use Rattle.nc_types.specs.Config.{ClauseView, config_view}
+use Rattle.nc_tables.specs.Policy.{community_place, met}
+use Rattle.nc_policy.specs.Kept.{asks, IsApart}
+use Rattle.nc_policy.specs.Views.{map_names}
+use Rattle.nc_policy.proofs.Asking.{is_past}
+use Rattle.nc_policy.proofs.asked.asked_by.Given as goal
+
+-- of the clauses so far the numbers are there
+abbrev pub invariant-clauses : goal.invariant-clauses
+invariant-clauses l = record {
+  named : IfSome l.next (λ k. slice_get (map_names (config_view l.config)) k ≡ Some l.name);
+  past :
+      (j : ℕ) (k : ClauseView) → slice_get (config_view l.config).clauses j ≡ Some k → asks l.name k ≡ true → is_past l.next j ≡ true → (held : List ℕ) → IsApart l.numbers.keys held
+      → met (community_place (config_view l.config) held) k.community_lists ≡ None;
+}
+
+abbrev pub decreases-clauses : goal.decreases-clauses
+decreases-clauses l = option_map_or (λ (k : ℕ). length l.config.clauses.items - k) l.next 0
