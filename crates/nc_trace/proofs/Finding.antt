@@ -1,7 +1,7 @@
 -- What is found stays found.
-use Rattle.std.proofs.Common.{◌≡◌, ℕ, zero, suc, ◌-◌, ◌≤◌, true, List, [], ◌∷◌, ◌++◌, length, map, take, drop, replicate, get_or, Option, Some, None, refl, sym, ap, subst, ◌∙◌, arith, inl, inr}
+use Rattle.std.proofs.Common.{◌≡◌, ℕ, zero, suc, ◌-◌, ◌≤◌, true, false, List, [], ◌∷◌, ◌++◌, length, map, take, drop, replicate, get_or, Option, Some, None, refl, sym, ap, subst, ◌∙◌, arith, inl, inr}
 use Rattle.std.specs.List.{All, slice_get, slice_index_or}
-use Rattle.std.specs.Option.{option_map, ForSome}
+use Rattle.std.specs.Option.{is_some, option_map, ForSome}
 use Rattle.std.proofs.lemmas.List.{take-append-drop, take-append-le, drop-append-le, length-map, length-drop, take_all, drop-map, map_push}
 use Rattle.std.proofs.Math.Seq.{drop-append_seam}
 use Rattle.std.proofs.lemmas.Bool.{cases_lt}
@@ -32,6 +32,9 @@ none_found n ways router = at_view (replicate n None) ways router ∙ ap (option
 
 pub none_within : (n : ℕ) (ways : List Alternative) → AreWithin (replicate n None) ways
 none_within n ways router span e = let none = none_yet {A = Span} n router in absurd cc
+
+pub none_listed : (n router : ℕ) → is_some (slice_index_or (replicate {A = Option Span} n None) router None) ≡ false
+none_listed n router = ap is_some (none_yet {A = Span} n router)
 
 -- ways behind those of a span leave them as they are
 pub span_kept : (old new : List Alternative) (span : Span) → IsWithin (length old) span → take (length old) new ≡ old → in_span new span ≡ in_span old span

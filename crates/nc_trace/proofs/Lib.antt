@@ -6,3 +6,5 @@ pub mod Beyond
 pub mod Marking
 pub mod Taking
 pub mod Tracing
+pub mod Listing
+pub mod Numbers

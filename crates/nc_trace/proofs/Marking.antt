@@ -1,11 +1,12 @@
 -- Whether a packet arrives over so many hops from a router that is asked about is made of one step for each hop.
-use Rattle.std.proofs.Common.{◌≡◌, ℕ, suc, ◌≤◌, Bool, true, false, ◌&&◌, ◌||◌, nat_lt, List, [], ◌∷◌, length, Option, None, Some, refl, sym, ap, ◌∙◌, arith, inl, inr}
+use Rattle.std.proofs.Common.{◌≡◌, ℕ, suc, ◌≤◌, Bool, true, false, ◌&&◌, ◌||◌, nat_lt, List, [], ◌∷◌, length, Option, None, Some, refl, sym, ap, subst, ◌∙◌, arith, inl, inr}
 use Rattle.std.specs.List.{All, list_any, list_all, slice_index_or}
 use Rattle.std.specs.Option.{ForSome}
 use Rattle.std.proofs.lemmas.Bool.{and_parts, and_from}
 use Rattle.nc_tables.specs.Forwarding.{Outcome, Deliver, Go, Lost, Alternative, arrives_by}
 use Rattle.nc_tables.specs.Reach.{owns}
 use Rattle.nc_tables.specs.State.{StateView}
+use Rattle.nc_tables.proofs.Owner.{some_is}
 use Rattle.nc_underlay.proofs.Fewest.{IsStepped}
 use Rattle.nc_trace.specs.declared.packet.By.{By}
 use Rattle.nc_trace.specs.Found.{FoundWays, covers, GoesTo, IsCoveredOrNone, IsFoundTo, ways_out}
@@ -79,6 +80,13 @@ module _ (s : StateView) (by : By) (addr : ℕ) (none : (router : ℕ) → lengt
         let both = and_parts (is_asked found router) (passes_as s by addr f router) e in
         and_from (is_asked found router) (passes_as s by addr g router) both.0 (passes_more_as s by addr router f g weaker both.1);
   }
+
+  pub found_stepped : (found : FoundWays) → IsFoundTo s (packet_of by addr) found → IsStepped (over s by addr (Some found)) (step s by addr (Some found))
+  found_stepped found is = stepped (Some found) (λ other e. subst (IsFoundTo s (packet_of by addr)) (some_is found other e) is)
+
+  -- so where each is asked about
+  pub all_stepped : IsStepped (over s by addr None) (step s by addr None)
+  all_stepped = stepped None (λ found e. absurd cc)
 
   -- from a router that doesn't exist no packet arrives
   pub not_over : (found : Option FoundWays) (hops router : ℕ) → length s.routers ≤ router → over s by addr found hops router ≡ false

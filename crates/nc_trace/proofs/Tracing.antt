@@ -46,13 +46,20 @@ module _ (s : StateView) (addr : ℕ) (found : FoundWays) (none : (router : ℕ)
   }
 
 -- what is counted of a question is of what was asked
-pub counted : (s asked : StateView) (by kind : By) (addr to : ℕ) (o : Option FoundWays) (found : FoundWays) (fewest : List ℕ) → asked ≡ s → kind ≡ by → to ≡ addr → o ≡ Some found
-    → distances.AreFewest (over asked kind to o) fewest → AreFewest s found by addr fewest
-counted s asked by kind addr to o found fewest state same address some are =
+pub counted : (s asked : StateView) (by kind : By) (addr to : ℕ) (found : FoundWays) (fewest : List ℕ) → asked ≡ s → kind ≡ by → to ≡ addr
+    → distances.AreFewest (over asked kind to (Some found)) fewest → AreFewest s found by addr fewest
+counted s asked by kind addr to found fewest state same address are =
     subst (λ (x : StateView). distances.AreFewest (over x by addr (Some found)) fewest) state
     (subst (λ (b : By). distances.AreFewest (over asked b addr (Some found)) fewest) same
-    (subst (λ (a : ℕ). distances.AreFewest (over asked kind a (Some found)) fewest) address
-    (subst (λ (x : Option FoundWays). distances.AreFewest (over asked kind to x) fewest) some are)))
+    (subst (λ (a : ℕ). distances.AreFewest (over asked kind a (Some found)) fewest) address are))
+
+-- what was found for an address is what a question of it asks for
+pub found_for : (s asked : StateView) (by kind : By) (addr to : ℕ) (found : FoundWays) → asked ≡ s → kind ≡ by → to ≡ addr
+    → IsFoundTo s (packet_of by addr) found → IsFoundTo asked (packet_of kind to) found
+found_for s asked by kind addr to found state same address is =
+    subst (λ (x : StateView). IsFoundTo x (packet_of kind to) found) (sym state)
+    (subst (λ (b : By). IsFoundTo s (packet_of b to) found) (sym same)
+    (subst (λ (a : ℕ). IsFoundTo s (packet_of by a) found) (sym address) is))
 
 -- what comes by the way at a place tells whether it passes
 pub by_place : (passes : Outcome → Bool) (ways : List Alternative) (place hops : ℕ) (o : Outcome) → hops ≤ HOP_LIMIT → Some o ≡ option_map (λ way. way.outcome) (slice_get ways place)

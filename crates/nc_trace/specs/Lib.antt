@@ -4,5 +4,6 @@ pub mod Found
 pub mod Left
 pub mod Traced
 pub mod Levels
+pub mod Counting
 pub mod Asked
 pub mod Flow

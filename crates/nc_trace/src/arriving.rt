@@ -23,7 +23,7 @@ use nc_types::{Addr, HOP_LIMIT, ROUTER_LIMIT, RouterId};
 fn fewest_by(state: &Stable, addr: Addr, by: By) -> [u8; ROUTER_LIMIT]
     ensures { AreFewest (λ hops router. arrives_as state.now by hops router addr.0) result }
 {
-    fewest_hops(asked_of(state, addr, by, None))
+    fewest_hops(asked_of(state, addr, by))
 }
 
 /// Whether a packet for an address arrives from a router by some way of the main tables, over at most so many hops, 0

@@ -13,9 +13,10 @@ ghost use Rattle.nc_trace.specs.Packets.{between};
 ghost use Rattle.nc_trace.specs.Views.{alternative_view};
 
 use crate::alternative::Alternative;
+use crate::counting::count_hops;
 use crate::found::Found;
 use crate::hops::{is_within, leads_on, outcome_in};
-use crate::levels::{NEVER, asked_of, fewest_hops};
+use crate::levels::{NEVER, asked_of};
 use crate::packet::{By, Packet};
 use nc_filter::FilterTables;
 use nc_tables::{Passing, Stable};
@@ -50,6 +51,7 @@ impl FlowTo {
 
     /// Lets go of all routers. The tables of access lists, and its room in memory, are kept for another packet in the
     /// same state.
+    #[inline(never)]
     pub fn clear(&mut self)
         ensures { (s : StateView) (from to : ℕ) → IsState s → ForSome self.old.tables (AreFilters s.routers)
             → IsFlowTo s from to self.new }
@@ -73,8 +75,8 @@ impl FlowTo {
     }
 
     /// Includes a router and all routers to which ways lead from it. Of those that weren't included before it finds
-    /// the ways once, each list on them is gone through once, and then it goes over all that are for one count of hops
-    /// after the other, as long as each has a router more. Where memory runs out, none is included.
+    /// the ways once, each list on them is gone through once, and then it goes through all that are, and no other,
+    /// until no count of hops gets smaller. Where memory runs out, none is included.
     ///
     /// # Errors
     ///
@@ -90,10 +92,27 @@ impl FlowTo {
         ensures flow { IsFlowTo state.now from.0 to.0 self.new }
         ensures included { OnOk result (IsFlowIncluded state.now self.new router.0) }
     {
-        let _state = state.network();
         if self.found.covers(router) {
             return Ok(());
         }
+        self.include_new(state, from, to, router)
+    }
+
+    // The same of a router that isn't included. It stands by itself, so that the look at one that is needs no room of
+    // its own.
+    #[inline(never)]
+    fn include_new(
+        &mut self,
+        state: &Stable,
+        from: Addr,
+        to: Addr,
+        router: RouterId,
+    ) -> Result<(), AllocError>
+        requires { IsFlowTo state.now from.0 to.0 self.old }
+        ensures flow { IsFlowTo state.now from.0 to.0 self.new }
+        ensures included { OnOk result (IsFlowIncluded state.now self.new router.0) }
+    {
+        let _state = state.network();
         self.make_tables(state)?;
         let packet = Packet {
             from: Some(from),
@@ -122,8 +141,8 @@ impl FlowTo {
         ensures found { self.new.found ≡ self.old.found }
     {
         let _state = state.network();
-        let asked = asked_of(state, to, By::Filtered(from), Some(&self.found));
-        self.fewest = fewest_hops(asked);
+        let asked = asked_of(state, to, By::Filtered(from));
+        self.fewest = count_hops(asked, &self.found);
     }
 
     /// The ways out of a router that is included, in order, as the packet takes them: by one on which an access list

@@ -1,10 +1,10 @@
 //! The ways of routers for one packet, from one router on: those of each router to which they lead are found too.
 
-ghost use Rattle.std.specs.Prelude.{◌≡◌, ◌-◌, ◌<◌, ◌≤◌, ◌≢◌, ◌++◌, ◌⊎◌, ◌∷◌, [], ℕ, Some, None, true, is_some, length, take, drop, map, slice_get, All, IfOk, OnOk};
+ghost use Rattle.std.specs.Prelude.{◌≡◌, ◌-◌, ◌<◌, ◌≤◌, ◌≢◌, ◌++◌, ◌⊎◌, ◌∷◌, [], ℕ, Some, None, true, is_some, length, take, drop, map, slice_get, slice_index_or, All, IfOk, OnOk};
 ghost use Rattle.std.specs.Option.{unwrap_or, ForSome};
 ghost use Rattle.nc_filter.specs.Tables.{AreFilters};
 ghost use Rattle.nc_tables.specs.Forwarding.{alternatives};
-ghost use Rattle.nc_trace.specs.Found.{IsWithin, found_at, covers, GoesTo, IsListed, IsListedOrNone, IsCoveredOrNone, IsCoveredOrListed, IsFoundTo, AreWays, LeadTo, ways_out};
+ghost use Rattle.nc_trace.specs.Found.{AreFew, AreListed, IsWithin, found_at, is_one_of, covers, GoesTo, IsListed, IsListedOrNone, IsCoveredOrNone, IsCoveredOrListed, IsFoundTo, AreWays, LeadTo, ways_out};
 ghost use Rattle.nc_trace.specs.Views.{alternative_view, outcome_view};
 
 use crate::alternative::{Alternative, Outcome};
@@ -71,21 +71,36 @@ fn part(ways: &[Alternative], span: Span) -> &[Alternative]
     &ways[span.from..span.to]
 }
 
+// Takes away the spans of these routers, which are all that have one.
+fn forget(routers: &[RouterId], spans: &mut [Option<Span>; ROUTER_LIMIT])
+    requires listed { AreListed spans.old routers.now }
+    requires few { AreFew routers.now }
+    ensures { (router : ℕ) → slice_index_or spans.new router None ≡ None }
+{
+    let mut left = routers;
+    'routers: while let Some((router, before)) = left.split_last() {
+        spans[router.0 as usize] = None;
+        left = before;
+    }
+}
+
 /// The ways of some routers for one packet.
 #[derive(Drop)]
 pub(crate) struct Found {
     spans: [Option<Span>; ROUTER_LIMIT],
     ways: Vec<Alternative>,
+    // The routers that have a span, so that no other has to be looked at.
+    routers: Vec<RouterId>,
 }
 
 impl Model for Found {
-    ghost use Rattle.nc_trace.specs.Found.{FoundWays, found_view, AreWithin};
+    ghost use Rattle.nc_trace.specs.Found.{FoundWays, found_view, AreKept};
 
     ghost Value = { FoundWays };
 
     ghost view = { λ f. found_view f.spans f.ways.items };
 
-    ghost invariant = { λ f. AreWithin f.spans f.ways.items };
+    ghost invariant = { λ f. AreKept f.spans f.ways.items f.routers.items };
 }
 
 impl Found {
@@ -96,6 +111,7 @@ impl Found {
         Found {
             spans: [None; ROUTER_LIMIT],
             ways: Vec::new(alloc),
+            routers: Vec::new(alloc),
         }
     }
 
@@ -103,8 +119,17 @@ impl Found {
     pub(crate) fn clear(&mut self)
         ensures { (router : ℕ) → found_at self.new router ≡ None }
     {
-        self.spans = [None; ROUTER_LIMIT];
+        forget(&self.routers, &mut self.spans);
+        self.routers.clear();
         self.ways.clear();
+    }
+
+    /// The routers whose ways were found.
+    pub(crate) fn routers(&self) -> &[RouterId]
+        ensures these { (router : ℕ) → covers self.now router ≡ is_one_of result.now router }
+        ensures few { AreFew result.now }
+    {
+        &self.routers
     }
 
     /// Whether those of a router were found.
@@ -151,6 +176,7 @@ impl Found {
         let from = self.ways.len();
         push_ways(state, router, packet, tables, &mut self.ways, list)?;
         let to = self.ways.len();
+        self.routers.push(router)?;
         self.spans[router.0 as usize] = Some(Span { from, to });
         Ok(())
     }

@@ -1,12 +1,11 @@
 //! What is left of the ways out of a router, where some of its main rows are done.
 
-ghost use Rattle.std.specs.Prelude.{◌≡◌, ◌+◌, ◌^◌, ◌<◌, ◌∷◌, [], MatchOption, ℕ, filter, length, slice_get};
+ghost use Rattle.std.specs.Prelude.{◌≡◌, ◌+◌, ◌^◌, ◌<◌, ◌∷◌, [], MatchOption, filter, length, slice_get};
 ghost use Rattle.std.specs.List.{cons_option};
 ghost use Rattle.std.specs.Option.{option_map};
 ghost use Rattle.nc_tables.specs.Forwarding.{alternatives};
 ghost use Rattle.nc_tables.specs.Reach.{is_hit, hits};
 ghost use Rattle.nc_tables.specs.Rounds.{chosen_at};
-ghost use Rattle.nc_tables.specs.State.{StateView};
 ghost use Rattle.nc_trace.specs.Views.{alternative_view};
 ghost use Rattle.nc_trace.specs.Left.{places, ways_at, hit_ways, left_ways, IsLeft};
 
@@ -138,20 +137,6 @@ pub(crate) fn first_left(state: &Stable, router: RouterId, addr: Addr) -> Left
         hop: addr,
         hits: Rows { from: 0, to: 0 },
         mains: state.main().longest(router, addr),
-    }
-}
-
-/// Nothing is left.
-pub(crate) fn nothing_left(addr: Addr) -> Left
-    ensures ways { (s : StateView) (router : ℕ) → left_ways s router addr.0 result ≡ [] }
-    ensures left { IsLeft result }
-{
-    let none = Rows { from: 0, to: 0 };
-    Left {
-        main: 0,
-        hop: addr,
-        hits: none,
-        mains: none,
     }
 }
 

@@ -1,20 +1,19 @@
-//! Over how few hops a packet arrives from routers, by levels: those from which it does with no hop left, with
+//! Over how few hops a packet arrives from each router, by levels: those from which it does with no hop left, with
 //! one, and so on, until a level has no router more, or no hop is left to try.
 
-ghost use Rattle.std.specs.Prelude.{◌≡◌, ◌+◌, ◌≤◌, ◌<◌, ◌&&◌, ◌==◌, true, false, ℕ, nat_lt, length};
-ghost use Rattle.std.specs.Option.{option_map, option_map_or, ForSome};
+ghost use Rattle.std.specs.Prelude.{◌≡◌, ◌+◌, ◌≤◌, ◌<◌, ◌&&◌, ◌==◌, None, false, ℕ, nat_lt, length};
+ghost use Rattle.std.specs.Option.{option_map_or};
 ghost use Rattle.nc_types.specs.declared.TheConstants.{HOP_LIMIT, ROUTER_LIMIT};
 ghost use Rattle.nc_tables.specs.Forwarding.{arrives_by, some_way, each_way};
 ghost use Rattle.nc_trace.specs.Views.{outcome_view};
 ghost use Rattle.nc_underlay.specs.Distances.{fewest_of, is_earlier};
-ghost use Rattle.nc_trace.specs.Asked.{found_in, IsAsked};
-ghost use Rattle.nc_trace.specs.Found.{IsFoundTo, ways_out};
+ghost use Rattle.nc_trace.specs.Asked.{IsAsked};
+ghost use Rattle.nc_trace.specs.Found.{ways_out};
 ghost use Rattle.nc_tables.specs.Reach.{owns};
-ghost use Rattle.nc_trace.specs.Levels.{AreFewest, AreMarked, AreRight, is_asked, over, passes_as, step};
+ghost use Rattle.nc_trace.specs.Levels.{AreFewest, AreMarked, AreRight, over, passes_as};
 ghost use Rattle.nc_trace.specs.Packets.{packet_of};
 
 use crate::alternative::Outcome;
-use crate::found::Found;
 use crate::packet::By;
 use crate::ways::Ways;
 use nc_tables::Stable;
@@ -23,8 +22,8 @@ use nc_types::{Addr, HOP_LIMIT, ROUTER_LIMIT, RouterId};
 /// The number of a router from which no packet arrives.
 pub(crate) const NEVER: u8 = HOP_LIMIT + 1;
 
-// Whether a packet is delivered, or goes to a router from which it arrives over fewer hops.
-fn arrives_earlier(fewest: &[u8; ROUTER_LIMIT], hops: u8, outcome: Outcome) -> bool
+/// Whether a packet is delivered, or goes to a router from which it arrives over fewer hops.
+pub(crate) fn arrives_earlier(fewest: &[u8; ROUTER_LIMIT], hops: u8, outcome: Outcome) -> bool
     requires { hops ≤ HOP_LIMIT }
     ensures { result ≡ arrives_by (is_earlier fewest.now hops) (outcome_view outcome) }
 {
@@ -68,29 +67,17 @@ fn each_passes(ways: Ways, fewest: &[u8; ROUTER_LIMIT], hops: u8) -> bool
     some
 }
 
-/// What is asked of the routers of a state: whether a packet for an address arrives, by each way or by some. Where
-/// ways were found before, those routers alone are asked about.
+/// What is asked of the routers of a state: whether a packet for an address arrives, by each way or by some.
 #[derive(Clone, Copy)]
 pub(crate) struct Question<'a> {
     pub(crate) state: &'a Stable,
     pub(crate) addr: Addr,
     pub(crate) owner: Option<RouterId>,
     pub(crate) by: By,
-    pub(crate) found: Option<&'a Found>,
 }
 
-// Whether a router is asked about.
-fn is_asked(asked: Question, router: RouterId) -> bool
-    ensures { result ≡ is_asked (found_in asked.entry) router.0 }
-{
-    match asked.found {
-        Some(found) => found.covers(router),
-        None => true,
-    }
-}
-
-// Whether a router owns the address.
-fn is_owner(asked: Question, router: RouterId) -> bool
+/// Whether a router owns the address.
+pub(crate) fn is_owner(asked: Question, router: RouterId) -> bool
     ensures { result ≡ option_map_or (λ o. o.0 == router.0) asked.entry.owner false }
 {
     match asked.owner {
@@ -99,25 +86,11 @@ fn is_owner(asked: Question, router: RouterId) -> bool
     }
 }
 
-// The ways of a router that is asked about, found before or not.
-fn ways_of<'a>(asked: Question<'a>, router: RouterId) -> Ways<'a>
-    requires router { router.0 < length asked.state.now.routers }
-    requires asked { IsAsked asked }
-    requires this { is_asked (found_in asked) router.0 ≡ true }
-    ensures { result ≡ ways_out asked.entry.state.now (packet_of asked.entry.by asked.entry.addr.0) router.0 }
-{
-    match asked.found {
-        Some(found) => Ways::kept(asked.state, router, asked.addr, found.ways(router)),
-        None => Ways::of(asked.state, router, asked.by.packet(asked.addr)),
-    }
-}
-
-// Whether a router that is asked about owns the address, or its ways, some or each, lead to where a packet arrives
+// Whether a router owns the address, or its ways, some or each, lead to where a packet arrives
 // over fewer hops.
 fn passes(asked: Question, router: RouterId, fewest: &[u8; ROUTER_LIMIT], hops: u8) -> bool
     requires router { router.0 < length asked.state.now.routers }
     requires asked { IsAsked asked }
-    requires this { is_asked (found_in asked) router.0 ≡ true }
     requires hops { hops ≤ HOP_LIMIT }
     ensures { result ≡ passes_as asked.entry.state.now asked.entry.by asked.entry.addr.0
         (is_earlier fewest.now hops) router.0 }
@@ -125,7 +98,7 @@ fn passes(asked: Question, router: RouterId, fewest: &[u8; ROUTER_LIMIT], hops: 
     if is_owner(asked, router) {
         return true;
     }
-    let ways = ways_of(asked, router);
+    let ways = Ways::of(asked.state, router, asked.by.packet(asked.addr));
     if asked.by.is_each() {
         each_passes(ways, fewest, hops)
     } else {
@@ -133,42 +106,28 @@ fn passes(asked: Question, router: RouterId, fewest: &[u8; ROUTER_LIMIT], hops: 
     }
 }
 
-// Whether a router is asked about and passes.
-fn steps(asked: Question, router: RouterId, fewest: &[u8; ROUTER_LIMIT], hops: u8) -> bool
-    requires router { router.0 < length asked.state.now.routers }
-    requires asked { IsAsked asked }
-    requires hops { hops ≤ HOP_LIMIT }
-    ensures { result ≡ step asked.entry.state.now asked.entry.by asked.entry.addr.0 (found_in asked.entry)
-        (is_earlier fewest.now hops) router.0 }
-{
-    if !is_asked(asked, router) {
-        return false;
-    }
-    passes(asked, router, fewest, hops)
-}
-
-// Whether a router is asked about, a packet arrives from it over so many hops, and it has no lower number.
+// Whether a packet arrives from a router over so many hops, and it has no lower number.
 fn is_new(asked: Question, router: RouterId, fewest: &[u8; ROUTER_LIMIT], hops: u8) -> bool
     requires router { router.0 < length asked.state.now.routers }
     requires few { length asked.state.now.routers ≤ ROUTER_LIMIT }
     requires asked { IsAsked asked }
     requires hops { hops ≤ HOP_LIMIT }
-    requires known { AreRight asked.state.now asked.by asked.addr.0 (found_in asked) hops fewest.now }
+    requires known { AreRight asked.state.now asked.by asked.addr.0 None hops fewest.now }
     ensures { result ≡ (nat_lt hops (fewest_of fewest.now router.0)
-        && over asked.entry.state.now asked.entry.by asked.entry.addr.0 (found_in asked.entry) hops router.0) }
+        && over asked.entry.state.now asked.entry.by asked.entry.addr.0 None hops router.0) }
 {
     if fewest[router.0 as usize] <= hops {
         return false;
     }
-    steps(asked, router, fewest, hops)
+    passes(asked, router, fewest, hops)
 }
 
 // Gives this number to the routers of the level that have none yet; whether there are such.
 fn mark_level(asked: Question, hops: u8, fewest: &mut [u8; ROUTER_LIMIT]) -> bool
     requires asked { IsAsked asked }
     requires hops { hops ≤ HOP_LIMIT }
-    requires before { AreMarked asked.state.now asked.by asked.addr.0 (found_in asked) hops fewest.old }
-    ensures marked { AreMarked asked.entry.state.now asked.entry.by asked.entry.addr.0 (found_in asked.entry)
+    requires before { AreMarked asked.state.now asked.by asked.addr.0 None hops fewest.old }
+    ensures marked { AreMarked asked.entry.state.now asked.entry.by asked.entry.addr.0 None
         (hops + 1) fewest.new }
     ensures same { result ≡ false → fewest.new ≡ fewest.old }
 {
@@ -194,20 +153,12 @@ fn owner_of(state: &Stable, addr: Addr) -> Option<RouterId>
     Some(owner)
 }
 
-/// What is asked of an address, of all routers, or of those whose ways were found. The owner of the address is looked
-/// up here, once.
-pub(crate) fn asked_of<'a>(
-    state: &'a Stable,
-    addr: Addr,
-    by: By,
-    found: Option<&'a Found>,
-) -> Question<'a>
-    requires { ForSome (option_map (λ found. found.now) found) (IsFoundTo state.now (packet_of by addr.0)) }
+/// What is asked of an address. Its owner is looked up here, once.
+pub(crate) fn asked_of(state: &Stable, addr: Addr, by: By) -> Question
     ensures asked { IsAsked result }
     ensures state { result.state.now ≡ state.now }
     ensures addr { result.addr ≡ addr }
     ensures by { result.by ≡ by }
-    ensures found { found_in result ≡ option_map (λ found. found.now) found.entry }
 {
     let _valid = state.network();
     Question {
@@ -215,14 +166,13 @@ pub(crate) fn asked_of<'a>(
         addr,
         owner: owner_of(state, addr),
         by,
-        found,
     }
 }
 
-/// For each router that is asked about the fewest hops over which a packet arrives.
+/// For each router the fewest hops over which a packet arrives.
 pub(crate) fn fewest_hops(asked: Question) -> [u8; ROUTER_LIMIT]
     requires { IsAsked asked }
-    ensures { AreFewest asked.entry.state.now asked.entry.by asked.entry.addr.0 (found_in asked.entry) result }
+    ensures { AreFewest asked.entry.state.now asked.entry.by asked.entry.addr.0 None result }
 {
     let mut fewest = [NEVER; ROUTER_LIMIT];
     let mut hops = 0;

@@ -10,13 +10,14 @@
 //! [`FlowTo`] for one source and destination, for each router that was included in it and all routers to which ways
 //! lead from there, so that each further question of them is one look: of each router its ways, which lie one behind
 //! the other in one vector, and counts of hops. So each never holds more than the ways of [`nc_types::ROUTER_LIMIT`]
-//! routers; [`FlowTo`] has the tables of the network's access lists besides. Whether a packet arrives is found by
-//! levels, one count of hops after the other, without memory, and by the same code for each kind of packet;
-//! [`alternatives`], [`TracedTo`] and [`FlowTo`] alone take some, for their lists and tables.
+//! routers; [`FlowTo`] has the tables of the network's access lists besides. Those two count hops by going through the
+//! routers that were included, and the functions by levels of all routers, without memory; both by the same code for
+//! each kind of packet. [`alternatives`], [`TracedTo`] and [`FlowTo`] alone take memory, for their lists and tables.
 #![tactic(auto)]
 
 mod alternative;
 mod arriving;
+mod counting;
 mod exits;
 mod flow;
 mod found;

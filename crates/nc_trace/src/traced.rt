@@ -10,9 +10,10 @@ ghost use Rattle.nc_trace.specs.Traced.{IsIncluded, IsTracedTo};
 ghost use Rattle.nc_trace.specs.Views.{alternative_view};
 
 use crate::alternative::Alternative;
+use crate::counting::count_hops;
 use crate::found::Found;
 use crate::hops::{is_within, leads_on, outcome_in};
-use crate::levels::{NEVER, Question, asked_of, fewest_hops};
+use crate::levels::{NEVER, Question, asked_of};
 use crate::packet::{By, Packet};
 use nc_tables::Stable;
 use nc_types::{Addr, HOP_LIMIT, ROUTER_LIMIT, RouterId};
@@ -53,6 +54,7 @@ impl TracedTo {
     }
 
     /// Lets go of all routers; its room in memory is kept for another address.
+    #[inline(never)]
     pub fn clear(&mut self)
         ensures { (s : StateView) (addr : ℕ) → IsState s → IsTracedTo s addr self.new }
     {
@@ -62,8 +64,8 @@ impl TracedTo {
     }
 
     /// Includes a router and all routers to which ways lead from it. Of those that weren't included before it finds
-    /// the ways once, and then goes over all that are for one count of hops after the other, as long as each has a
-    /// router more. Where memory runs out, none is included.
+    /// the ways once, and then goes through all that are, and no other, until no count of hops gets smaller. Where
+    /// memory runs out, none is included.
     ///
     /// # Errors
     ///
@@ -78,10 +80,26 @@ impl TracedTo {
         ensures traced { IsTracedTo state.now addr.0 self.new }
         ensures included { OnOk result (IsIncluded state.now self.new router.0) }
     {
-        let _state = state.network();
         if self.found.covers(router) {
             return Ok(());
         }
+        self.include_new(state, addr, router)
+    }
+
+    // The same of a router that isn't included. It stands by itself, so that the look at one that is, for which each
+    // fact of a packet asks, needs no room of its own.
+    #[inline(never)]
+    fn include_new(
+        &mut self,
+        state: &Stable,
+        addr: Addr,
+        router: RouterId,
+    ) -> Result<(), AllocError>
+        requires { IsTracedTo state.now addr.0 self.old }
+        ensures traced { IsTracedTo state.now addr.0 self.new }
+        ensures included { OnOk result (IsIncluded state.now self.new router.0) }
+    {
+        let _state = state.network();
         let mut none = None;
         let packet = Packet {
             from: None,
@@ -109,12 +127,13 @@ impl TracedTo {
         ensures found { self.new.found ≡ self.old.found }
     {
         let _state = state.network();
-        let asked = asked_of(state, addr, By::SomeWay, Some(&self.found));
-        let some = fewest_hops(asked);
-        let each = fewest_hops(Question {
+        let asked = asked_of(state, addr, By::SomeWay);
+        let some = count_hops(asked, &self.found);
+        let asked = Question {
             by: By::EachWay,
             ..asked
-        });
+        };
+        let each = count_hops(asked, &self.found);
         self.some = some;
         self.each = each;
     }

@@ -7,7 +7,7 @@ ghost use Rattle.nc_trace.specs.Found.{ways_out};
 ghost use Rattle.nc_trace.specs.Views.{alternative_view};
 
 use crate::alternative::Alternative;
-use crate::left::{Left, first_left, next_way, nothing_left};
+use crate::left::{Left, first_left, next_way};
 use crate::packet::Packet;
 use crate::taken::taken;
 use nc_tables::Stable;
@@ -18,8 +18,6 @@ use std::marker::Model;
 /// The ways out of a router that are left for a packet: one after the other, in order. It takes no memory.
 #[derive(Drop)]
 pub struct Ways<'a> {
-    // Those that were found before, and then those that are to be found.
-    kept: &'a [Alternative],
     state: &'a Stable,
     router: RouterId,
     packet: Packet,
@@ -27,16 +25,14 @@ pub struct Ways<'a> {
 }
 
 impl<'a> Model for Ways<'a> {
-    ghost use Rattle.std.specs.Prelude.{List, ◌<◌, ◌++◌, length, map};
+    ghost use Rattle.std.specs.Prelude.{List, ◌<◌, length};
     ghost use Rattle.nc_tables.specs.Forwarding.{Alternative};
     ghost use Rattle.nc_trace.specs.Found.{all_from};
     ghost use Rattle.nc_trace.specs.Left.{left_ways, IsLeft};
-    ghost use Rattle.nc_trace.specs.Views.{alternative_view};
 
     ghost Value = { List Alternative };
 
-    ghost view = { λ w. map alternative_view w.kept.now
-        ++ all_from w.state.now w.packet.from w.packet.to.0 w.router.0 (left_ways w.state.now w.router.0 w.packet.to.0 w.left) };
+    ghost view = { λ w. all_from w.state.now w.packet.from w.packet.to.0 w.router.0 (left_ways w.state.now w.router.0 w.packet.to.0 w.left) };
 
     ghost invariant = { λ w. (w.router.0 < length w.state.now.routers) × IsLeft w.left };
 }
@@ -48,7 +44,6 @@ impl<'a> Ways<'a> {
         ensures { result ≡ alternatives state.now.routers state.now.base state.now.bgp state.now.main router.0 addr.0 }
     {
         Ways {
-            kept: &[],
             state,
             router,
             packet: Packet {
@@ -65,33 +60,10 @@ impl<'a> Ways<'a> {
         ensures { result ≡ ways_out state.now packet router.0 }
     {
         Ways {
-            kept: &[],
             state,
             router,
             packet,
             left: first_left(state, router, packet.to),
-        }
-    }
-
-    /// Ways of that router that were found before.
-    pub(crate) fn kept(
-        state: &'a Stable,
-        router: RouterId,
-        addr: Addr,
-        kept: &'a [Alternative],
-    ) -> Ways<'a>
-        requires { router.0 < length state.now.routers }
-        ensures { result ≡ map alternative_view kept.now }
-    {
-        Ways {
-            kept,
-            state,
-            router,
-            packet: Packet {
-                from: None,
-                to: addr,
-            },
-            left: nothing_left(addr),
         }
     }
 
@@ -100,10 +72,6 @@ impl<'a> Ways<'a> {
         ensures { MatchOption result ((self.old ≡ []) × (self.new ≡ []))
             (λ way. self.old ≡ alternative_view way ∷ self.new) }
     {
-        if let Some((way, kept)) = self.kept.split_first() {
-            self.kept = kept;
-            return Some(*way);
-        }
         let (way, left) = next_way(self.state, self.router, self.packet.to, self.left)?;
         self.left = left;
         Some(taken(self.state, self.router, self.packet, way))

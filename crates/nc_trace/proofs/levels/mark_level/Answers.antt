@@ -1,4 +1,4 @@
-use Rattle.std.proofs.Common.{◌≡◌, ◌≢◌, ℕ, suc, true, false, ◌+◌, ◌<◌, ◌≤◌, length, List, ap, sym, subst, ◌∙◌, arith, inl, inr, get_or-set_same, get_or-set_other, length-set}
+use Rattle.std.proofs.Common.{None, ◌≡◌, ◌≢◌, ℕ, suc, true, false, ◌+◌, ◌<◌, ◌≤◌, length, List, ap, sym, subst, ◌∙◌, arith, inl, inr, get_or-set_same, get_or-set_other, length-set}
 use Rattle.std.proofs.lemmas.Bool.{cases_lt}
 use Rattle.std.proofs.lemmas.List.{length-map}
 use Rattle.nc_types.specs.declared.TheConstants.{HOP_LIMIT}
@@ -6,16 +6,15 @@ use Rattle.nc_types.specs.Config.{ConfigView, config_view}
 use Rattle.nc_underlay.specs.Distances.{fewest_of, IsMarked}
 use Rattle.nc_underlay.proofs.Fewest.{done_more, still}
 use Rattle.nc_trace.specs.Levels.{over}
-use Rattle.nc_trace.specs.Asked.{found_in}
 use Rattle.nc_trace.proofs.Beyond.{past_all}
-use Rattle.nc_trace.proofs.Marking.{stepped, not_over}
+use Rattle.nc_trace.proofs.Marking.{all_stepped, not_over}
 use Rattle.nc_trace.proofs.levels.mark_level.Goals as goal
 use Rattle.nc_trace.proofs.levels.mark_level.Goals.{then-is_new, else-is_new}
 
 pub routers-preserved : goal.routers-preserved
 routers-preserved c =
-    let arrives = over c.args.asked.state.now c.args.asked.by c.args.asked.addr.0 (found_in c.args.asked) in
-    let steps = stepped c.args.asked.state.now c.args.asked.by c.args.asked.addr.0 c.requires.asked.none (found_in c.args.asked) c.requires.asked.found in
+    let arrives = over c.args.asked.state.now c.args.asked.by c.args.asked.addr.0 None in
+    let steps = all_stepped c.args.asked.state.now c.args.asked.by c.args.asked.addr.0 c.requires.asked.none in
     let old = c.args.fewest.now in
     let now = c.routers.fewest in
     let router = c.routers.router in
@@ -51,6 +50,6 @@ returns-clause-marked c r = elim (cases_lt r c.routers.router) [
   | inr le ↦
       let past : length c.routers-count.result.now ≤ r = omega (arith, le, c.routers-test.false) in
       let beyond = past_all c.routers-count.result.now c.network.result.now c.args.asked.state.now.routers r c.routers-count.ensures.routers c.network.ensures.network past in
-      subst (λ (n : ℕ). IsMarked (over c.args.asked.state.now c.args.asked.by c.args.asked.addr.0 (found_in c.args.asked)) (c.args.hops + 1) n r) (sym (c.routers.invariant.rest r le))
-      (still (over c.args.asked.state.now c.args.asked.by c.args.asked.addr.0 (found_in c.args.asked)) _ (stepped c.args.asked.state.now c.args.asked.by c.args.asked.addr.0 c.requires.asked.none (found_in c.args.asked) c.requires.asked.found) c.args.hops (fewest_of c.args.fewest.now r) r c.requires.hops (c.requires.before r) (not_over c.args.asked.state.now c.args.asked.by c.args.asked.addr.0 c.requires.asked.none (found_in c.args.asked) c.args.hops r beyond))
+      subst (λ (n : ℕ). IsMarked (over c.args.asked.state.now c.args.asked.by c.args.asked.addr.0 None) (c.args.hops + 1) n r) (sym (c.routers.invariant.rest r le))
+      (still (over c.args.asked.state.now c.args.asked.by c.args.asked.addr.0 None) _ (all_stepped c.args.asked.state.now c.args.asked.by c.args.asked.addr.0 c.requires.asked.none) c.args.hops (fewest_of c.args.fewest.now r) r c.requires.hops (c.requires.before r) (not_over c.args.asked.state.now c.args.asked.by c.args.asked.addr.0 c.requires.asked.none None c.args.hops r beyond))
 ]

@@ -1,6 +1,5 @@
 use Rattle.std.proofs.Common.{ap}
 use Rattle.nc_types.specs.declared.addr.Addr.{Addr}
-use Rattle.nc_trace.specs.Asked.{found_in}
 use Rattle.nc_trace.specs.declared.packet.By.TheVariants.{Filtered}
 use Rattle.nc_trace.proofs.Beyond.{none_there}
 use Rattle.nc_trace.proofs.Tracing.{counted}
@@ -14,6 +13,6 @@ returns-clause-flow c =
     record {
       found = c.requires.found;
       none = λ router past. none_there s c.network-state.ensures.state router past c.args.to.0;
-      fewest = counted s asked.state.now (Filtered c.args.from) asked.by c.args.to.0 asked.addr.0 (found_in asked) c.args.self.now.found c.fewest_hops-self.result is.state is.by (ap (λ (a : Addr). a.0) is.addr) is.found c.fewest_hops-self.ensures;
+      fewest = counted s asked.state.now (Filtered c.args.from) asked.by c.args.to.0 asked.addr.0 c.args.self.now.found c.count_hops-self.result is.state is.by (ap (λ (a : Addr). a.0) is.addr) c.count_hops-self.ensures;
       tables = c.requires.tables;
     }

@@ -1,8 +1,8 @@
-use Rattle.nc_trace.proofs.Finding.{none_found, none_within}
+use Rattle.std.proofs.Common.{ap, ◌∙◌}
+use Rattle.std.specs.Option.{option_map}
+use Rattle.nc_trace.specs.Found.{in_span}
+use Rattle.nc_trace.proofs.Finding.{at_view}
 use Rattle.nc_trace.proofs.found.Found.clear.Goals as goal
 
-pub invariant_of-self : goal.invariant_of-self
-invariant_of-self c = none_within 256 c.clear.new.self.items
-
 pub returns : goal.returns
-returns c router = none_found 256 c.clear.new.self.items router
+returns c router = at_view c.forget.new.spans c.clear-2.new.self.items router ∙ ap (option_map (in_span c.clear-2.new.self.items)) (c.forget.ensures router)

@@ -12,4 +12,4 @@ part-requires c =
     let at : slice_index_or c.self.inside.spans c.args.router.0 None ≡ Some span =
     get_or_default c.self.inside.spans c.args.router.0 None c.in-Some-Some.field-0.now (ltb-true c.args.router.0 (length c.self.inside.spans) (sym c.in-Some-Some.ensures.lookup.0)) ∙ sym c.in-Some-Some.ensures.lookup.1 ∙ c.in-Some-Some.field-0-is in
     subst (λ (ways : List Alternative). IsWithin (length ways) span) (sym c.deref.ensures.value)
-    (c.self.invariant c.args.router.0 span at)
+    (c.self.invariant.within c.args.router.0 span at)

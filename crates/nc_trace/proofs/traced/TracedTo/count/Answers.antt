@@ -1,6 +1,5 @@
 use Rattle.std.proofs.Common.{refl, sym, ap, subst}
 use Rattle.nc_types.specs.declared.addr.Addr.{Addr}
-use Rattle.nc_trace.specs.Asked.{found_in}
 use Rattle.nc_trace.specs.declared.packet.By.TheVariants.{SomeWay, EachWay}
 use Rattle.nc_trace.specs.Found.{IsFoundTo}
 use Rattle.nc_trace.specs.Packets.{anywhere}
@@ -18,6 +17,6 @@ returns-clause-traced c =
     record {
       found = subst (λ (t : Traced). IsFoundTo s (anywhere c.args.addr.0) t.found) (sym c.self.view_is) c.requires;
       none = λ router past. none_there s c.network-state.ensures.state router past c.args.addr.0;
-      some = counted s asked.state.now SomeWay asked.by c.args.addr.0 asked.addr.0 (found_in asked) c.self.inside.found c.fewest_hops-some.result is.state is.by addr is.found c.fewest_hops-some.ensures;
-      each = counted s asked.state.now EachWay EachWay c.args.addr.0 asked.addr.0 (found_in asked) c.self.inside.found c.fewest_hops-each.result is.state refl addr is.found c.fewest_hops-each.ensures;
+      some = counted s asked.state.now SomeWay asked.by c.args.addr.0 asked.addr.0 c.self.inside.found c.count_hops-some.result is.state is.by addr c.count_hops-some.ensures;
+      each = counted s asked.state.now EachWay EachWay c.args.addr.0 asked.addr.0 c.self.inside.found c.count_hops-each.result is.state refl addr c.count_hops-each.ensures;
     }

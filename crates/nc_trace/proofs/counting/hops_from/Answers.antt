@@ -1,0 +1,37 @@
+use Rattle.std.proofs.Common.{◌≡◌, Bool, true, false, ap, sym, ◌∙◌, arith, inl}
+use Rattle.std.proofs.lemmas.Bool.{le-leb}
+use Rattle.nc_tables.specs.Forwarding.{Alternative, arrives_by, each_way, some_way}
+use Rattle.nc_tables.specs.Reach.{owns}
+use Rattle.nc_underlay.specs.Distances.{is_earlier}
+use Rattle.nc_trace.specs.Found.{ways_out}
+use Rattle.nc_trace.specs.Packets.{packet_of}
+use Rattle.nc_trace.specs.Traced.{ways_pass}
+use Rattle.nc_trace.proofs.Passing.{by_ways_as, by_owner_as}
+use Rattle.nc_trace.proofs.Tracing.{ways_told}
+use Rattle.nc_trace.proofs.counting.hops_from.Goals as goal
+
+pub returns-then-is_owner : goal.returns-then-is_owner
+returns-then-is_owner c hops few =
+    let own : owns c.args.asked.state.now.routers c.args.router.0 c.args.asked.addr.0 ≡ true = sym (c.requires.asked.owner c.args.router.0) ∙ sym c.is_owner.ensures ∙ c.if-is_owner.true in
+    le-leb 0 hops (omega arith)
+    ∙ by_owner_as c.args.asked.state.now c.args.asked.by c.args.asked.addr.0 c.args.router.0 (is_earlier c.args.fewest.now hops) own
+
+pub returns-then-is_each : goal.returns-then-is_each
+returns-then-is_each c hops few =
+    let asked = c.args.asked in
+    let other : owns asked.state.now.routers c.args.router.0 asked.addr.0 ≡ false = sym (c.requires.asked.owner c.args.router.0) ∙ sym c.is_owner.ensures ∙ c.if-is_owner.false in
+    let ways = c.ways-ways.ensures ∙ ways_told asked.state.now asked.by asked.addr.0 c.requires.asked.none c.args.found.now c.requires.found c.args.router.0 (inl c.requires.this) in
+    c.hops_by_each.ensures hops few
+    ∙ ap (each_way (λ (way : Alternative). arrives_by (is_earlier c.args.fewest.now hops) way.outcome)) ways
+    ∙ ap (λ (b : Bool). ways_pass b (λ (way : Alternative). arrives_by (is_earlier c.args.fewest.now hops) way.outcome) (ways_out asked.state.now (packet_of asked.by asked.addr.0) c.args.router.0)) (sym c.if-is_each.true ∙ c.is_each.ensures)
+    ∙ by_ways_as asked.state.now asked.by asked.addr.0 c.args.router.0 (is_earlier c.args.fewest.now hops) other
+
+pub returns-else-is_each : goal.returns-else-is_each
+returns-else-is_each c hops few =
+    let asked = c.args.asked in
+    let other : owns asked.state.now.routers c.args.router.0 asked.addr.0 ≡ false = sym (c.requires.asked.owner c.args.router.0) ∙ sym c.is_owner.ensures ∙ c.if-is_owner.false in
+    let ways = c.ways-ways.ensures ∙ ways_told asked.state.now asked.by asked.addr.0 c.requires.asked.none c.args.found.now c.requires.found c.args.router.0 (inl c.requires.this) in
+    c.hops_by_some.ensures hops few
+    ∙ ap (some_way (λ (way : Alternative). arrives_by (is_earlier c.args.fewest.now hops) way.outcome)) ways
+    ∙ ap (λ (b : Bool). ways_pass b (λ (way : Alternative). arrives_by (is_earlier c.args.fewest.now hops) way.outcome) (ways_out asked.state.now (packet_of asked.by asked.addr.0) c.args.router.0)) (sym c.if-is_each.false ∙ c.is_each.ensures)
+    ∙ by_ways_as asked.state.now asked.by asked.addr.0 c.args.router.0 (is_earlier c.args.fewest.now hops) other
