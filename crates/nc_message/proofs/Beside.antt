@@ -16,7 +16,7 @@ use Rattle.nc_tables.specs.Choice.{is_equal_to, preference_cmp}
 use Rattle.nc_tables.specs.Rounds.{BgpRowView, Accepted, made_from, chosen_at, accepted_at, learnt_from, entry_at, origin_at, aggregate_at, candidates_at, chosen_by, chosen_anew}
 use Rattle.nc_tables.specs.Sessions.{process_of}
 use Rattle.nc_select.proofs.Unchosen.{chosen_without, chosen_beside}
-use Rattle.nc_message.specs.Idle.{is_from, is_beaten, is_idle_beside, is_idle}
+use Rattle.nc_message.specs.BestPath.{is_from, is_beaten, leaves_best_beside, leaves_best_path}
 
 -- what is there before others, if anything is
 abbrev before_others : Option Chosen → List Chosen → List Chosen
@@ -54,18 +54,18 @@ module _ (p : ProcessView) (some : 0 < p.max_paths) (chosen : List Chosen) where
   not_true true e = absurd cc
   not_true false e = refl
 
-  module _ (f g : ℕ → Option Chosen) (own : (k : ℕ) (x : Chosen) → f k ≡ Some x → x.from ≡ Entry k) (each : (k : ℕ) → (f k ≡ g k) ⊎ (is_idle_beside p k (g k) chosen ≡ true)) where
+  module _ (f g : ℕ → Option Chosen) (own : (k : ℕ) (x : Chosen) → f k ≡ Some x → x.from ≡ Entry k) (each : (k : ℕ) → (f k ≡ g k) ⊎ (leaves_best_beside p k (g k) chosen ≡ true)) where
     one : (k : ℕ) (front back : List Chosen) → chosen_by p (front ++ before_others (f k) back) ≡ chosen → chosen_by p (front ++ before_others (g k) back) ≡ chosen
     one k front back is = by_case (each k)
       where
-        idle : (l : List Chosen) → chosen ≡ l → is_idle_beside p k (g k) l ≡ true → chosen_by p (front ++ before_others (g k) back) ≡ chosen
+        idle : (l : List Chosen) → chosen ≡ l → leaves_best_beside p k (g k) l ≡ true → chosen_by p (front ++ before_others (g k) back) ≡ chosen
         idle [] e t = absurd cc
         idle (best ∷ others) e t =
             let parts = and_parts (not (list_any (λ x. is_from k x.from) (best ∷ others))) (option_map_or (is_beaten p best) (g k) true) t in
             let none : list_any (λ x. is_from k x.from) chosen ≡ false = ap (list_any (λ x. is_from k x.from)) e ∙ not_true (list_any (λ x. is_from k x.from) (best ∷ others)) parts.0 in
             says front back best others e (g k) parts.1 (said k front back (f k) (own k) none is)
 
-        by_case : (f k ≡ g k) ⊎ (is_idle_beside p k (g k) chosen ≡ true) → chosen_by p (front ++ before_others (g k) back) ≡ chosen
+        by_case : (f k ≡ g k) ⊎ (leaves_best_beside p k (g k) chosen ≡ true) → chosen_by p (front ++ before_others (g k) back) ≡ chosen
         by_case (inl e) = ap (λ (o : Option Chosen). chosen_by p (front ++ before_others o back)) (sym e) ∙ is
         by_case (inr t) = idle chosen refl t
 
@@ -90,11 +90,11 @@ module _ (routers : List ConfigView) (tables : List (List BaseRow)) (sessions : 
       on None f = absurd cc
       on (Some a) f = let same : learnt_from place a ≡ x = cc in sym (ap (λ (c : Chosen). c.from) same)
 
-  idle_of : (p : ProcessView) (place : ℕ) → process_of routers router ≡ Some p → is_idle routers tables sessions new router place prefix ≡ true
-      → is_idle_beside p place (entry_at routers tables sessions new router place prefix) (chosen_at new router prefix) ≡ true
-  unfolding is_idle
+  idle_of : (p : ProcessView) (place : ℕ) → process_of routers router ≡ Some p → leaves_best_path routers tables sessions new router place prefix ≡ true
+      → leaves_best_beside p place (entry_at routers tables sessions new router place prefix) (chosen_at new router prefix) ≡ true
+  unfolding leaves_best_path
   idle_of p place e idle =
-      sym (ap (λ (o : Option ProcessView). option_map_or (λ (q : ProcessView). is_idle_beside q place (entry_at routers tables sessions new router place prefix) (chosen_at new router prefix)) o false) e) ∙ idle
+      sym (ap (λ (o : Option ProcessView). option_map_or (λ (q : ProcessView). leaves_best_beside q place (entry_at routers tables sessions new router place prefix) (chosen_at new router prefix)) o false) e) ∙ idle
 
   -- where the router's process chooses the same, the same is chosen anew
   pub chosen_by_process : ((p : ProcessView) → process_of routers router ≡ Some p → chosen_by p (candidates_at routers tables sessions old router p prefix) ≡ chosen_by p (candidates_at routers tables sessions new router p prefix))
@@ -108,7 +108,7 @@ module _ (routers : List ConfigView) (tables : List (List BaseRow)) (sessions : 
   -- where a table has what comes from an earlier one, and each neighbor says the same as then, or what leaves that as it stands
   pub same_beside : ((p : ProcessView) → process_of routers router ≡ Some p → 0 < p.max_paths) → chosen_at new router prefix ≡ chosen_anew routers tables sessions old router prefix
       → ((p : ProcessView) → process_of routers router ≡ Some p → made_from (λ place a. aggregate_at routers tables sessions old router place a prefix) 0 p.aggregates ≡ made_from (λ place a. aggregate_at routers tables sessions new router place a prefix) 0 p.aggregates)
-      → ((place : ℕ) → (entry_at routers tables sessions old router place prefix ≡ entry_at routers tables sessions new router place prefix) ⊎ (is_idle routers tables sessions new router place prefix ≡ true))
+      → ((place : ℕ) → (entry_at routers tables sessions old router place prefix ≡ entry_at routers tables sessions new router place prefix) ⊎ (leaves_best_path routers tables sessions new router place prefix ≡ true))
       → chosen_anew routers tables sessions old router prefix ≡ chosen_anew routers tables sessions new router prefix
   same_beside some stands aggregates each = chosen_by_process chosen
     where
@@ -121,7 +121,7 @@ module _ (routers : List ConfigView) (tables : List (List BaseRow)) (sessions : 
           let g : ℕ → Option Chosen = λ place. entry_at routers tables sessions new router place prefix in
           let first : chosen_at new router prefix ≡ chosen_by p (candidates_at routers tables sessions old router p prefix) =
           stands ∙ ap (λ (o : Option ProcessView). option_map_or (λ (q : ProcessView). chosen_by q (candidates_at routers tables sessions old router q prefix)) o []) e in
-          let same : (k : ℕ) → (f k ≡ g k) ⊎ (is_idle_beside p k (g k) (chosen_at new router prefix) ≡ true) = λ k. elim (each k) [
+          let same : (k : ℕ) → (f k ≡ g k) ⊎ (leaves_best_beside p k (g k) (chosen_at new router prefix) ≡ true) = λ k. elim (each k) [
             | inl s ↦ inl s
             | inr idle ↦ inr (idle_of p k e idle)
           ] in

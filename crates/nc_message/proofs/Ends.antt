@@ -7,8 +7,8 @@ use Rattle.nc_types.specs.Config.{ConfigView}
 use Rattle.std.proofs.lemmas.Option.{slice_get-map}
 use Rattle.nc_tables.specs.declared.base.BaseRow.{BaseRow}
 use Rattle.nc_tables.specs.declared.bgp.SessionRow.{SessionRow}
-use Rattle.nc_message.specs.declared.links.Sender.{Sender}
-use Rattle.nc_message.specs.Links.{AreSenders, AreLinks, IsSenderAt}
+use Rattle.nc_message.specs.declared.adjacencies.Sender.{Sender}
+use Rattle.nc_message.specs.Adjacencies.{AreSenders, AreAdjacencies, IsSenderAt}
 
 -- one item more, where each has something by its place
 pub numbered : {A : Type 0} (P : ℕ → A → Type 0) (xs ys : List A) (x : A) → ys ≡ xs ++ x ∷ [] → ((k : ℕ) (y : A) → slice_get xs k ≡ Some y → P k y) → P (length xs) x
@@ -34,7 +34,7 @@ module _ (routers : List ConfigView) (tables : List (List BaseRow)) (sessions : 
 
   -- the senders to all routers, one behind the other
   pub all_senders : (rows : List (Vec (Option Sender))) → ((router : ℕ) (row : Vec (Option Sender)) → slice_get rows router ≡ Some row → AreSenders routers tables sessions router row.items)
-      → AreLinks routers tables sessions (map (λ (row : Vec (Option Sender)). row.items) rows)
+      → AreAdjacencies routers tables sessions (map (λ (row : Vec (Option Sender)). row.items) rows)
   all_senders rows each router place = subst
       (λ (p : Option (List (Option Sender))). IsSenderAt routers tables sessions router place (option_and_then (λ (q : List (Option Sender)). option_and_then (λ (o : Option Sender). o) (slice_get q place)) p))
       (sym (slice_get-map (λ (row : Vec (Option Sender)). row.items) rows router)) (by_router (slice_get rows router) refl)

@@ -7,5 +7,6 @@ pub mod Processes
 pub mod Ends
 pub mod Own
 pub mod Beside
-pub mod Outdone
+pub mod Outranked
+pub mod Preferred
 pub mod PeerFirst

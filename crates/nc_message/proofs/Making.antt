@@ -7,11 +7,13 @@ use Rattle.std.proofs.lemmas.Iterator.Adapters.{position_from-zero}
 use Rattle.std.proofs.lemmas.List.Elements.{All-nil, All-cons}
 use Rattle.std.proofs.lemmas.Option.{slice_get_cases}
 use Rattle.nc_types.specs.Cidr.{Cidr}
+use Rattle.nc_types.specs.declared.config.AggregateStatement.{AggregateStatement}
 use Rattle.nc_types.proofs.Members.{In, contains_by_in}
 use Rattle.nc_types.proofs.Sameness.{same_prefix_is}
 use Rattle.nc_types.proofs.Walks.{drop_read}
 use Rattle.nc_tables.specs.Base.{same_prefix}
-use Rattle.nc_tables.specs.Rounds.{made_from}
+use Rattle.nc_tables.specs.declared.bgp.BgpFrom.TheVariants.{Aggregate}
+use Rattle.nc_tables.specs.Rounds.{BgpRowView, begun, has_longer, made_from}
 
 -- an item within a list
 pub read_within : {Y : Type 0} (ys : List Y) (k : ℕ) → k < length ys → (y : Y) × (y ≡ get_or ys k y)
@@ -22,7 +24,7 @@ read_within ys k lt = elim (slice_get_cases ys k).1 [
 
 module _ {X Y : Type 0} (make : ℕ → Y → Option X) where
   -- what the rest makes, one item on
-  one_on : (ys : List Y) (k : ℕ) (y : Y) → y ≡ get_or ys k y → k < length ys
+  pub one_on : (ys : List Y) (k : ℕ) (y : Y) → y ≡ get_or ys k y → k < length ys
       → made_from make k (drop k ys) ≡ option_map_or (λ x. x ∷ made_from make (k + 1) (drop (k + 1) ys)) (make k y) (made_from make (k + 1) (drop (k + 1) ys))
   one_on ys k y read lt =
       ap (made_from make k) (drop_read ys k y read lt)
@@ -118,3 +120,12 @@ one_has {Y} prefix_of p ys apart i j d lt within is = on (same_prefix (prefix_of
     on : (b : Bool) → same_prefix (prefix_of (get_or ys j d)) p ≡ b → b ≡ false
     on true too = absurd (apart i j d lt within (same_prefix_is (prefix_of (get_or ys i d)) p is ∙ sym (same_prefix_is (prefix_of (get_or ys j d)) p too)))
     on false no_other = refl
+
+-- an aggregate of a prefix is active where a longer prefix inside it has something chosen
+pub active_alike : (rows : List BgpRowView) (p : Cidr) (place : ℕ) (a : AggregateStatement)
+    → cond (same_prefix a.prefix p && has_longer rows p) (Some (begun p (Aggregate place))) None ≡ cond (same_prefix a.prefix p && has_longer rows a.prefix) (Some (begun p (Aggregate place))) None
+active_alike rows p place a = on (same_prefix a.prefix p) refl
+  where
+    on : (b : Bool) → same_prefix a.prefix p ≡ b → cond (b && has_longer rows p) (Some (begun p (Aggregate place))) None ≡ cond (b && has_longer rows a.prefix) (Some (begun p (Aggregate place))) None
+    on true is = ap (λ (q : Cidr). cond (has_longer rows q) (Some (begun p (Aggregate place))) None) (sym (same_prefix_is a.prefix p is))
+    on false is = refl

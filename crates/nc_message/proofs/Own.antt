@@ -6,7 +6,7 @@ use Rattle.std.proofs.lemmas.List.Elements.{All-head, All-tail}
 use Rattle.nc_types.specs.Cidr.{Cidr, same_prefix}
 use Rattle.nc_types.proofs.Sameness.{same_prefix_is}
 use Rattle.nc_tables.specs.Rounds.{BgpRowView, chosen_in}
-use Rattle.nc_message.specs.Given.{IsOf}
+use Rattle.nc_message.specs.Inputs.{IsOf}
 
 -- the candidates of a row are of its prefix
 abbrev pub AreOwn : BgpRowView → Type 0

@@ -8,20 +8,20 @@ use Rattle.nc_types.specs.Network.{up_at}
 use Rattle.nc_tables.specs.declared.base.BaseRow.{BaseRow}
 use Rattle.nc_tables.specs.declared.bgp.Chosen.{Chosen}
 use Rattle.nc_tables.specs.declared.bgp.SessionRow.{SessionRow}
-use Rattle.nc_tables.specs.Rounds.{BgpRowView, Link, accepted_of, best_at, chosen_in, entry_at, learnt_from, link_at, message_at, accepted_at, message_of, session_by}
+use Rattle.nc_tables.specs.Rounds.{BgpRowView, Link, Message, accepted_of, best_at, chosen_in, entry_at, learnt_from, link_at, message_at, accepted_at, message_of, session_by}
 use Rattle.nc_tables.specs.Sessions.{end_at, first_of, session_in}
 use Rattle.nc_message.specs.Peers.{best_over}
 
 -- ---- the ends of a session
 
 module _ (routers : List ConfigView) (sessions : List (List SessionRow)) where
-  abbrev link_of : ℕ → ℕ → SessionRow → Option Link
-  link_of router place s =
+  abbrev adjacency_of : ℕ → ℕ → SessionRow → Option Link
+  adjacency_of router place s =
       option_and_then (λ receiver. option_and_then (λ sender. option_map (λ source.
       record { session = s; receiver = receiver; sender = sender; source = source.addr.0 })
       (up_at routers s.peer.0 s.peer_source.0)) (end_at routers s.peer.0 s.peer_neighbor)) (end_at routers router place)
 
-  made_of : (router place : ℕ) (s : SessionRow) (k : Link) → link_of router place s ≡ Some k → s ≡ k.session
+  made_of : (router place : ℕ) (s : SessionRow) (k : Link) → adjacency_of router place s ≡ Some k → s ≡ k.session
   made_of router place s k e = on_receiver (end_at routers router place) e
     where
       on_source : {S : Type 0} (o : Option S) (make : S → Link) → ((x : S) → (make x).session ≡ s) → option_map make o ≡ Some k → s ≡ k.session
@@ -41,7 +41,7 @@ module _ (routers : List ConfigView) (sessions : List (List SessionRow)) where
   pub link_session : (router place : ℕ) (k : Link) → link_at routers sessions router place ≡ Some k → session_by sessions router place ≡ Some k.session
   link_session router place k e = on (session_by sessions router place) refl e
     where
-      on : (o : Option SessionRow) → session_by sessions router place ≡ o → option_and_then (link_of router place) o ≡ Some k → session_by sessions router place ≡ Some k.session
+      on : (o : Option SessionRow) → session_by sessions router place ≡ o → option_and_then (adjacency_of router place) o ≡ Some k → session_by sessions router place ≡ Some k.session
       on None is f = absurd cc
       on (Some s) is f = is ∙ ap Some (made_of router place s k f)
 
@@ -88,6 +88,10 @@ module _ (routers : List ConfigView) (tables : List (List BaseRow)) (sessions : 
 
   pub none_learnt_alone : None ≡ link_at routers sessions router place → None ≡ entry_at routers tables sessions table router place prefix
   none_learnt_alone e = ap learnt_by e ∙ learnt_is
+
+  pub none_learnt_by_peer : None ≡ best_over table prefix (session_by sessions router place) → None ≡ entry_at routers tables sessions table router place prefix
+  unfolding accepted_at
+  none_learnt_by_peer silent = ap (λ (o : Option Message). option_map (learnt_from place) (option_and_then (accepted_of tables router) o)) (none_sent silent)
 
   pub none_learnt_silent : (k : Link) → Some k ≡ link_at routers sessions router place → None ≡ best_at table k.session.peer.0 prefix → None ≡ entry_at routers tables sessions table router place prefix
   none_learnt_silent k e silent =

@@ -5,4 +5,4 @@ use Rattle.nc_message.specs.declared.compared.Compared.TheVariants.{Standing, Ne
 
 abbrev pub compared_view : Compared → Chosen
 compared_view (Standing chosen) = chosen.now
-compared_view (New told) = told.now
+compared_view (New feasible) = feasible.now

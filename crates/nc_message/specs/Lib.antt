@@ -1,8 +1,9 @@
-pub mod Given
-pub mod Links
+pub mod Inputs
+pub mod Adjacencies
 pub mod Views
 pub mod Beginning
-pub mod Told
-pub mod Idle
+pub mod Feasible
+pub mod BestPath
+pub mod Peerings
 pub mod Compared
 pub mod Peers

@@ -8,9 +8,9 @@ use Rattle.nc_tables.specs.declared.bgp.Chosen.{Chosen}
 use Rattle.nc_policy.specs.Passing.{passing_view}
 use Rattle.nc_policy.specs.declared.passing.Passing.{Passing}
 use Rattle.nc_sessions.specs.Views.{link_view}
-use Rattle.nc_message.specs.Links.{IsSender}
-use Rattle.nc_message.specs.declared.messages.Sent.{Sent}
-use Rattle.nc_message.specs.declared.accepting.Taken.{Taken}
+use Rattle.nc_message.specs.Adjacencies.{IsSender}
+use Rattle.nc_message.specs.declared.messages.Advertisement.{Advertisement}
+use Rattle.nc_message.specs.declared.accepting.AcceptedRoute.{AcceptedRoute}
 
 -- what the sender's map made of the best candidate
 abbrev pub out_view : Link → Chosen → Passing → Passed
@@ -20,27 +20,27 @@ out_view k b out = passing_view (outgoing k.session.internal b.route) out
 abbrev pub message_by : Link → Chosen → Passing → Message
 message_by k b out = record { link = k; best = b; out = out_view k b out; route = sent_over k b (out_view k b out).route }
 
-abbrev pub message_view : Sent → Message
+abbrev pub message_view : Advertisement → Message
 message_view s = message_by (link_view s.link) s.best.now s.out
 
 -- what the receiver's map made of the message
-abbrev pub taken_view : Taken → Accepted
-taken_view t = record { message = message_view t.sent; into = passing_view (message_view t.sent).route t.into }
+abbrev pub accepted_view : AcceptedRoute → Accepted
+accepted_view t = record { message = message_view t.sent; into = passing_view (message_view t.sent).route t.into }
 
 -- the path of the route that is sent is within the limit, and so are its communities
-pub record IsTold (s : Sent) : Type 0 where
+pub record IsAdvertised (s : Advertisement) : Type 0 where
   pub short : length (message_view s).route.path ≤ PATH_LIMIT
   pub few : length (message_view s).route.communities ≤ COMMUNITY_LIMIT
 
 -- the same of the route as the receiver's map let it pass
-pub record IsTaken (t : Taken) : Type 0 where
-  pub told : IsTold t.sent
-  pub short : length (taken_view t).into.route.path ≤ PATH_LIMIT
-  pub few : length (taken_view t).into.route.communities ≤ COMMUNITY_LIMIT
+pub record IsAccepted (t : AcceptedRoute) : Type 0 where
+  pub feasible : IsAdvertised t.sent
+  pub short : length (accepted_view t).into.route.path ≤ PATH_LIMIT
+  pub few : length (accepted_view t).into.route.communities ≤ COMMUNITY_LIMIT
 
 -- where something is known of the sender of a message to a router, it is so; and its router id alone
-abbrev pub IsKnown : List (List BaseRow) → ℕ → Sent → Type 0
+abbrev pub IsKnown : List (List BaseRow) → ℕ → Advertisement → Type 0
 IsKnown tables router s = IfSome s.sender (IsSender tables router (link_view s.link))
 
-abbrev pub HasId : Sent → Type 0
+abbrev pub HasId : Advertisement → Type 0
 HasId s = IfSome s.sender (λ d. d.id.0 ≡ router_id (link_view s.link).sender.config)

@@ -8,13 +8,13 @@ ghost use Rattle.nc_tables.specs.Choice.{is_learnt};
 ghost use Rattle.nc_tables.specs.Reach.{hits};
 ghost use Rattle.nc_tables.specs.Rounds.{accepted_at, accepted_of, is_looped, message_of};
 ghost use Rattle.nc_sessions.specs.Views.{link_view};
-ghost use Rattle.nc_message.specs.Given.{AreGiven, IsBetween};
-ghost use Rattle.nc_message.specs.Links.{IsHeard};
-ghost use Rattle.nc_message.specs.Views.{message_view, taken_view, IsKnown, IsTold, IsTaken};
+ghost use Rattle.nc_message.specs.Inputs.{AreRoutingInputs, IsBetween};
+ghost use Rattle.nc_message.specs.Adjacencies.{IsAdjacency};
+ghost use Rattle.nc_message.specs.Views.{message_view, accepted_view, IsKnown, IsAdvertised, IsAccepted};
 
-use crate::given::Given;
-use crate::links::Heard;
-use crate::messages::{Sent, carried, message_at, message_of, sent_length};
+use crate::adjacencies::Adjacency;
+use crate::inputs::RoutingInputs;
+use crate::messages::{Advertisement, carried, message_at, message_of, sent_length};
 use crate::rows::is_own;
 use nc_policy::Passing;
 use nc_sessions::Link;
@@ -24,8 +24,8 @@ use nc_underlay::has_hit;
 
 /// A message that is accepted, and how its route passed the receiver's neighbor statement.
 #[derive(Clone, Copy)]
-pub struct Taken<'a> {
-    pub sent: Sent<'a>,
+pub struct AcceptedRoute<'a> {
+    pub sent: Advertisement<'a>,
     pub into: Passing<'a>,
 }
 
@@ -45,7 +45,7 @@ fn has_own_sender(link: &Link) -> bool
 }
 
 // Whether the path of a message holds the receiver's own system (RFC 4271, 9.1.2).
-fn is_looped(sent: &Sent) -> bool
+fn is_looped(sent: &Advertisement) -> bool
     ensures { result ≡ is_looped (message_view sent.now) }
 {
     let own = sent.link.receiver.process.asn;
@@ -67,7 +67,7 @@ fn is_learnt(from: BgpFrom) -> bool
 
 /// The next hop of a message: the sender, but within the system that of what was learnt stays,
 /// unless the sender's statement says `next-hop-self`.
-pub fn next_hop(sent: &Sent) -> Addr
+pub fn next_hop(sent: &Advertisement) -> Addr
     ensures { result ≡ (message_view sent.now).route.next_hop }
 {
     let link = &sent.link;
@@ -83,80 +83,84 @@ pub fn next_hop(sent: &Sent) -> Addr
 
 // Whether an address is that of one of the receiver's own interfaces that are up. Of the address
 // from which the sender starts it may be known.
-fn is_own_hop(given: &Given, router: RouterId, sent: &Sent, hop: Addr) -> bool
-    requires between { IsBetween given.now.network.now router.0 (link_view sent.now.link) }
-    requires known { IsKnown given.now.base.now router.0 sent.now }
+fn is_own_hop(inputs: &RoutingInputs, router: RouterId, sent: &Advertisement, hop: Addr) -> bool
+    requires between { IsBetween inputs.now.network.now router.0 (link_view sent.now.link) }
+    requires known { IsKnown inputs.now.base.now router.0 sent.now }
     ensures { result ≡ is_own (link_view sent.now.link).receiver.config.interfaces hop.0 }
 {
     match sent.sender {
         Some(sender) if hop == sent.link.source => sender.is_own,
-        _ => is_own(given.network, router, &sent.link, hop),
+        _ => is_own(inputs.network, router, &sent.link, hop),
     }
 }
 
 // Whether the receiver's base table leads to an address. Of that from which the sender starts it
 // may be known.
-fn is_resolved(given: &Given, router: RouterId, sent: &Sent, hop: Addr) -> bool
-    requires given { AreGiven given.now }
-    requires between { IsBetween given.now.network.now router.0 (link_view sent.now.link) }
-    requires known { IsKnown given.now.base.now router.0 sent.now }
-    ensures { result ≡ nat_lt 0 (length (hits given.now.base.now router.0 hop.0)) }
+fn is_resolved(inputs: &RoutingInputs, router: RouterId, sent: &Advertisement, hop: Addr) -> bool
+    requires inputs { AreRoutingInputs inputs.now }
+    requires between { IsBetween inputs.now.network.now router.0 (link_view sent.now.link) }
+    requires known { IsKnown inputs.now.base.now router.0 sent.now }
+    ensures { result ≡ nat_lt 0 (length (hits inputs.now.base.now router.0 hop.0)) }
 {
     match sent.sender {
         Some(sender) if hop == sent.link.source => sender.is_reached,
-        _ => has_hit(given.network, given.base, router, hop),
+        _ => has_hit(inputs.network, inputs.base, router, hop),
     }
 }
 
 // What is accepted of a message to a router.
-fn accepted_of<'a>(given: &Given<'a>, router: RouterId, sent: Sent<'a>) -> Option<Taken<'a>>
-    requires given { AreGiven given.now }
-    requires between { IsBetween given.now.network.now router.0 (link_view sent.link) }
-    requires known { IsKnown given.now.base.now router.0 sent }
-    requires told { IsTold sent }
-    ensures accepted { option_map taken_view result
-        ≡ accepted_of given.now.base.now router.0 (message_view sent.entry) }
+fn accepted_of<'a>(
+    inputs: &RoutingInputs<'a>,
+    router: RouterId,
+    sent: Advertisement<'a>,
+) -> Option<AcceptedRoute<'a>>
+    requires inputs { AreRoutingInputs inputs.now }
+    requires between { IsBetween inputs.now.network.now router.0 (link_view sent.link) }
+    requires known { IsKnown inputs.now.base.now router.0 sent }
+    requires feasible { IsAdvertised sent }
+    ensures accepted { option_map accepted_view result
+        ≡ accepted_of inputs.now.base.now router.0 (message_view sent.entry) }
     ensures best { IfSome result (λ t. t.sent.best.now ≡ sent.entry.best.now) }
-    ensures known { IfSome result (λ t. IsKnown given.now.base.now router.0 t.sent) }
-    ensures taken { IfSome result IsTaken }
+    ensures known { IfSome result (λ t. IsKnown inputs.now.base.now router.0 t.sent) }
+    ensures taken { IfSome result IsAccepted }
 {
     let hop = next_hop(&sent);
-    if is_looped(&sent) || is_own_hop(given, router, &sent, hop) {
+    if is_looped(&sent) || is_own_hop(inputs, router, &sent, hop) {
         return None;
     }
-    if !is_resolved(given, router, &sent, hop) {
+    if !is_resolved(inputs, router, &sent, hop) {
         return None;
     }
     let prefix = sent.best.route.prefix;
     let count = sent_length(sent.link.session.internal, sent.best, &sent.out);
     let map = &sent.link.receiver.statement.map_in;
     let held = carried(&sent);
-    let into = given
+    let into = inputs
         .policies
-        .pass(given.network, router, map, prefix, count, &held)?;
-    Some(Taken { sent, into })
+        .pass(inputs.network, router, map, prefix, count, &held)?;
+    Some(AcceptedRoute { sent, into })
 }
 
 /// What a router accepts over a session of the sender's best candidate: the message that is sent of
 /// it, where one is, by the rules of [`accepted_at`]. Takes no memory.
-pub(crate) fn accepted_over<'a>(
-    given: &Given<'a>,
+pub fn accepted_over<'a>(
+    inputs: &RoutingInputs<'a>,
     router: RouterId,
-    heard: Heard<'a>,
+    adjacency: Adjacency<'a>,
     best: &'a Chosen,
-) -> Option<Taken<'a>>
-    requires given { AreGiven given.now }
-    requires between { IsBetween given.now.network.now router.0 (link_view heard.link) }
-    requires sender { IsHeard given.now.base.now router.0 heard }
-    ensures accepted { option_map taken_view result
-        ≡ option_and_then (accepted_of given.now.base.now router.0)
-        (message_of (link_view heard.entry.link) best.entry.now) }
+) -> Option<AcceptedRoute<'a>>
+    requires inputs { AreRoutingInputs inputs.now }
+    requires between { IsBetween inputs.now.network.now router.0 (link_view adjacency.link) }
+    requires sender { IsAdjacency inputs.now.base.now router.0 adjacency }
+    ensures accepted { option_map accepted_view result
+        ≡ option_and_then (accepted_of inputs.now.base.now router.0)
+        (message_of (link_view adjacency.entry.link) best.entry.now) }
     ensures best { IfSome result (λ t. t.sent.best.now ≡ best.entry.now) }
-    ensures known { IfSome result (λ t. IsKnown given.now.base.now router.0 t.sent) }
-    ensures taken { IfSome result IsTaken }
+    ensures known { IfSome result (λ t. IsKnown inputs.now.base.now router.0 t.sent) }
+    ensures taken { IfSome result IsAccepted }
 {
-    let sent = message_of(given, heard, best)?;
-    accepted_of(given, router, sent)
+    let sent = message_of(inputs, adjacency, best)?;
+    accepted_of(inputs, router, sent)
 }
 
 /// What a router accepts of the message to the neighbor statement at a place for a prefix, as
@@ -165,21 +169,21 @@ pub(crate) fn accepted_over<'a>(
 /// map denies it; `None` also where there is no message. Takes no memory.
 #[tactic(auto, unfolding(nc_tables::specs::Rounds::accepted_at))]
 pub fn accepted_at<'a>(
-    given: &Given<'a>,
+    inputs: &RoutingInputs<'a>,
     table: &'a BgpTable,
     router: RouterId,
     place: u32,
     prefix: Prefix,
-) -> Option<Taken<'a>>
-    requires given { AreGiven given.now }
-    requires table { length table.now ≡ length given.now.network.now }
-    ensures accepted { option_map taken_view result
-        ≡ accepted_at given.now.network.now given.now.base.now given.now.sessions.now table.now
+) -> Option<AcceptedRoute<'a>>
+    requires inputs { AreRoutingInputs inputs.now }
+    requires table { length table.now ≡ length inputs.now.network.now }
+    ensures accepted { option_map accepted_view result
+        ≡ accepted_at inputs.now.network.now inputs.now.base.now inputs.now.sessions.now table.now
         router.0 place prefix }
     ensures own { IfSome result (λ t. t.sent.best.now.route.prefix ≡ prefix) }
-    ensures known { IfSome result (λ t. IsKnown given.now.base.now router.0 t.sent) }
-    ensures taken { IfSome result IsTaken }
+    ensures known { IfSome result (λ t. IsKnown inputs.now.base.now router.0 t.sent) }
+    ensures taken { IfSome result IsAccepted }
 {
-    let sent = message_at(given, table, router, place, prefix)?;
-    accepted_of(given, router, sent)
+    let sent = message_at(inputs, table, router, place, prefix)?;
+    accepted_of(inputs, router, sent)
 }

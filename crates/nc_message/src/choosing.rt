@@ -1,6 +1,6 @@
 //! What a router chooses of a prefix.
 
-ghost use Rattle.std.specs.Prelude.{◌≡◌, ◌+◌, ◌^◌, ◌<◌, ◌≤◌, All, length, slice_get, IfOk, Some};
+ghost use Rattle.std.specs.Prelude.{◌≡◌, ◌+◌, ◌^◌, ◌<◌, ◌≤◌, All, length, option_to_list, slice_get, IfOk, Some};
 ghost use Rattle.std.specs.List.{filter_map};
 ghost use Rattle.nc_types.specs.Config.{process_view};
 ghost use Rattle.nc_types.specs.declared.TheConstants.{MULTIPATH_LIMIT};
@@ -8,11 +8,12 @@ ghost use Rattle.nc_types.specs.WellFormed.{IsProcess};
 ghost use Rattle.nc_tables.specs.LocRibs.{IsNumbered};
 ghost use Rattle.nc_tables.specs.Rounds.{candidates_at, chosen_anew, chosen_by};
 ghost use Rattle.nc_tables.specs.Sessions.{process_of};
-ghost use Rattle.nc_message.specs.Given.{AreGiven};
+ghost use Rattle.nc_message.specs.Inputs.{AreRoutingInputs};
 
-use crate::candidates::candidates;
-use crate::given::Given;
-use crate::told::Told;
+use crate::best_learnt::{best_learnt, best_of_all};
+use crate::candidates::{begun_routes, candidates};
+use crate::feasible::FeasibleRoute;
+use crate::inputs::RoutingInputs;
 use nc_select::choose;
 use nc_tables::{Chosen, LocRibs, Numbered};
 use nc_types::{Process, RouterId};
@@ -21,7 +22,7 @@ use std::alloc::{AllocError, Global};
 // The candidates that stand at these places, in the places' order, made in memory.
 fn made_at(
     alloc: Global,
-    candidates: &[Told<'_>],
+    candidates: &[FeasibleRoute<'_>],
     places: &[u32],
 ) -> Result<Vec<Chosen>, AllocError>
     ensures { IfOk result
@@ -37,33 +38,80 @@ fn made_at(
     Ok(made)
 }
 
+// The best candidate alone, made in memory, if there is one.
+fn alone(alloc: Global, best: Option<FeasibleRoute<'_>>) -> Result<Vec<Chosen>, AllocError>
+    ensures { IfOk result (λ chosen. chosen.items ≡ option_to_list best.entry) }
+{
+    let Some(best) = best else {
+        return Ok(Vec::new(alloc));
+    };
+    let mut chosen = Vec::with_capacity(alloc, 1)?;
+    chosen.push(best.made(alloc)?)?;
+    Ok(chosen)
+}
+
+// What a process of a router chooses of a prefix that uses one candidate alone.
+fn best_alone<'a>(
+    alloc: Global,
+    inputs: &RoutingInputs<'a>,
+    ribs: &'a LocRibs,
+    router: RouterId,
+    process: &Process,
+    of: &Numbered,
+) -> Result<Vec<Chosen>, AllocError>
+    requires inputs { AreRoutingInputs inputs.now }
+    requires ribs { length ribs.now.rows ≡ length inputs.now.network.now }
+    requires number { IsNumbered ribs.now.prefixes of.now }
+    requires router { router.0 < length inputs.now.network.now }
+    requires few { length process.now.neighbors.items + (length process.now.networks.items
+        + length process.now.aggregates.items) < 2 ^ 32 }
+    requires process { process_of inputs.now.network.now router.0
+        ≡ Some (process_view process.now) }
+    requires formed { IsProcess (process_view process.now) }
+    requires single { process.now.max_paths ≡ 1 }
+    ensures chosen { IfOk result (λ chosen. chosen.items ≡ chosen_by (process_view process.now)
+        (candidates_at inputs.now.network.now inputs.now.base.now inputs.now.sessions.now
+        ribs.now.rows router.0 (process_view process.now) of.now.prefix)) }
+    ensures own { IfOk result (λ chosen. All (λ x. x.route.prefix ≡ of.now.prefix) chosen.items) }
+    ensures few { IfOk result (λ chosen. length chosen.items ≤ MULTIPATH_LIMIT) }
+{
+    let begun = begun_routes(alloc, inputs, ribs, router, process, of.prefix)?;
+    let learnt = best_learnt(inputs, ribs, router, &process.neighbors, of);
+    let chosen = alone(alloc, best_of_all(begun, learnt))?;
+    Ok(chosen)
+}
+
 // What a process of a router chooses of a prefix.
 fn chosen_by(
     alloc: Global,
-    given: &Given<'_>,
+    inputs: &RoutingInputs<'_>,
     ribs: &LocRibs,
     router: RouterId,
     process: &Process,
     of: &Numbered,
 ) -> Result<Vec<Chosen>, AllocError>
-    requires given { AreGiven given.now }
-    requires ribs { length ribs.now.rows ≡ length given.now.network.now }
+    requires inputs { AreRoutingInputs inputs.now }
+    requires ribs { length ribs.now.rows ≡ length inputs.now.network.now }
     requires number { IsNumbered ribs.now.prefixes of.now }
-    requires router { router.0 < length given.now.network.now }
+    requires router { router.0 < length inputs.now.network.now }
     requires few { length process.now.neighbors.items + (length process.now.networks.items
         + length process.now.aggregates.items) < 2 ^ 32 }
-    requires process { process_of given.now.network.now router.0
+    requires process { process_of inputs.now.network.now router.0
         ≡ Some (process_view process.now) }
     requires formed { IsProcess (process_view process.now) }
     ensures chosen { IfOk result (λ chosen. chosen.items ≡ chosen_by (process_view process.now)
-        (candidates_at given.now.network.now given.now.base.now given.now.sessions.now ribs.now.rows
+        (candidates_at inputs.now.network.now inputs.now.base.now inputs.now.sessions.now ribs.now.rows
         router.0 (process_view process.now) of.now.prefix)) }
     ensures own { IfOk result (λ chosen. All (λ x. x.route.prefix ≡ of.now.prefix) chosen.items) }
     ensures few { IfOk result (λ chosen. length chosen.items ≤ MULTIPATH_LIMIT) }
 {
-    let told = candidates(alloc, given, ribs, router, process, of)?;
-    let places = choose(alloc, &told, process.max_paths, process.relax)?;
-    let chosen = made_at(alloc, &told, &places)?;
+    if process.max_paths == 1 {
+        let chosen = best_alone(alloc, inputs, ribs, router, process, of)?;
+        return Ok(chosen);
+    }
+    let feasible = candidates(alloc, inputs, ribs, router, process, of)?;
+    let places = choose(alloc, &feasible, process.max_paths, process.relax)?;
+    let chosen = made_at(alloc, &feasible, &places)?;
     Ok(chosen)
 }
 
@@ -76,25 +124,25 @@ fn chosen_by(
 /// Memory that runs out.
 pub fn chosen_anew(
     alloc: Global,
-    given: &Given<'_>,
+    inputs: &RoutingInputs<'_>,
     ribs: &LocRibs,
     router: RouterId,
     of: &Numbered,
 ) -> Result<Vec<Chosen>, AllocError>
-    requires given { AreGiven given.now }
-    requires ribs { length ribs.now.rows ≡ length given.now.network.now }
+    requires inputs { AreRoutingInputs inputs.now }
+    requires ribs { length ribs.now.rows ≡ length inputs.now.network.now }
     requires number { IsNumbered ribs.now.prefixes of.now }
-    requires router { router.0 < length given.now.network.now }
+    requires router { router.0 < length inputs.now.network.now }
     ensures chosen { IfOk result (λ chosen. chosen.items
-        ≡ chosen_anew given.now.network.now given.now.base.now given.now.sessions.now ribs.now.rows
+        ≡ chosen_anew inputs.now.network.now inputs.now.base.now inputs.now.sessions.now ribs.now.rows
         router.0 of.now.prefix) }
     ensures own { IfOk result (λ chosen. All (λ x. x.route.prefix ≡ of.now.prefix) chosen.items) }
     ensures few { IfOk result (λ chosen. length chosen.items ≤ MULTIPATH_LIMIT) }
 {
-    let _count = given.network.element_count();
-    let Some(process) = &given.network.routers()[router.0 as usize].process else {
+    let _count = inputs.network.element_count();
+    let Some(process) = &inputs.network.routers()[router.0 as usize].process else {
         return Ok(Vec::new(alloc));
     };
-    let chosen = chosen_by(alloc, given, ribs, router, process, of)?;
+    let chosen = chosen_by(alloc, inputs, ribs, router, process, of)?;
     Ok(chosen)
 }

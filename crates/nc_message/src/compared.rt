@@ -1,19 +1,19 @@
-//! A candidate that is compared with others: one that stands chosen, or one that is told.
+//! A candidate that is compared with others: one that stands chosen, or a feasible route.
 
 ghost use Rattle.std.specs.Prelude.{◌≡◌};
 ghost use Rattle.nc_message.specs.Compared.{compared_view};
 
+use crate::feasible::{FeasibleRoute, have_same_numbers};
 use crate::learnt::Walk;
-use crate::told::{Told, have_same_numbers};
 use nc_select::Candidate;
 use nc_tables::{BgpFrom, Chosen};
 use nc_types::{Addr, OriginCode};
 
-/// A candidate that stands chosen in a table, or one that is told without its route in memory.
+/// A candidate that stands chosen in a table, or a feasible route that isn't in memory.
 #[derive(Clone, Copy)]
 pub(crate) enum Compared<'a> {
     Standing(&'a Chosen),
-    New(&'a Told<'a>),
+    New(&'a FeasibleRoute<'a>),
 }
 
 impl<'a> Compared<'a> {
@@ -23,7 +23,7 @@ impl<'a> Compared<'a> {
     {
         match self {
             Compared::Standing(chosen) => Walk::over(&chosen.route.path),
-            Compared::New(told) => told.walk(),
+            Compared::New(feasible) => feasible.walk(),
         }
     }
 }
@@ -34,56 +34,56 @@ impl<'a> Candidate for Compared<'a> {
     fn from(&self) -> BgpFrom {
         match self {
             Compared::Standing(chosen) => chosen.from,
-            Compared::New(told) => told.from(),
+            Compared::New(feasible) => feasible.from(),
         }
     }
 
     fn preference(&self) -> u32 {
         match self {
             Compared::Standing(chosen) => chosen.route.preference,
-            Compared::New(told) => told.preference(),
+            Compared::New(feasible) => feasible.preference(),
         }
     }
 
     fn path_length(&self) -> usize {
         match self {
             Compared::Standing(chosen) => chosen.route.path.len(),
-            Compared::New(told) => told.path_length(),
+            Compared::New(feasible) => feasible.path_length(),
         }
     }
 
     fn origin(&self) -> OriginCode {
         match self {
             Compared::Standing(chosen) => chosen.route.origin,
-            Compared::New(told) => told.origin(),
+            Compared::New(feasible) => feasible.origin(),
         }
     }
 
     fn metric(&self) -> u32 {
         match self {
             Compared::Standing(chosen) => chosen.route.metric,
-            Compared::New(told) => told.metric(),
+            Compared::New(feasible) => feasible.metric(),
         }
     }
 
     fn is_internal(&self) -> bool {
         match self {
             Compared::Standing(chosen) => chosen.internal,
-            Compared::New(told) => told.is_internal(),
+            Compared::New(feasible) => feasible.is_internal(),
         }
     }
 
     fn sender_id(&self) -> Addr {
         match self {
             Compared::Standing(chosen) => chosen.sender_id,
-            Compared::New(told) => told.sender_id(),
+            Compared::New(feasible) => feasible.sender_id(),
         }
     }
 
     fn sender(&self) -> Addr {
         match self {
             Compared::Standing(chosen) => chosen.sender,
-            Compared::New(told) => told.sender(),
+            Compared::New(feasible) => feasible.sender(),
         }
     }
 

@@ -1,29 +1,41 @@
-//! What is learnt by what was accepted: told field by field without memory, or made in memory.
+//! What is learnt by what was accepted: field by field without memory, or made in memory.
 
-ghost use Rattle.std.specs.Prelude.{◌≡◌, ◌≤◌, [], None, Some, drop, if◌then◌else◌, length, slice_get, IfOk};
+ghost use Rattle.std.specs.Prelude.{◌≡◌, ◌≤◌, ◌+◌, ◌++◌, [], None, Some, drop, if◌then◌else◌, length, slice_get, IfOk};
 ghost use Rattle.nc_tables.specs.Rounds.{learnt_from};
 ghost use Rattle.nc_tables.specs.Sessions.{router_id};
 ghost use Rattle.nc_sessions.specs.Views.{link_view};
 ghost use Rattle.nc_types.specs.declared.TheConstants.{PATH_LIMIT};
-ghost use Rattle.nc_message.specs.Views.{message_view, taken_view, HasId, IsTaken, IsTold};
+ghost use Rattle.nc_message.specs.Views.{message_view, accepted_view, HasId, IsAccepted, IsAdvertised};
 
-use crate::accepting::{Taken, next_hop};
-use crate::messages::{Sent, carried, sent_length};
+use crate::accepting::{AcceptedRoute, next_hop};
+use crate::messages::{Advertisement, carried, sent_length};
 use nc_sessions::router_id;
 use nc_tables::{BgpFrom, Chosen, Numbers, Path, Route};
 use nc_types::{Addr, DEFAULT_PREFERENCE, OriginCode};
 use std::alloc::{AllocError, Global};
 use std::marker::Model;
 
+// A path behind more numbers. Mostly there are none.
+fn behind_all(alloc: Global, path: Path, numbers: &[u32]) -> Result<Path, AllocError>
+    requires { length numbers.now + length path ≤ PATH_LIMIT }
+    ensures { IfOk result (λ longer. longer ≡ numbers.now ++ path) }
+{
+    if numbers.is_empty() {
+        return Ok(path);
+    }
+    let longer = path.behind_all(alloc, numbers)?;
+    Ok(longer)
+}
+
 // The path of a route as it is sent: toward another system the sender's own number, what its map
 // prepends, and the path of the candidate, whose numbers are shared.
-fn sent_path(alloc: Global, sent: &Sent) -> Result<Path, AllocError>
-    requires told { IsTold sent.now }
+fn sent_path(alloc: Global, sent: &Advertisement) -> Result<Path, AllocError>
+    requires feasible { IsAdvertised sent.now }
     requires short { length (message_view sent.now).route.path ≤ PATH_LIMIT }
     ensures { IfOk result (λ path. path ≡ (message_view sent.now).route.path) }
 {
     let own = sent.best.route.path.share()?;
-    let path = own.behind_all(alloc, sent.out.prepended())?;
+    let path = behind_all(alloc, own, sent.out.prepended())?;
     if sent.link.session.internal {
         return Ok(path);
     }
@@ -31,19 +43,19 @@ fn sent_path(alloc: Global, sent: &Sent) -> Result<Path, AllocError>
     Ok(path)
 }
 
-// The path of a route as it is taken: what the receiver's map prepends, and the path as it is sent.
-fn path_of(alloc: Global, taken: &Taken) -> Result<Path, AllocError>
-    requires { IsTaken taken.now }
-    ensures { IfOk result (λ path. path ≡ (taken_view taken.now).into.route.path) }
+// The path of a route as it is accepted: what the receiver's map prepends, and the path as it is sent.
+fn path_of(alloc: Global, taken: &AcceptedRoute) -> Result<Path, AllocError>
+    requires { IsAccepted taken.now }
+    ensures { IfOk result (λ path. path ≡ (accepted_view taken.now).into.route.path) }
 {
     let path = sent_path(alloc, &taken.sent)?;
-    let path = path.behind_all(alloc, taken.into.prepended())?;
+    let path = behind_all(alloc, path, taken.into.prepended())?;
     Ok(path)
 }
 
-/// The local preference of a route as it is taken: toward another system it begins anew.
-pub(crate) fn preference_of(taken: &Taken) -> u32
-    ensures { result ≡ (taken_view taken.now).into.route.preference }
+/// The local preference of a route as it is accepted: toward another system it begins anew.
+pub(crate) fn preference_of(taken: &AcceptedRoute) -> u32
+    ensures { result ≡ (accepted_view taken.now).into.route.preference }
 {
     let sent = &taken.sent;
     if sent.link.session.internal {
@@ -55,9 +67,9 @@ pub(crate) fn preference_of(taken: &Taken) -> u32
     }
 }
 
-/// The metric of a route as it is taken: toward another system it begins anew.
-pub(crate) fn metric_of(taken: &Taken) -> u32
-    ensures { result ≡ (taken_view taken.now).into.route.metric }
+/// The metric of a route as it is accepted: toward another system it begins anew.
+pub(crate) fn metric_of(taken: &AcceptedRoute) -> u32
+    ensures { result ≡ (accepted_view taken.now).into.route.metric }
 {
     let sent = &taken.sent;
     let before = if sent.link.session.internal {
@@ -68,16 +80,16 @@ pub(crate) fn metric_of(taken: &Taken) -> u32
     taken.into.metric(sent.out.metric(before))
 }
 
-/// The origin of a route as it is taken.
-pub(crate) fn origin_of(taken: &Taken) -> OriginCode
-    ensures { result ≡ (taken_view taken.now).into.route.origin }
+/// The origin of a route as it is accepted.
+pub(crate) fn origin_of(taken: &AcceptedRoute) -> OriginCode
+    ensures { result ≡ (accepted_view taken.now).into.route.origin }
 {
     let sent = &taken.sent;
     taken.into.origin(sent.out.origin(sent.best.route.origin))
 }
 
 /// The router id of the sender of a message, which may be known.
-pub(crate) fn sender_id(sent: &Sent) -> Addr
+pub(crate) fn sender_id(sent: &Advertisement) -> Addr
     requires { HasId sent.now }
     ensures { result.0 ≡ router_id (link_view sent.now.link).sender.config }
 {
@@ -88,10 +100,14 @@ pub(crate) fn sender_id(sent: &Sent) -> Addr
 }
 
 /// The candidate that is learnt by what was accepted over the neighbor statement at a place.
-pub(crate) fn learnt_from(alloc: Global, place: u32, taken: &Taken) -> Result<Chosen, AllocError>
-    requires taken { IsTaken taken.now }
+pub(crate) fn learnt_from(
+    alloc: Global,
+    place: u32,
+    taken: &AcceptedRoute,
+) -> Result<Chosen, AllocError>
+    requires taken { IsAccepted taken.now }
     requires sender { HasId taken.now.sent }
-    ensures { IfOk result (λ learnt. learnt ≡ learnt_from place (taken_view taken.now)) }
+    ensures { IfOk result (λ learnt. learnt ≡ learnt_from place (accepted_view taken.now)) }
 {
     let link = &taken.sent.link;
     let route = Route {
@@ -112,10 +128,10 @@ pub(crate) fn learnt_from(alloc: Global, place: u32, taken: &Taken) -> Result<Ch
     })
 }
 
-/// How many numbers the path has of a route as it is taken.
-pub(crate) fn length_of(taken: &Taken) -> usize
-    requires { IsTaken taken.now }
-    ensures { result ≡ length (taken_view taken.now).into.route.path }
+/// How many numbers the path has of a route as it is accepted.
+pub(crate) fn length_of(taken: &AcceptedRoute) -> usize
+    requires { IsAccepted taken.now }
+    ensures { result ≡ length (accepted_view taken.now).into.route.path }
 {
     let sent = &taken.sent;
     let before = taken.into.prepended();
@@ -123,7 +139,7 @@ pub(crate) fn length_of(taken: &Taken) -> usize
 }
 
 // The number that the sender puts before the path: toward another system its own.
-fn outer_number(sent: &Sent) -> Option<u32>
+fn outer_number(sent: &Advertisement) -> Option<u32>
     ensures { result ≡ (if sent.now.link.session.internal then None
         else Some (link_view sent.now.link).sender.process.asn) }
 {
@@ -144,7 +160,7 @@ fn pass_first(numbers: &mut &[u32]) -> Option<u32>
     Some(*first)
 }
 
-/// What is left of the numbers of a path as it is taken, on the way along it.
+/// What is left of the numbers of a path as it is accepted, on the way along it.
 #[derive(Drop)]
 pub(crate) struct Walk<'a> {
     // what the receiver's map prepends
@@ -192,9 +208,9 @@ impl<'a> Walk<'a> {
         }
     }
 
-    /// Along the path of a route as it is taken.
-    pub(crate) fn along(taken: &Taken<'a>) -> Walk<'a>
-        ensures { result ≡ (taken_view taken.now).into.route.path }
+    /// Along the path of a route as it is accepted.
+    pub(crate) fn along(taken: &AcceptedRoute<'a>) -> Walk<'a>
+        ensures { result ≡ (accepted_view taken.now).into.route.path }
     {
         let sent = &taken.sent;
         Walk {

@@ -7,12 +7,12 @@ ghost use Rattle.nc_types.specs.declared.TheConstants.{COMMUNITY_LIMIT, PATH_LIM
 ghost use Rattle.nc_tables.specs.Rounds.{best_at, is_held_back, message_at, message_of, out_of, session_by};
 ghost use Rattle.nc_policy.specs.Passing.{communities_by, prepended_by};
 ghost use Rattle.nc_sessions.specs.Views.{link_view};
-ghost use Rattle.nc_message.specs.Given.{AreGiven, IsBetween};
+ghost use Rattle.nc_message.specs.Inputs.{AreRoutingInputs, IsBetween};
 ghost use Rattle.nc_message.specs.Peers.{best_over};
-ghost use Rattle.nc_message.specs.Views.{message_view, message_by, out_view, IsKnown, IsTold};
+ghost use Rattle.nc_message.specs.Views.{message_view, message_by, out_view, IsKnown, IsAdvertised};
 
-use crate::given::{Given, link_of};
-use crate::links::{Heard, Sender};
+use crate::adjacencies::{Adjacency, Sender};
+use crate::inputs::{RoutingInputs, adjacency_of};
 use nc_community::Held;
 use nc_policy::Passing;
 use nc_sessions::Link;
@@ -22,7 +22,7 @@ use nc_types::{PATH_LIMIT, Prefix, Process, RouterId};
 /// A message: over which session, of which candidate of the sender, and how the candidate passed
 /// the sender's neighbor statement.
 #[derive(Clone, Copy)]
-pub struct Sent<'a> {
+pub struct Advertisement<'a> {
     pub link: Link<'a>,
     /// What is known of the sender, where it was asked before.
     pub sender: Option<Sender>,
@@ -43,23 +43,23 @@ fn best_at(table: &BgpTable, router: RouterId, prefix: Prefix) -> Option<&Chosen
 // The best candidate of a prefix that the peer of a neighbor statement's session has chosen. Most
 // peers have none, so this is asked before the session's ends are looked up.
 fn best_of_peer<'a>(
-    given: &Given<'_>,
+    inputs: &RoutingInputs<'_>,
     table: &'a BgpTable,
     router: RouterId,
     place: u32,
     prefix: Prefix,
 ) -> Option<&'a Chosen>
-    requires given { AreGiven given.now }
-    requires table { length table.now ≡ length given.now.network.now }
+    requires inputs { AreRoutingInputs inputs.now }
+    requires table { length table.now ≡ length inputs.now.network.now }
     ensures best { option_map (λ b. b.now) result
-        ≡ best_over table.now prefix (session_by given.now.sessions.now router.0 place) }
+        ≡ best_over table.now prefix (session_by inputs.now.sessions.now router.0 place) }
     ensures own { IfSome result (λ b. b.now.route.prefix ≡ prefix) }
 {
-    let count = given.network.routers().len();
+    let count = inputs.network.routers().len();
     if router.0 as usize >= count {
         return None;
     }
-    let session = given.sessions.get(router, place)?;
+    let session = inputs.sessions.get(router, place)?;
     if session.peer.0 as usize >= count {
         return None;
     }
@@ -76,9 +76,9 @@ fn is_held_back(process: &Process, prefix: Prefix) -> bool
 }
 
 // How the best candidate passes the sender's statement for the receiver.
-fn out_of<'a>(given: &Given<'a>, link: &Link<'a>, best: &'a Chosen) -> Option<Passing<'a>>
-    requires given { AreGiven given.now }
-    requires sender { slice_get given.now.network.now link.now.session.peer.0
+fn out_of<'a>(inputs: &RoutingInputs<'a>, link: &Link<'a>, best: &'a Chosen) -> Option<Passing<'a>>
+    requires inputs { AreRoutingInputs inputs.now }
+    requires sender { slice_get inputs.now.network.now link.now.session.peer.0
         ≡ Some (link_view link.now).sender.config }
     ensures out { option_map (out_view (link_view link.now) best.now) result
         ≡ out_of (link_view link.now) best.now }
@@ -91,9 +91,9 @@ fn out_of<'a>(given: &Given<'a>, link: &Link<'a>, best: &'a Chosen) -> Option<Pa
     let count = best.route.path.len();
     let map = &link.sender.statement.map_out;
     let peer = link.session.peer;
-    given
+    inputs
         .policies
-        .pass(given.network, peer, map, best.route.prefix, count, &held)
+        .pass(inputs.network, peer, map, best.route.prefix, count, &held)
 }
 
 /// How many numbers the path has of a route as it is sent: toward another system the sender's own
@@ -109,8 +109,8 @@ pub(crate) fn sent_length(internal: bool, best: &Chosen, out: &Passing) -> usize
 
 /// The communities with which the route of a message is sent: where the sender's statement says so,
 /// those that its map left.
-pub(crate) fn carried<'a>(sent: &Sent<'a>) -> Held<'a>
-    requires { IsTold sent.now }
+pub(crate) fn carried<'a>(sent: &Advertisement<'a>) -> Held<'a>
+    requires { IsAdvertised sent.now }
     ensures { result ≡ (message_view sent.now).route.communities }
 {
     if !sent.link.sender.statement.send_community {
@@ -121,32 +121,32 @@ pub(crate) fn carried<'a>(sent: &Sent<'a>) -> Held<'a>
 
 /// The message over a session of the sender's best candidate.
 pub(crate) fn message_of<'a>(
-    given: &Given<'a>,
-    heard: Heard<'a>,
+    inputs: &RoutingInputs<'a>,
+    adjacency: Adjacency<'a>,
     best: &'a Chosen,
-) -> Option<Sent<'a>>
-    requires given { AreGiven given.now }
-    requires sender { slice_get given.now.network.now heard.link.session.peer.0
-        ≡ Some (link_view heard.link).sender.config }
+) -> Option<Advertisement<'a>>
+    requires inputs { AreRoutingInputs inputs.now }
+    requires sender { slice_get inputs.now.network.now adjacency.link.session.peer.0
+        ≡ Some (link_view adjacency.link).sender.config }
     ensures message { option_map message_view result
-        ≡ message_of (link_view heard.entry.link) best.entry.now }
-    ensures link { IfSome result (λ s. s.link ≡ heard.entry.link) }
-    ensures sender { IfSome result (λ s. s.sender ≡ heard.entry.sender) }
+        ≡ message_of (link_view adjacency.entry.link) best.entry.now }
+    ensures link { IfSome result (λ s. s.link ≡ adjacency.entry.link) }
+    ensures sender { IfSome result (λ s. s.sender ≡ adjacency.entry.sender) }
     ensures best { IfSome result (λ s. s.best.now ≡ best.entry.now) }
-    ensures told { IfSome result IsTold }
+    ensures feasible { IfSome result IsAdvertised }
 {
-    let Heard { link, sender } = heard;
+    let Adjacency { link, sender } = adjacency;
     if is_held_back(link.sender.process, best.route.prefix) {
         return None;
     }
     if link.session.internal && best.internal {
         return None;
     }
-    let out = out_of(given, &link, best)?;
+    let out = out_of(inputs, &link, best)?;
     if sent_length(link.session.internal, best, &out) > PATH_LIMIT {
         return None;
     }
-    Some(Sent {
+    Some(Advertisement {
         link,
         sender,
         best,
@@ -161,24 +161,24 @@ pub(crate) fn message_of<'a>(
 /// [`nc_types::PATH_LIMIT`]; `None` also where there is no such router, statement, session or
 /// candidate. Takes no memory.
 pub fn message_at<'a>(
-    given: &Given<'a>,
+    inputs: &RoutingInputs<'a>,
     table: &'a BgpTable,
     router: RouterId,
     place: u32,
     prefix: Prefix,
-) -> Option<Sent<'a>>
-    requires given { AreGiven given.now }
-    requires table { length table.now ≡ length given.now.network.now }
+) -> Option<Advertisement<'a>>
+    requires inputs { AreRoutingInputs inputs.now }
+    requires table { length table.now ≡ length inputs.now.network.now }
     ensures message { option_map message_view result
-        ≡ message_at given.now.network.now given.now.base.now given.now.sessions.now table.now
+        ≡ message_at inputs.now.network.now inputs.now.base.now inputs.now.sessions.now table.now
         router.0 place prefix }
     ensures between { IfSome result
-        (λ s. IsBetween given.now.network.now router.0 (link_view s.link)) }
+        (λ s. IsBetween inputs.now.network.now router.0 (link_view s.link)) }
     ensures own { IfSome result (λ s. s.best.now.route.prefix ≡ prefix) }
-    ensures sender { IfSome result (IsKnown given.now.base.now router.0) }
-    ensures told { IfSome result IsTold }
+    ensures sender { IfSome result (IsKnown inputs.now.base.now router.0) }
+    ensures feasible { IfSome result IsAdvertised }
 {
-    let best = best_of_peer(given, table, router, place, prefix)?;
-    let heard = link_of(given, router, place)?;
-    message_of(given, heard, best)
+    let best = best_of_peer(inputs, table, router, place, prefix)?;
+    let adjacency = adjacency_of(inputs, router, place)?;
+    message_of(inputs, adjacency, best)
 }

@@ -8,7 +8,7 @@ ghost use Rattle.nc_tables.specs.LocRibs.{IsNumbered};
 ghost use Rattle.nc_tables.specs.Reach.{rows_of};
 ghost use Rattle.nc_tables.specs.Rounds.{best_at};
 ghost use Rattle.nc_sessions.specs.Views.{link_view};
-ghost use Rattle.nc_message.specs.Given.{IsBetween};
+ghost use Rattle.nc_message.specs.Inputs.{IsBetween};
 
 use nc_sessions::Link;
 use nc_tables::{BaseTables, Chosen, LocRibs, Numbered};

@@ -2,7 +2,7 @@ pub mod KeyOrder
 pub mod Lists
 pub mod Alike
 pub mod NextRows
-pub mod NewRows
+pub mod LocRibChanges
 pub mod Woken
 pub mod Settled
 pub mod KeptPrefixes

@@ -21,7 +21,7 @@ use Rattle.nc_tables.specs.Reach.{rows_of}
 use Rattle.nc_tables.specs.Sessions.{first_of, process_of}
 use Rattle.nc_tables.specs.Rounds.{BgpRowView, AreBgpRows, Link, Message, Accepted, chosen_at, is_active, link_at, message_of, message_at, accepted_of, accepted_at, learnt_from, entry_at, begun, aggregate_at, candidates_at, chosen_by, chosen_anew, prefixes_in, prefixes, row_of, row_at, rows_anew, round, after}
 use Rattle.nc_main_rib.proofs.Ascending.{of_distinct}
-use Rattle.nc_message.specs.Given.{IsOf}
+use Rattle.nc_message.specs.Inputs.{IsOf}
 use Rattle.nc_message.proofs.Distinct.{choose_few, made_few}
 use Rattle.nc_message.proofs.Own.{AreOwn, row_own}
 use Rattle.nc_message.proofs.Making.{made_all, kept_all}

@@ -15,12 +15,12 @@ use Rattle.nc_tables.specs.LocRibs.{AreChosen}
 use Rattle.nc_tables.specs.Rounds.{BgpRowView, chosen_in, chosen_at, is_longer_in, session_by, entry_at, chosen_anew, prefixes_in, prefixes, no_routes}
 use Rattle.nc_tables.specs.Sessions.{process_of}
 use Rattle.nc_tables.proofs.ByPrefix.{same_itself}
-use Rattle.nc_message.specs.declared.given.Given.{Given}
+use Rattle.nc_message.specs.declared.inputs.RoutingInputs.{RoutingInputs}
 use Rattle.nc_round.specs.Keys.{Key, key, AreInOrder}
-use Rattle.nc_message.specs.Given.{AreGiven}
-use Rattle.nc_message.specs.Idle.{is_idle}
+use Rattle.nc_message.specs.Inputs.{AreRoutingInputs}
+use Rattle.nc_message.specs.BestPath.{leaves_best_path}
 use Rattle.nc_message.proofs.Beside.{same_beside}
-use Rattle.nc_round.specs.Given.{next}
+use Rattle.nc_round.specs.Next.{next}
 use Rattle.nc_round.specs.Waking.{aggregates_of, begun_from, IsWoken}
 use Rattle.nc_round.specs.Changes.{IsRoundOf}
 use Rattle.nc_round.specs.Renewing.{AreEnough}
@@ -59,8 +59,8 @@ uses_one routers formed router p e = on (slice_get routers router) refl e
 
 -- ---- what changed
 
-module _ (i : Given) (before table : List (List BgpRowView)) (changed rows : List Key)
-    (are : AreGiven i) (formed : All IsWellFormed i.network.now) (rows_table : All AreChosen table) (made : IsRoundOf i.network.now i.base.now i.sessions.now before table changed) where
+module _ (i : RoutingInputs) (before table : List (List BgpRowView)) (changed rows : List Key)
+    (are : AreRoutingInputs i) (formed : All IsWellFormed i.network.now) (rows_table : All AreChosen table) (made : IsRoundOf i.network.now i.base.now i.sessions.now before table changed) where
   abbrev routers : List ConfigView
   routers = i.network.now
 
@@ -84,7 +84,7 @@ module _ (i : Given) (before table : List (List BgpRowView)) (changed rows : Lis
 
   module _ (router : ℕ) (p : Cidr) (none : IsWoken i table changed router p → ⊥) where
     abbrev idle_at : ℕ → Bool
-    idle_at place = is_idle routers i.base.now i.sessions.now table router place p
+    idle_at place = leaves_best_path routers i.base.now i.sessions.now table router place p
 
     abbrev sessions_there : List SessionRow
     sessions_there = slice_index_or i.sessions.now router []
@@ -172,7 +172,7 @@ none_there [] router p = refl
 none_there (c ∷ cs) zero p = refl
 none_there (c ∷ cs) (suc router) p = none_there cs router p
 
-module _ (i : Given) where
+module _ (i : RoutingInputs) where
   -- from no route anywhere a round makes those rows alone that routers begin themselves
   first_others : (router : ℕ) (p : Cidr) → (In (key router p) (begun_from 0 i.network.now) → ⊥) → chosen_at (no_routes i.network.now) router p ≡ chosen_at (next i (no_routes i.network.now)) router p
   first_others router p none = none_there i.network.now router p ∙ sym (elim (cases_lt router (length i.network.now)) [

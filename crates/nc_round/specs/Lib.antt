@@ -1,6 +1,6 @@
 pub mod Keys
 pub mod Rows
-pub mod Given
+pub mod Next
 pub mod Waking
 pub mod Changes
 pub mod Renewing

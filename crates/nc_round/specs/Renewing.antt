@@ -6,9 +6,9 @@ use Rattle.nc_tables.specs.declared.bgp.Chosen.{Chosen}
 use Rattle.nc_tables.specs.LocRibs.{IsNumbered}
 use Rattle.nc_tables.specs.Rounds.{BgpRowView, chosen_at, chosen_anew, prefixes}
 use Rattle.nc_tables.specs.Settling.{same_list, same_candidate}
-use Rattle.nc_message.specs.declared.given.Given.{Given}
-use Rattle.nc_round.specs.declared.new_row.NewRow.{NewRow}
-use Rattle.nc_round.specs.Given.{next}
+use Rattle.nc_message.specs.declared.inputs.RoutingInputs.{RoutingInputs}
+use Rattle.nc_round.specs.declared.loc_rib_change.LocRibChange.{LocRibChange}
+use Rattle.nc_round.specs.Next.{next}
 use Rattle.nc_round.specs.Keys.{Key, key, AreInOrder}
 
 -- what is chosen anew of a row
@@ -16,28 +16,28 @@ pub record RowChange : Type 0 where
   pub key : Key
   pub chosen : List Chosen
 
-abbrev pub row_change : NewRow → RowChange
+abbrev pub row_change : LocRibChange → RowChange
 row_change n = record { key = (n.router, n.of.prefix); chosen = n.chosen.items }
 
 -- the candidates are of the prefix, which has its number among these, and no more than are used at once; the router is one of so many
-pub record IsNew (count : ℕ) (prefixes : List Cidr) (n : NewRow) : Type 0 where
+pub record IsLocRibChange (count : ℕ) (prefixes : List Cidr) (n : LocRibChange) : Type 0 where
   pub router : n.router.0 < count
   pub number : IsNumbered prefixes n.of
   pub own : All (λ x. x.route.prefix ≡ n.of.prefix) n.chosen.items
   pub few : length n.chosen.items ≤ MULTIPATH_LIMIT
 
 -- what is chosen anew of a row, if it differs
-abbrev pub change_at : Given → List (List BgpRowView) → Key → Option RowChange
+abbrev pub change_at : RoutingInputs → List (List BgpRowView) → Key → Option RowChange
 change_at i table k =
     let anew = chosen_anew i.network.now i.base.now i.sessions.now table k.0.0 k.1 in
     if same_list same_candidate anew (chosen_at table k.0.0 k.1) then None else Some (record { key = k; chosen = anew })
 
 -- nothing is chosen of a prefix that no router begins
-abbrev pub IsKnown : Given → List (List BgpRowView) → Type 0
+abbrev pub IsKnown : RoutingInputs → List (List BgpRowView) → Type 0
 IsKnown i table = (router : ℕ) (p : Cidr) → ¬ Contains (prefixes i.network.now) p → chosen_at table router p ≡ []
 
 -- rows in order, such that a round changes no other
-pub record AreEnough (i : Given) (table : List (List BgpRowView)) (keys : List Key) : Type 0 where
+pub record AreEnough (i : RoutingInputs) (table : List (List BgpRowView)) (keys : List Key) : Type 0 where
   pub count : length table ≡ length i.network.now
   pub known : IsKnown i table
   pub ordered : AreInOrder keys
@@ -45,6 +45,6 @@ pub record AreEnough (i : Given) (table : List (List BgpRowView)) (keys : List K
   pub others : (router : ℕ) (p : Cidr) → ¬ Contains keys (key router p) → chosen_at table router p ≡ chosen_at (next i table) router p
 
 -- with these rows put into it a table has everywhere what it is to have
-pub record Leads (target : ℕ → Cidr → List Chosen) (table : List (List BgpRowView)) (changes : List RowChange) : Type 0 where
+pub record IsCompletedBy (target : ℕ → Cidr → List Chosen) (table : List (List BgpRowView)) (changes : List RowChange) : Type 0 where
   pub put : All (λ c. target c.key.0.0 c.key.1 ≡ c.chosen) changes
   pub others : (router : ℕ) (p : Cidr) → ¬ Contains (map (λ c. c.key) changes) (key router p) → chosen_at table router p ≡ target router p

@@ -8,8 +8,8 @@ use Rattle.nc_types.specs.declared.config.AggregateStatement.{AggregateStatement
 use Rattle.nc_tables.specs.declared.bgp.SessionRow.{SessionRow}
 use Rattle.nc_tables.specs.Rounds.{BgpRowView, is_longer_in, prefixes_in}
 use Rattle.nc_tables.specs.Sessions.{process_of}
-use Rattle.nc_message.specs.Idle.{is_idle}
-use Rattle.nc_message.specs.declared.given.Given.{Given}
+use Rattle.nc_message.specs.BestPath.{leaves_best_path}
+use Rattle.nc_message.specs.declared.inputs.RoutingInputs.{RoutingInputs}
 use Rattle.nc_round.specs.Keys.{Key, key}
 
 -- the aggregates of a router
@@ -18,11 +18,11 @@ aggregates_of routers router = option_map_or (λ p. p.aggregates) (process_of ro
 
 -- the row of a prefix at a router may come from a row that changed: one of the prefix at a peer of a session of the router, where what
 -- the router learns of it now may count beside what stands
-pub record IsHeard (i : Given) (table : List (List BgpRowView)) (changed : List Key) (router : ℕ) (prefix : Cidr) : Type 0 where
+pub record IsAffectedByPeer (i : RoutingInputs) (table : List (List BgpRowView)) (changed : List Key) (router : ℕ) (prefix : Cidr) : Type 0 where
   pub session : SessionRow
   pub own : Contains (slice_index_or i.sessions.now router []) session
   pub row : Contains changed (key session.peer.0 prefix)
-  pub counts : is_idle i.network.now i.base.now i.sessions.now table router session.neighbor prefix ≡ false
+  pub counts : leaves_best_path i.network.now i.base.now i.sessions.now table router session.neighbor prefix ≡ false
 
 -- or one of the router itself, inside its aggregate for the prefix
 pub record IsAround (routers : List ConfigView) (changed : List Key) (router : ℕ) (prefix : Cidr) : Type 0 where
@@ -33,8 +33,8 @@ pub record IsAround (routers : List ConfigView) (changed : List Key) (router : �
   pub longer : is_longer_in inside aggregate.prefix ≡ true
   pub row : Contains changed (key router inside)
 
-abbrev pub IsWoken : Given → List (List BgpRowView) → List Key → ℕ → Cidr → Type 0
-IsWoken i table changed router prefix = IsHeard i table changed router prefix ⊎ IsAround i.network.now changed router prefix
+abbrev pub IsWoken : RoutingInputs → List (List BgpRowView) → List Key → ℕ → Cidr → Type 0
+IsWoken i table changed router prefix = IsAffectedByPeer i table changed router prefix ⊎ IsAround i.network.now changed router prefix
 
 -- the prefixes of the rows of a router that changed
 abbrev pub changed_at : List Key → ℕ → List Cidr
@@ -42,13 +42,13 @@ changed_at changed router = filter_map (λ k. if k.0.0 == router then Some k.1 e
 
 -- those that changed at the peer of a session of a router of which what it learns now may count, given the prefixes that changed at each
 -- router
-abbrev pub heard_over : Given → List (List BgpRowView) → List (List Cidr) → ℕ → SessionRow → List Cidr
-heard_over i table lists router s = filter (λ p. not (is_idle i.network.now i.base.now i.sessions.now table router s.neighbor p)) (slice_index_or lists s.peer.0 [])
+abbrev pub affected_over : RoutingInputs → List (List BgpRowView) → List (List Cidr) → ℕ → SessionRow → List Cidr
+affected_over i table lists router s = filter (λ p. not (leaves_best_path i.network.now i.base.now i.sessions.now table router s.neighbor p)) (slice_index_or lists s.peer.0 [])
 
 -- the prefixes of a router's rows that are woken
-abbrev pub woken_at : Given → List (List BgpRowView) → List (List Cidr) → ℕ → List Cidr
+abbrev pub woken_at : RoutingInputs → List (List BgpRowView) → List (List Cidr) → ℕ → List Cidr
 woken_at i table lists router =
-    flat_map (heard_over i table lists router) (slice_index_or i.sessions.now router [])
+    flat_map (affected_over i table lists router) (slice_index_or i.sessions.now router [])
     ++ map (λ a. a.prefix) (filter (λ a. list_any (λ q. is_longer_in q a.prefix) (slice_index_or lists router [])) (aggregates_of i.network.now router))
 
 -- the rows of the prefixes that routers begin themselves, the first of which has this number

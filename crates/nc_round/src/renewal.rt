@@ -6,15 +6,15 @@ ghost use Rattle.nc_types.specs.Cidr.{Cidr};
 ghost use Rattle.nc_tables.specs.declared.bgp.Chosen.{Chosen};
 ghost use Rattle.nc_tables.specs.LocRibs.{IsNumbered};
 ghost use Rattle.nc_tables.specs.Rounds.{chosen_at, prefixes};
-ghost use Rattle.nc_message.specs.Given.{AreGiven};
-ghost use Rattle.nc_round.specs.Given.{next};
+ghost use Rattle.nc_message.specs.Inputs.{AreRoutingInputs};
+ghost use Rattle.nc_round.specs.Next.{next};
 ghost use Rattle.nc_round.specs.Changes.{IsDifference};
 ghost use Rattle.nc_round.specs.Rows.{row_key, AreRows};
-ghost use Rattle.nc_round.specs.Renewing.{row_change, change_at, AreEnough, IsKnown, IsNew, Leads};
+ghost use Rattle.nc_round.specs.Renewing.{row_change, change_at, AreEnough, IsKnown, IsLocRibChange, IsCompletedBy};
 
 use crate::changed::{Changed, ChangedRow};
-use crate::new_row::NewRow;
-use nc_message::{Given, chosen_anew};
+use crate::loc_rib_change::LocRibChange;
+use nc_message::{RoutingInputs, chosen_anew};
 use nc_tables::{Chosen, LocRibs, Numbered, same_candidate};
 use nc_types::{Prefix, RouterId};
 use std::alloc::{AllocError, Global};
@@ -37,26 +37,26 @@ fn same_chosen(a: &[Chosen], b: &[Chosen]) -> bool
 // Adds what is chosen anew of a prefix at a router, if it differs.
 fn add_of(
     alloc: Global,
-    news: &mut Vec<NewRow>,
-    given: Given<'_>,
+    changes: &mut Vec<LocRibChange>,
+    inputs: RoutingInputs<'_>,
     ribs: &LocRibs,
     router: RouterId,
     of: &Numbered,
 ) -> Result<(), AllocError>
-    requires given { AreGiven given }
-    requires ribs { length ribs.now.rows ≡ length given.network.now }
+    requires inputs { AreRoutingInputs inputs }
+    requires ribs { length ribs.now.rows ≡ length inputs.network.now }
     requires number { IsNumbered ribs.now.prefixes of.now }
-    requires router { router.0 < length given.network.now }
-    requires news { All (IsNew (length given.network.now) ribs.now.prefixes) news.old.items }
-    ensures rows { OnOk result (map row_change news.new.items ≡ map row_change news.old.items
-        ++ cons_option (change_at given.entry ribs.now.rows (router, of.now.prefix)) []) }
-    ensures news { All (IsNew (length given.entry.network.now) ribs.now.prefixes) news.new.items }
+    requires router { router.0 < length inputs.network.now }
+    requires changes { All (IsLocRibChange (length inputs.network.now) ribs.now.prefixes) changes.old.items }
+    ensures rows { OnOk result (map row_change changes.new.items ≡ map row_change changes.old.items
+        ++ cons_option (change_at inputs.entry ribs.now.rows (router, of.now.prefix)) []) }
+    ensures changes { All (IsLocRibChange (length inputs.entry.network.now) ribs.now.prefixes) changes.new.items }
 {
-    let chosen = chosen_anew(alloc, &given, ribs, router, of)?;
+    let chosen = chosen_anew(alloc, &inputs, ribs, router, of)?;
     if same_chosen(&chosen, ribs.chosen(router, *of)) {
         return Ok(());
     }
-    news.push(NewRow {
+    changes.push(LocRibChange {
         router,
         of: *of,
         chosen,
@@ -65,63 +65,63 @@ fn add_of(
 }
 
 // Adds what is chosen anew of a row, if it differs. Of a prefix that no router begins nothing is.
-fn add_new(
+fn add_row(
     alloc: Global,
-    news: &mut Vec<NewRow>,
-    given: Given<'_>,
+    changes: &mut Vec<LocRibChange>,
+    inputs: RoutingInputs<'_>,
     ribs: &LocRibs,
     row: (RouterId, Prefix),
 ) -> Result<(), AllocError>
-    requires given { AreGiven given }
-    requires ribs { length ribs.now.rows ≡ length given.network.now }
-    requires prefixes { ribs.now.prefixes ≡ prefixes given.network.now }
-    requires known { IsKnown given ribs.now.rows }
-    requires router { row.0.0 < length given.network.now }
-    requires news { All (IsNew (length given.network.now) ribs.now.prefixes) news.old.items }
-    ensures rows { OnOk result (map row_change news.new.items ≡ map row_change news.old.items
-        ++ cons_option (change_at given.entry ribs.now.rows row) []) }
-    ensures news { All (IsNew (length given.entry.network.now) ribs.now.prefixes) news.new.items }
+    requires inputs { AreRoutingInputs inputs }
+    requires ribs { length ribs.now.rows ≡ length inputs.network.now }
+    requires prefixes { ribs.now.prefixes ≡ prefixes inputs.network.now }
+    requires known { IsKnown inputs ribs.now.rows }
+    requires router { row.0.0 < length inputs.network.now }
+    requires changes { All (IsLocRibChange (length inputs.network.now) ribs.now.prefixes) changes.old.items }
+    ensures rows { OnOk result (map row_change changes.new.items ≡ map row_change changes.old.items
+        ++ cons_option (change_at inputs.entry ribs.now.rows row) []) }
+    ensures changes { All (IsLocRibChange (length inputs.entry.network.now) ribs.now.prefixes) changes.new.items }
 {
     let (router, prefix) = row;
     match ribs.numbered(prefix) {
-        Some(of) => add_of(alloc, news, given, ribs, router, &of),
+        Some(of) => add_of(alloc, changes, inputs, ribs, router, &of),
         None => Ok(()),
     }
 }
 
 // What is chosen anew of rows, of each that differs.
-fn news_of(
+fn changes_of(
     alloc: Global,
-    given: Given<'_>,
+    inputs: RoutingInputs<'_>,
     ribs: &LocRibs,
     keys: &[(RouterId, Prefix)],
-) -> Result<Vec<NewRow>, AllocError>
-    requires given { AreGiven given }
-    requires ribs { length ribs.now.rows ≡ length given.network.now }
-    requires prefixes { ribs.now.prefixes ≡ prefixes given.network.now }
-    requires known { IsKnown given ribs.now.rows }
-    requires keys { All (λ k. k.0.0 < length given.network.now) keys.now }
-    ensures rows { IfOk result (λ news. map row_change news.items
-        ≡ filter_map (change_at given.entry ribs.now.rows) keys.now) }
-    ensures news { IfOk result
-        (λ news. All (IsNew (length given.entry.network.now) ribs.now.prefixes) news.items) }
+) -> Result<Vec<LocRibChange>, AllocError>
+    requires inputs { AreRoutingInputs inputs }
+    requires ribs { length ribs.now.rows ≡ length inputs.network.now }
+    requires prefixes { ribs.now.prefixes ≡ prefixes inputs.network.now }
+    requires known { IsKnown inputs ribs.now.rows }
+    requires keys { All (λ k. k.0.0 < length inputs.network.now) keys.now }
+    ensures rows { IfOk result (λ changes. map row_change changes.items
+        ≡ filter_map (change_at inputs.entry ribs.now.rows) keys.now) }
+    ensures changes { IfOk result
+        (λ changes. All (IsLocRibChange (length inputs.entry.network.now) ribs.now.prefixes) changes.items) }
 {
-    let mut news = Vec::new(alloc);
+    let mut changes = Vec::new(alloc);
     'keys: for row in keys {
-        add_new(alloc, &mut news, given, ribs, *row)?;
+        add_row(alloc, &mut changes, inputs, ribs, *row)?;
     }
-    Ok(news)
+    Ok(changes)
 }
 
 // Which rows these are.
-fn rows_of(alloc: Global, news: &[NewRow]) -> Result<Vec<ChangedRow>, AllocError>
+fn rows_of(alloc: Global, changes: &[LocRibChange]) -> Result<Vec<ChangedRow>, AllocError>
     ensures keys { IfOk result
-        (λ rows. map row_key rows.items ≡ map (λ n. (row_change n).key) news.now) }
+        (λ rows. map row_key rows.items ≡ map (λ n. (row_change n).key) changes.now) }
     ensures numbers { IfOk result (λ rows. (count : ℕ) (prefixes : List Cidr)
-        → All (IsNew count prefixes) news.now → AreRows prefixes rows.items) }
+        → All (IsLocRibChange count prefixes) changes.now → AreRows prefixes rows.items) }
 {
-    let mut rows = Vec::with_capacity(alloc, news.len())?;
-    'news: for new in news {
+    let mut rows = Vec::with_capacity(alloc, changes.len())?;
+    'changes: for new in changes {
         rows.push(ChangedRow {
             router: new.router,
             of: new.of,
@@ -131,15 +131,15 @@ fn rows_of(alloc: Global, news: &[NewRow]) -> Result<Vec<ChangedRow>, AllocError
 }
 
 // Puts what is chosen anew in its places.
-fn put_all(ribs: &mut LocRibs, mut news: Vec<NewRow>)
-    requires { All (IsNew (length ribs.old.rows) ribs.old.prefixes) news.items }
+fn put_all(ribs: &mut LocRibs, mut changes: Vec<LocRibChange>)
+    requires { All (IsLocRibChange (length ribs.old.rows) ribs.old.prefixes) changes.items }
     ensures prefixes { ribs.new.prefixes ≡ ribs.old.prefixes }
     ensures count { length ribs.new.rows ≡ length ribs.old.rows }
     ensures leads { (target : ℕ → Cidr → List Chosen)
-        → Leads target ribs.old.rows (map row_change news.items)
+        → IsCompletedBy target ribs.old.rows (map row_change changes.items)
         → (router : ℕ) (p : Cidr) → chosen_at ribs.new.rows router p ≡ target router p }
 {
-    'news: while let Some(new) = news.pop() {
+    'changes: while let Some(new) = changes.pop() {
         ribs.put(new.router, new.of, new.chosen);
     }
 }
@@ -148,22 +148,22 @@ fn put_all(ribs: &mut LocRibs, mut news: Vec<NewRow>)
 /// others aren't visited.
 pub(crate) fn renew(
     alloc: Global,
-    given: Given<'_>,
+    inputs: RoutingInputs<'_>,
     mut ribs: LocRibs,
     keys: &[(RouterId, Prefix)],
 ) -> Result<(LocRibs, Changed), AllocError>
-    requires given { AreGiven given }
-    requires prefixes { ribs.prefixes ≡ prefixes given.network.now }
-    requires keys { AreEnough given ribs.rows keys.now }
+    requires inputs { AreRoutingInputs inputs }
+    requires prefixes { ribs.prefixes ≡ prefixes inputs.network.now }
+    requires keys { AreEnough inputs ribs.rows keys.now }
     ensures prefixes { IfOk result (λ r. r.0.prefixes ≡ ribs.prefixes) }
-    ensures table { IfOk result (λ r. r.0.rows ≡ next given.entry ribs.rows) }
+    ensures table { IfOk result (λ r. r.0.rows ≡ next inputs.entry ribs.rows) }
     ensures changed { IfOk result
         (λ r. IsDifference ribs.rows r.0.rows (map row_key r.1.rows.items)) }
     ensures numbers { IfOk result (λ r. AreRows ribs.prefixes r.1.rows.items) }
 {
-    let news = news_of(alloc, given, &ribs, keys)?;
-    let rows = rows_of(alloc, &news)?;
-    put_all(&mut ribs, news);
+    let changes = changes_of(alloc, inputs, &ribs, keys)?;
+    let rows = rows_of(alloc, &changes)?;
+    put_all(&mut ribs, changes);
     let _count = ribs.count();
     Ok((ribs, Changed { rows }))
 }

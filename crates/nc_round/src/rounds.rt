@@ -1,7 +1,7 @@
 ghost use Rattle.std.specs.Prelude.{◌≡◌, List, IfOk, length, map};
 ghost use Rattle.nc_tables.specs.Rounds.{BgpRowView, no_routes, prefixes};
-ghost use Rattle.nc_message.specs.Given.{AreGiven};
-ghost use Rattle.nc_round.specs.Given.{next};
+ghost use Rattle.nc_message.specs.Inputs.{AreRoutingInputs};
+ghost use Rattle.nc_round.specs.Next.{next};
 ghost use Rattle.nc_round.specs.Keys.{Key};
 ghost use Rattle.nc_round.specs.Rows.{row_key, AreRows};
 ghost use Rattle.nc_round.specs.Changes.{IsDifference, IsRoundOf};
@@ -10,7 +10,7 @@ use crate::changed::Changed;
 use crate::renewal::renew;
 use crate::waking::{begun, begun_in_order, woken_in_order};
 use nc_main_rib::in_order;
-use nc_message::Given;
+use nc_message::RoutingInputs;
 use nc_tables::LocRibs;
 use nc_types::{Network, Prefix, RouterId};
 use std::alloc::{AllocError, Global};
@@ -40,18 +40,21 @@ fn none_chosen(alloc: Global, network: &Network) -> Result<LocRibs, AllocError>
 /// # Errors
 ///
 /// Memory that runs out.
-pub fn first_round(alloc: Global, given: Given<'_>) -> Result<(LocRibs, Changed), AllocError>
-    requires given { AreGiven given }
-    ensures prefixes { IfOk result (λ r. r.0.prefixes ≡ prefixes given.entry.network.now) }
+pub fn first_round(
+    alloc: Global,
+    inputs: RoutingInputs<'_>,
+) -> Result<(LocRibs, Changed), AllocError>
+    requires inputs { AreRoutingInputs inputs }
+    ensures prefixes { IfOk result (λ r. r.0.prefixes ≡ prefixes inputs.entry.network.now) }
     ensures table { IfOk result
-        (λ r. r.0.rows ≡ next given.entry (no_routes given.entry.network.now)) }
-    ensures changed { IfOk result (λ r. IsDifference (no_routes given.entry.network.now) r.0.rows
+        (λ r. r.0.rows ≡ next inputs.entry (no_routes inputs.entry.network.now)) }
+    ensures changed { IfOk result (λ r. IsDifference (no_routes inputs.entry.network.now) r.0.rows
         (map row_key r.1.rows.items)) }
     ensures numbers { IfOk result (λ r. AreRows r.0.prefixes r.1.rows.items) }
 {
-    let none = none_chosen(alloc, given.network)?;
-    let keys = begun_in_order(alloc, given.network)?;
-    let made = renew(alloc, given, none, &keys)?;
+    let none = none_chosen(alloc, inputs.network)?;
+    let keys = begun_in_order(alloc, inputs.network)?;
+    let made = renew(alloc, inputs, none, &keys)?;
     Ok(made)
 }
 
@@ -59,32 +62,32 @@ pub fn first_round(alloc: Global, given: Given<'_>) -> Result<(LocRibs, Changed)
 /// one differs from the table before it, and the rows in which the new one differs. It takes time
 /// in proportion to the rows that changed, the sessions over which they are heard, and the
 /// aggregates around them; a row that can't differ is neither copied nor visited, and one whose
-/// router is told nothing that counts beside what stands isn't made anew.
+/// router learns nothing that counts beside what stands isn't made anew.
 ///
 /// # Errors
 ///
 /// Memory that runs out.
 pub fn round_changed(
     alloc: Global,
-    given: Given<'_>,
+    inputs: RoutingInputs<'_>,
     old: LocRibs,
     changed: Changed,
 ) -> Result<(LocRibs, Changed), AllocError>
-    requires given { AreGiven given }
-    requires prefixes { old.prefixes ≡ prefixes given.network.now }
+    requires inputs { AreRoutingInputs inputs }
+    requires prefixes { old.prefixes ≡ prefixes inputs.network.now }
     requires made { (before : List (List BgpRowView))
-        × IsRoundOf given.network.now given.base.now given.sessions.now before old.rows
+        × IsRoundOf inputs.network.now inputs.base.now inputs.sessions.now before old.rows
         (map row_key changed.rows.items) }
     requires numbers { AreRows old.prefixes changed.rows.items }
     ensures prefixes { IfOk result (λ r. r.0.prefixes ≡ old.prefixes) }
-    ensures table { IfOk result (λ r. r.0.rows ≡ next given.entry old.rows) }
+    ensures table { IfOk result (λ r. r.0.rows ≡ next inputs.entry old.rows) }
     ensures changed { IfOk result
         (λ r. IsDifference old.rows r.0.rows (map row_key r.1.rows.items)) }
     ensures numbers { IfOk result (λ r. AreRows old.prefixes r.1.rows.items) }
 {
     let _count = old.count();
-    let _routers = given.network.routers();
-    let keys = woken_in_order(alloc, &given, &old, &changed.rows)?;
-    let made = renew(alloc, given, old, &keys)?;
+    let _routers = inputs.network.routers();
+    let keys = woken_in_order(alloc, &inputs, &old, &changed.rows)?;
+    let made = renew(alloc, inputs, old, &keys)?;
     Ok(made)
 }

@@ -1,9 +1,9 @@
 ghost use Rattle.std.specs.Prelude.{IfOk, MatchOption};
 ghost use Rattle.nc_tables.specs.Rounds.{IsStable, IsUnstable};
-ghost use Rattle.nc_message.specs.Given.{AreGiven};
+ghost use Rattle.nc_message.specs.Inputs.{AreRoutingInputs};
 
 use crate::rounds::{first_round, round_changed};
-use nc_message::Given;
+use nc_message::RoutingInputs;
 use nc_tables::BgpTable;
 use std::alloc::{AllocError, Global};
 
@@ -15,23 +15,23 @@ use std::alloc::{AllocError, Global};
 /// Memory that runs out.
 pub fn settle_table(
     alloc: Global,
-    given: Given<'_>,
+    inputs: RoutingInputs<'_>,
     rounds: u32,
 ) -> Result<Option<BgpTable>, AllocError>
-    requires given { AreGiven given }
+    requires inputs { AreRoutingInputs inputs }
     ensures { IfOk result (λ settled. MatchOption settled
-        (IsUnstable given.entry.network.now given.entry.base.now given.entry.sessions.now rounds)
-        (IsStable given.entry.network.now given.entry.base.now given.entry.sessions.now rounds)) }
+        (IsUnstable inputs.entry.network.now inputs.entry.base.now inputs.entry.sessions.now rounds)
+        (IsStable inputs.entry.network.now inputs.entry.base.now inputs.entry.sessions.now rounds)) }
 {
     if rounds == 0 {
         return Ok(None);
     }
-    let (mut ribs, mut changed) = first_round(alloc, given)?;
+    let (mut ribs, mut changed) = first_round(alloc, inputs)?;
     'rounds: for _more in 0..rounds - 1 {
         if changed.rows.is_empty() {
             return Ok(Some(ribs.into_table(alloc)?));
         }
-        let next = round_changed(alloc, given, ribs, changed)?;
+        let next = round_changed(alloc, inputs, ribs, changed)?;
         (ribs, changed) = next;
     }
     if changed.rows.is_empty() {

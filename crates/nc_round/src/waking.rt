@@ -6,14 +6,14 @@ ghost use Rattle.std.specs.List.{flat_map, list_any};
 ghost use Rattle.nc_types.specs.Cidr.{Cidr};
 ghost use Rattle.nc_types.specs.Config.{config_view};
 ghost use Rattle.nc_tables.specs.Rounds.{is_longer_in, prefixes_in};
-ghost use Rattle.nc_message.specs.Given.{AreGiven};
+ghost use Rattle.nc_message.specs.Inputs.{AreRoutingInputs};
 ghost use Rattle.nc_round.specs.Keys.{Key, key, AreInOrder};
 ghost use Rattle.nc_round.specs.Rows.{listed, prefixes_of, row_key, AreListed, AreRows};
-ghost use Rattle.nc_round.specs.Waking.{aggregates_of, begun_from, heard_over, woken_at, IsWoken};
+ghost use Rattle.nc_round.specs.Waking.{aggregates_of, begun_from, affected_over, woken_at, IsWoken};
 
 use crate::by_router::{by_router, changed_at};
 use crate::changed::ChangedRow;
-use nc_message::{Given, add_counting};
+use nc_message::{RoutingInputs, add_counting};
 use nc_tables::{LocRibs, Numbered, SessionRow, is_longer_in};
 use nc_types::{AggregateStatement, Network, NetworkStatement, Prefix, RouterConfig, RouterId};
 use std::alloc::{AllocError, Global};
@@ -31,25 +31,25 @@ fn aggregates_of(network: &Network, router: RouterId) -> &[AggregateStatement]
 
 // Adds the prefixes that changed at the peers of a router's sessions, where what it learns of them
 // now may count.
-fn add_heard(
+fn add_affected(
     prefixes: &mut Vec<Prefix>,
-    given: &Given<'_>,
+    inputs: &RoutingInputs<'_>,
     ribs: &LocRibs,
     router: RouterId,
     rows: &[SessionRow],
     lists: &[Vec<Numbered>],
 ) -> Result<(), AllocError>
-    requires given { AreGiven given.now }
-    requires ribs { length ribs.now.rows ≡ length given.now.network.now }
+    requires inputs { AreRoutingInputs inputs.now }
+    requires ribs { length ribs.now.rows ≡ length inputs.now.network.now }
     requires numbers { AreListed ribs.now.prefixes lists.now }
-    requires router { router.0 < length given.now.network.now }
+    requires router { router.0 < length inputs.now.network.now }
     ensures { OnOk result (prefixes.new.items ≡ prefixes.old.items
-        ++ flat_map (heard_over given.now ribs.now.rows (listed lists.now) router.0)
+        ++ flat_map (affected_over inputs.now ribs.now.rows (listed lists.now) router.0)
         rows.now) }
 {
     'rows: for row in rows {
         let changed = changed_at(lists, row.peer);
-        add_counting(prefixes, &*given, &*ribs, router, row.neighbor, changed)?;
+        add_counting(prefixes, &*inputs, &*ribs, router, row.neighbor, changed)?;
     }
     Ok(())
 }
@@ -107,26 +107,26 @@ fn wake_each(
 fn wake(
     woken: &mut Vec<(RouterId, Prefix)>,
     noted: &mut Vec<Prefix>,
-    given: &Given<'_>,
+    inputs: &RoutingInputs<'_>,
     ribs: &LocRibs,
     lists: &[Vec<Numbered>],
     router: RouterId,
 ) -> Result<(), AllocError>
-    requires given { AreGiven given.now }
-    requires ribs { length ribs.now.rows ≡ length given.now.network.now }
+    requires inputs { AreRoutingInputs inputs.now }
+    requires ribs { length ribs.now.rows ≡ length inputs.now.network.now }
     requires numbers { AreListed ribs.now.prefixes lists.now }
-    requires router { router.0 < length given.now.network.now }
+    requires router { router.0 < length inputs.now.network.now }
     ensures kept { OnOk result ((k : Key) → Contains woken.old.items k
         → Contains woken.new.items k) }
-    ensures woken { OnOk result ((p : Cidr) → Contains (woken_at given.now ribs.now.rows
+    ensures woken { OnOk result ((p : Cidr) → Contains (woken_at inputs.now ribs.now.rows
         (listed lists.now) router.0) p → Contains woken.new.items (router, p)) }
     ensures within { OnOk result ((n : ℕ) → router.0 < n
         → All (λ k. k.0.0 < n) woken.old.items → All (λ k. k.0.0 < n) woken.new.items) }
 {
-    let rows = given.sessions.rows(router);
-    let aggregates = aggregates_of(given.network, router);
+    let rows = inputs.sessions.rows(router);
+    let aggregates = aggregates_of(inputs.network, router);
     noted.clear();
-    add_heard(noted, given, ribs, router, rows, lists)?;
+    add_affected(noted, inputs, ribs, router, rows, lists)?;
     add_around(noted, aggregates, changed_at(lists, router))?;
     keep_once(noted);
     wake_each(woken, router, noted)?;
@@ -136,25 +136,25 @@ fn wake(
 // All rows that may come from rows that changed, given the prefixes of these at each router.
 fn woken(
     alloc: Global,
-    given: &Given<'_>,
+    inputs: &RoutingInputs<'_>,
     ribs: &LocRibs,
     lists: &[Vec<Numbered>],
 ) -> Result<Vec<(RouterId, Prefix)>, AllocError>
-    requires given { AreGiven given.now }
-    requires ribs { length ribs.now.rows ≡ length given.now.network.now }
+    requires inputs { AreRoutingInputs inputs.now }
+    requires ribs { length ribs.now.rows ≡ length inputs.now.network.now }
     requires numbers { AreListed ribs.now.prefixes lists.now }
     ensures woken { IfOk result (λ keys. (router : ℕ) (p : Cidr)
-        → router < length given.now.network.now
-        → Contains (woken_at given.now ribs.now.rows (listed lists.now) router) p
+        → router < length inputs.now.network.now
+        → Contains (woken_at inputs.now ribs.now.rows (listed lists.now) router) p
         → Contains keys.items (key router p)) }
     ensures within { IfOk result (λ keys.
-        All (λ k. k.0.0 < length given.now.network.now) keys.items) }
+        All (λ k. k.0.0 < length inputs.now.network.now) keys.items) }
 {
     let mut keys = Vec::new(alloc);
     let mut noted = Vec::new(alloc);
-    'routers: for router in 0..given.network.routers().len() {
+    'routers: for router in 0..inputs.network.routers().len() {
         let router = RouterId(router as u32);
-        wake(&mut keys, &mut noted, given, ribs, lists, router)?;
+        wake(&mut keys, &mut noted, inputs, ribs, lists, router)?;
     }
     Ok(keys)
 }
@@ -172,24 +172,24 @@ fn in_order(mut keys: Vec<(RouterId, Prefix)>) -> Vec<(RouterId, Prefix)>
 /// The rows that may come from rows that changed in a table, in order, each once.
 pub(crate) fn woken_in_order(
     alloc: Global,
-    given: &Given<'_>,
+    inputs: &RoutingInputs<'_>,
     ribs: &LocRibs,
     changed: &[ChangedRow],
 ) -> Result<Vec<(RouterId, Prefix)>, AllocError>
-    requires given { AreGiven given.now }
-    requires ribs { length ribs.now.rows ≡ length given.now.network.now }
+    requires inputs { AreRoutingInputs inputs.now }
+    requires ribs { length ribs.now.rows ≡ length inputs.now.network.now }
     requires numbers { AreRows ribs.now.prefixes changed.now }
     ensures ordered { IfOk result (λ keys. AreInOrder keys.items) }
     ensures woken { IfOk result (λ keys. (router : ℕ) (p : Cidr)
-        → router < length given.now.network.now
-        → (All (λ k. k.0.0 < length given.now.network.now) (map row_key changed.now))
-        → IsWoken given.now ribs.now.rows (map row_key changed.now) router p
+        → router < length inputs.now.network.now
+        → (All (λ k. k.0.0 < length inputs.now.network.now) (map row_key changed.now))
+        → IsWoken inputs.now ribs.now.rows (map row_key changed.now) router p
         → Contains keys.items (key router p)) }
     ensures within { IfOk result (λ keys.
-        All (λ k. k.0.0 < length given.now.network.now) keys.items) }
+        All (λ k. k.0.0 < length inputs.now.network.now) keys.items) }
 {
-    let lists = by_router(alloc, given.network.routers().len(), changed)?;
-    let keys = woken(alloc, given, ribs, &lists)?;
+    let lists = by_router(alloc, inputs.network.routers().len(), changed)?;
+    let keys = woken(alloc, inputs, ribs, &lists)?;
     Ok(in_order(keys))
 }
 

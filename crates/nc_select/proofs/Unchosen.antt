@@ -1,5 +1,5 @@
 -- A candidate that isn't chosen doesn't count: without it the same are chosen, and with one more that the best of them beats.
-use Rattle.std.proofs.Common.{◌≡◌, ◌⊎◌, ℕ, zero, suc, ◌+◌, ◌<◌, Bool, true, false, cond, List, [], ◌∷◌, ◌++◌, map, filter, take, Option, Some, refl, sym, ap, subst, ◌∙◌, arith, inl, inr}
+use Rattle.std.proofs.Common.{◌≡◌, ◌⊎◌, ℕ, zero, suc, ◌+◌, ◌<◌, Bool, true, false, cond, List, [], ◌∷◌, ◌++◌, map, filter, take, Option, Some, option_to_list, refl, sym, ap, subst, ◌∙◌, arith, inl, inr}
 use Rattle.std.specs.List.{AllByRecursion, cons_option, filter_map, slice_get}
 use Rattle.std.specs.Cmp.{IsTotalOrder}
 use Rattle.std.specs.declared.cmp.Ordering.{Ordering}
@@ -9,6 +9,7 @@ use Rattle.std.proofs.lemmas.Cmp.{upto}
 use Rattle.nc_types.proofs.Members.{In}
 use Rattle.nc_tables.specs.declared.bgp.Chosen.{Chosen}
 use Rattle.nc_tables.specs.Order.{insert, in_order}
+use Rattle.nc_tables.specs.Sessions.{first_of}
 use Rattle.nc_tables.specs.Choice.{is_external, is_equal_to, preference_cmp, Ranked, ranked_from, by_preference, used_with, choose}
 use Rattle.nc_select.proofs.Ranking.{preference_total, rank_cmp, each_by, each_inserted, each_in_order}
 
@@ -278,3 +279,18 @@ chosen_beside (suc m) relax some front x back best others is lt apart =
     by_apart : (suc m ≡ 1) ⊎ (is_equal_to relax best x ≡ false) → (m ≡ 0) ⊎ (is_equal_to relax best x ≡ false)
     by_apart (inl e) = inl (omega arith)
     by_apart (inr e) = inr e
+
+-- ---- one alone
+
+used_alone : (relax : Bool) (xs : List Chosen) → used 1 relax xs ≡ option_to_list (first_of xs)
+used_alone relax [] = refl
+used_alone relax (x ∷ xs) = by_test (is_external x)
+  where
+    by_test : (b : Bool) → cond b (take 1 (x ∷ filter (is_equal_to relax x) xs)) (x ∷ []) ≡ x ∷ []
+    by_test true = refl
+    by_test false = refl
+
+-- where one alone is used it is the first by preference
+pub chosen_single : (limit : ℕ) (relax : Bool) (cs : List Chosen) → limit ≡ 1 → chosen_of limit relax cs ≡ option_to_list (first_of (in_order preference_cmp cs))
+chosen_single limit relax cs one =
+    chosen_is limit relax cs ∙ ap (λ (n : ℕ). used n relax (in_order preference_cmp cs)) one ∙ used_alone relax (in_order preference_cmp cs)

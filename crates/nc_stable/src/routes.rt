@@ -2,7 +2,7 @@
 
 ghost use Rattle.std.specs.Prelude.{◌≡◌, None, Some, IfOk, IsErrOf};
 ghost use Rattle.nc_policy.specs.Indexes.{ArePolicies};
-ghost use Rattle.nc_message.specs.Links.{AreLinks};
+ghost use Rattle.nc_message.specs.Adjacencies.{AreAdjacencies};
 ghost use Rattle.nc_tables.specs.Base.{base_tables};
 ghost use Rattle.nc_tables.specs.Rounds.{IsStable, IsUnstable};
 ghost use Rattle.nc_tables.specs.Sessions.{sessions};
@@ -12,9 +12,9 @@ use crate::fault::SettleFault;
 use crate::settled_network::SettledNetwork;
 use nc_base_rib::base_tables;
 use nc_main_rib::main_tables;
-use nc_message::Links;
+use nc_message::Adjacencies;
 use nc_policy::Policies;
-use nc_round::{Given, settle_table};
+use nc_round::{RoutingInputs, settle_table};
 use nc_sessions::sessions;
 use nc_tables::{BaseTables, BgpTable, Sessions, Stable};
 use nc_types::Network;
@@ -27,25 +27,25 @@ fn stable_table<'a>(
     base: &'a BaseTables,
     established: &'a Sessions,
     policies: &'a Policies,
-    links: &'a Links,
+    adjacencies: &'a Adjacencies,
     rounds: u32,
 ) -> Result<BgpTable, SettleFault>
     requires base { base.now ≡ base_tables network.now }
     requires sessions { established.now ≡ sessions network.now base.now }
     requires policies { ArePolicies network.now policies.now }
-    requires links { AreLinks network.now base.now established.now links.now }
+    requires adjacencies { AreAdjacencies network.now base.now established.now adjacencies.now }
     ensures stable { IfOk result (IsStable network.now base.now established.now rounds) }
     ensures unstable { IsErrOf result SettleFault.Unstable
         → IsUnstable network.now base.now established.now rounds }
 {
-    let given = Given {
+    let inputs = RoutingInputs {
         network,
         base,
         sessions: established,
         policies,
-        links: Some(links),
+        adjacencies: Some(adjacencies),
     };
-    let table = settle_table(alloc, given, rounds)?;
+    let table = settle_table(alloc, inputs, rounds)?;
     match table {
         Some(table) => Ok(table),
         None => Err(SettleFault::Unstable),
@@ -73,8 +73,16 @@ pub fn settle_network(
     let base = base_tables(alloc, &network)?;
     let sessions = sessions(alloc, &network, &base)?;
     let policies = Policies::new(alloc, &network)?;
-    let links = Links::new(alloc, &network, &base, &sessions)?;
-    let bgp = stable_table(alloc, &network, &base, &sessions, &policies, &links, rounds)?;
+    let adjacencies = Adjacencies::new(alloc, &network, &base, &sessions)?;
+    let bgp = stable_table(
+        alloc,
+        &network,
+        &base,
+        &sessions,
+        &policies,
+        &adjacencies,
+        rounds,
+    )?;
     let _routers = network.routers();
     let _elements = network.element_count();
     let _count = bgp.count();

@@ -17,7 +17,7 @@ returns-clause-accepted c =
     let m = message_view s in
     let k = link_view s.link in
     let is = message_is k s.best.now s.out in
-    let base = c.args.given.now.base.now in
+    let base = c.args.inputs.now.base.now in
     let router = c.args.router.0 in
     let other : has_own_hop m ≡ false =
     ap (λ (a : Addr). is_own m.link.receiver.config.interfaces a.0) (sym c.next_hop-hop.ensures) ∙ sym c.is_own_hop.ensures ∙ c.if-is_own_hop.false in
@@ -32,9 +32,9 @@ returns-clause-taken c =
     let s = c.args.sent in
     let m = message_view s in
     let into = c.in_ok-into.into in
-    let held : length c.carried-held.result ≤ COMMUNITY_LIMIT = subst (λ (l : List ℕ). length l ≤ COMMUNITY_LIMIT) (sym c.carried-held.ensures) c.requires.told.few in
+    let held : length c.carried-held.result ≤ COMMUNITY_LIMIT = subst (λ (l : List ℕ). length l ≤ COMMUNITY_LIMIT) (sym c.carried-held.ensures) c.requires.feasible.few in
     record {
-      told = c.requires.told;
+      feasible = c.requires.feasible;
       short = omega (arith, length-append (prepended_by into) m.route.path, path_length (link_view s.link) s.best.now s.out, c.sent_length-count.ensures, c.in_ok-into.ensures.short);
       few = subst (λ (l : List ℕ). length (communities_by into l) ≤ COMMUNITY_LIMIT) c.carried-held.ensures (c.in_ok-into.ensures.few held);
     }

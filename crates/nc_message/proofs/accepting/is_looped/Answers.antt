@@ -2,13 +2,13 @@ use Rattle.std.proofs.Common.{◌≡◌, ◌||◌, ◌==◌, ◌&&◌, not, fals
 use Rattle.std.specs.List.{list_any}
 use Rattle.nc_policy.specs.Passing.{prepended_by}
 use Rattle.nc_sessions.specs.Views.{link_view}
-use Rattle.nc_message.specs.declared.messages.Sent.{Sent}
+use Rattle.nc_message.specs.declared.messages.Advertisement.{Advertisement}
 use Rattle.nc_message.specs.Views.{message_view}
 use Rattle.nc_tables.specs.Rounds.{is_looped}
 use Rattle.nc_message.proofs.Sending.{looped_is}
 use Rattle.nc_message.proofs.accepting.is_looped.Goals as goal
 
-module _ (s : Sent) where
+module _ (s : Advertisement) where
   abbrev is_own_number : ℕ → Bool
   is_own_number n = n == s.link.receiver.process.now.asn
 

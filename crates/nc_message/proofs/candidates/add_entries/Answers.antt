@@ -8,7 +8,7 @@ use Rattle.nc_message.proofs.candidates.add_entries.Goals as goal
 pub neighbors-preserved : goal.neighbors-preserved
 neighbors-preserved c =
     let p = c.args.of.now.prefix in
-    let make : ℕ → Neighbor → Option Chosen = λ place n. entry_at c.args.given.now.network.now c.args.given.now.base.now c.args.given.now.sessions.now c.args.ribs.now.rows c.args.router.0 place p in
+    let make : ℕ → Neighbor → Option Chosen = λ place n. entry_at c.args.inputs.now.network.now c.args.inputs.now.base.now c.args.inputs.now.sessions.now c.args.ribs.now.rows c.args.router.0 place p in
     let all = c.args.neighbors.now in
     let place = c.neighbors.place in
     let lt : place < length all = omega arith in

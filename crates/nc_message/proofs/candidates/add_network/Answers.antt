@@ -17,7 +17,7 @@ of_first holds p o = option_map_or (λ k. cond holds (begun p (Origin k) ∷ [])
 pub returns-in_default : goal.returns-in_default
 returns-in_default c =
     let p = c.args.prefix in
-    let holds = has_base_row c.args.given.now.base.now c.args.router.0 c.args.prefix in
+    let holds = has_base_row c.args.inputs.now.base.now c.args.router.0 c.args.prefix in
     let items = c.args.candidates.now.items in
     let all = c.args.process.now.networks.items in
     sym (
@@ -29,7 +29,7 @@ returns-in_default c =
 pub returns-then-not-has_row : goal.returns-then-not-has_row
 returns-then-not-has_row c =
     let p = c.args.prefix in
-    let holds = has_base_row c.args.given.now.base.now c.args.router.0 c.args.prefix in
+    let holds = has_base_row c.args.inputs.now.base.now c.args.router.0 c.args.prefix in
     let items = c.args.candidates.now.items in
     let all = c.args.process.now.networks.items in
     let place = c.in-Some.place in
@@ -43,7 +43,7 @@ returns-then-not-has_row c =
 pub returns : goal.returns
 returns c =
     let p = c.args.prefix in
-    let holds = has_base_row c.args.given.now.base.now c.args.router.0 c.args.prefix in
+    let holds = has_base_row c.args.inputs.now.base.now c.args.router.0 c.args.prefix in
     let items = c.args.candidates.now.items in
     let all = c.args.process.now.networks.items in
     let place = c.in-Some.place in

@@ -9,7 +9,7 @@ use Rattle.nc_message.proofs.candidates.aggregate_of.Goals as goal
 
 pub returns-clause-place : goal.returns-clause-place
 returns-clause-place c =
-    let routers = c.args.given.now.network.now in
+    let routers = c.args.inputs.now.network.now in
     let config = has_config routers c.args.router.0 (process_view c.args.process.now) c.requires.process in
     c.aggregate_of.ensures config.0 config.1
     ∙ ap (λ (o : Option ProcessView). position (λ s. same_prefix s.prefix c.args.prefix) (option_map_or (λ (p : ProcessView). p.aggregates) o [])) config.2

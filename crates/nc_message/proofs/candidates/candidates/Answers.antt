@@ -1,27 +1,16 @@
-use Rattle.std.proofs.Common.{◌≡◌, ◌++◌, ℕ, Bool, true, false, cond, ◌&&◌, List, [], slice_index_or, Option, Some, None, All, refl, sym, ap, subst, ◌∙◌, append_assoc}
+use Rattle.std.proofs.Common.{◌≡◌, ◌++◌, ℕ, cond, ◌&&◌, List, [], slice_index_or, Option, Some, None, All, refl, sym, ap, subst, ◌∙◌, append_assoc}
 use Rattle.std.proofs.lemmas.List.Elements.{All-nil, All-append}
-use Rattle.nc_types.specs.Cidr.{Cidr}
 use Rattle.nc_types.specs.declared.config.AggregateStatement.{AggregateStatement}
 use Rattle.nc_types.specs.declared.config.Neighbor.{Neighbor}
 use Rattle.nc_types.specs.declared.config.NetworkStatement.{NetworkStatement}
-use Rattle.nc_types.proofs.Sameness.{same_prefix_is}
 use Rattle.nc_tables.specs.declared.bgp.BgpFrom.TheVariants.{Aggregate, Origin}
 use Rattle.nc_tables.specs.declared.bgp.Chosen.{Chosen}
 use Rattle.nc_tables.specs.Base.{same_prefix}
-use Rattle.nc_tables.specs.Rounds.{BgpRowView, begun, entry_at, has_longer, made_from}
+use Rattle.nc_tables.specs.Rounds.{begun, entry_at, has_longer, made_from}
 use Rattle.nc_message.specs.Beginning.{aggregates_of, has_base_row, networks_of}
-use Rattle.nc_message.specs.Given.{IsOf}
-use Rattle.nc_message.proofs.Making.{kept_all, made_alike}
+use Rattle.nc_message.specs.Inputs.{IsOf}
+use Rattle.nc_message.proofs.Making.{active_alike, kept_all, made_alike}
 use Rattle.nc_message.proofs.candidates.candidates.Goals as goal
-
--- an aggregate of a prefix is active where a longer prefix inside it has something chosen
-active_alike : (rows : List BgpRowView) (p : Cidr) (place : ℕ) (a : AggregateStatement)
-    → cond (same_prefix a.prefix p && has_longer rows p) (Some (begun p (Aggregate place))) None ≡ cond (same_prefix a.prefix p && has_longer rows a.prefix) (Some (begun p (Aggregate place))) None
-active_alike rows p place a = on (same_prefix a.prefix p) refl
-  where
-    on : (b : Bool) → same_prefix a.prefix p ≡ b → cond (b && has_longer rows p) (Some (begun p (Aggregate place))) None ≡ cond (b && has_longer rows a.prefix) (Some (begun p (Aggregate place))) None
-    on true is = ap (λ (q : Cidr). cond (has_longer rows q) (Some (begun p (Aggregate place))) None) (sym (same_prefix_is a.prefix p is))
-    on false is = refl
 
 joined : (start first second third x y z : List Chosen) → start ≡ [] → x ≡ start ++ first → y ≡ x ++ second → z ≡ y ++ third → z ≡ first ++ (second ++ third)
 joined start first second third x y z none one two three =
@@ -33,12 +22,12 @@ returns-clause-candidates c =
     let p = c.args.of.now.prefix in
     let rows = slice_index_or c.args.ribs.now.rows c.args.router.0 [] in
     let process = c.args.process.now in
-    let make : ℕ → Neighbor → Option Chosen = λ place n. entry_at c.args.given.now.network.now c.args.given.now.base.now c.args.given.now.sessions.now c.args.ribs.now.rows c.args.router.0 place p in
-    let holds = has_base_row c.args.given.now.base.now c.args.router.0 p in
+    let make : ℕ → Neighbor → Option Chosen = λ place n. entry_at c.args.inputs.now.network.now c.args.inputs.now.base.now c.args.inputs.now.sessions.now c.args.ribs.now.rows c.args.router.0 place p in
+    let holds = has_base_row c.args.inputs.now.base.now c.args.router.0 p in
     let longer = has_longer rows p in
-    joined c.in_ok-told.told.items (networks_of holds p process.networks.items) (aggregates_of longer p process.aggregates.items) (made_from make 0 c.deref.result.now)
+    joined c.in_ok-feasible.feasible.items (networks_of holds p process.networks.items) (aggregates_of longer p process.aggregates.items) (made_from make 0 c.deref.result.now)
     c.add_network.new.candidates.items c.add_aggregate.new.candidates.items c.add_entries.new.candidates.items
-    c.in_ok-told.ensures.items c.in_ok-add_network.ensures c.in_ok-add_aggregate.ensures c.in_ok-add_entries.ensures.made
+    c.in_ok-feasible.ensures.items c.in_ok-add_network.ensures c.in_ok-add_aggregate.ensures c.in_ok-add_entries.ensures.made
     ∙ ap (λ (l : List Neighbor). networks_of holds p process.networks.items ++ (aggregates_of longer p process.aggregates.items ++ made_from make 0 l)) c.deref.ensures.value
     ∙ ap (λ (l : List Chosen). networks_of holds p process.networks.items ++ (l ++ made_from make 0 process.neighbors.items))
     (made_alike (λ place a. cond (same_prefix a.prefix p && has_longer rows p) (Some (begun p (Aggregate place))) None)
@@ -47,12 +36,12 @@ returns-clause-candidates c =
 pub returns-clause-own : goal.returns-clause-own
 returns-clause-own c =
     let p = c.args.of.now.prefix in
-    let holds = has_base_row c.args.given.now.base.now c.args.router.0 p in
+    let holds = has_base_row c.args.inputs.now.base.now c.args.router.0 p in
     let longer = has_longer (slice_index_or c.args.ribs.now.rows c.args.router.0 []) p in
-    let none : All (IsOf p) c.in_ok-told.told.items = subst (All (IsOf p)) (sym c.in_ok-told.ensures.items) (All-nil (IsOf p)) in
+    let none : All (IsOf p) c.in_ok-feasible.feasible.items = subst (All (IsOf p)) (sym c.in_ok-feasible.ensures.items) (All-nil (IsOf p)) in
     let first : All (IsOf p) (networks_of holds p c.args.process.now.networks.items) = kept_all (IsOf p) (λ (n : NetworkStatement). same_prefix n.prefix p) holds (λ (k : ℕ). begun p (Origin k)) (λ k. refl) c.args.process.now.networks.items in
     let second : All (IsOf p) (aggregates_of longer p c.args.process.now.aggregates.items) = kept_all (IsOf p) (λ (a : AggregateStatement). same_prefix a.prefix p) longer (λ (k : ℕ). begun p (Aggregate k)) (λ k. refl) c.args.process.now.aggregates.items in
-    let one : All (IsOf p) c.add_network.new.candidates.items = subst (All (IsOf p)) (sym c.in_ok-add_network.ensures) (All-append (IsOf p) c.in_ok-told.told.items (networks_of holds p c.args.process.now.networks.items) none first) in
+    let one : All (IsOf p) c.add_network.new.candidates.items = subst (All (IsOf p)) (sym c.in_ok-add_network.ensures) (All-append (IsOf p) c.in_ok-feasible.feasible.items (networks_of holds p c.args.process.now.networks.items) none first) in
     let two : All (IsOf p) c.add_aggregate.new.candidates.items =
     subst (All (IsOf p)) (sym c.in_ok-add_aggregate.ensures) (All-append (IsOf p) c.add_network.new.candidates.items (aggregates_of longer p c.args.process.now.aggregates.items) one second) in
     c.in_ok-add_entries.ensures.own two

@@ -16,7 +16,7 @@ process_in o = option_and_then (λ (k : ConfigView). k.process) o
 
 pub chosen_by-requires-clause-few : goal.chosen_by-requires-clause-few
 chosen_by-requires-clause-few c =
-    let routers = c.args.given.now.network.now in
+    let routers = c.args.inputs.now.network.now in
     let config = config_view c.index-routers-router.result in
     let at = config_at routers c.routers.result.now c.args.router.0 c.index-routers-router.result c.routers.ensures.routers c.requires.router c.index-routers-router.is in
     let formed : IsWellFormed config = all_in IsWellFormed routers c.routers.ensures.valid.each config (in_by_get routers c.args.router.0 config at) in
@@ -25,7 +25,7 @@ chosen_by-requires-clause-few c =
 
 pub chosen_by-requires-clause-formed : goal.chosen_by-requires-clause-formed
 chosen_by-requires-clause-formed c =
-    let routers = c.args.given.now.network.now in
+    let routers = c.args.inputs.now.network.now in
     let config = config_view c.index-routers-router.result in
     let at = config_at routers c.routers.result.now c.args.router.0 c.index-routers-router.result c.routers.ensures.routers c.requires.router c.index-routers-router.is in
     let formed : IsWellFormed config = all_in IsWellFormed routers c.routers.ensures.valid.each config (in_by_get routers c.args.router.0 config at) in
@@ -33,14 +33,14 @@ chosen_by-requires-clause-formed c =
 
 pub chosen_by-requires-clause-process : goal.chosen_by-requires-clause-process
 chosen_by-requires-clause-process c =
-    let routers = c.args.given.now.network.now in
+    let routers = c.args.inputs.now.network.now in
     let at = config_at routers c.routers.result.now c.args.router.0 c.index-routers-router.result c.routers.ensures.routers c.requires.router c.index-routers-router.is in
     ap process_in at ∙ ap (option_map process_view) (ap (λ (r : RouterConfig). r.process) c.index-routers-router.is ∙ c.in-Some.is)
 
 pub returns-clause-chosen : goal.returns-clause-chosen
 returns-clause-chosen c =
-    let routers = c.args.given.now.network.now in
-    let chosen : ProcessView → List Chosen = λ p. chosen_by p (candidates_at routers c.args.given.now.base.now c.args.given.now.sessions.now c.args.ribs.now.rows c.args.router.0 p c.args.of.now.prefix) in
+    let routers = c.args.inputs.now.network.now in
+    let chosen : ProcessView → List Chosen = λ p. chosen_by p (candidates_at routers c.args.inputs.now.base.now c.args.inputs.now.sessions.now c.args.ribs.now.rows c.args.router.0 p c.args.of.now.prefix) in
     let at = config_at routers c.routers.result.now c.args.router.0 c.index-routers-router.result c.routers.ensures.routers c.requires.router c.index-routers-router.is in
     c.in_ok-chosen.ensures.chosen
     ∙ sym (

@@ -13,7 +13,7 @@ use Rattle.nc_tables.specs.declared.bgp.Chosen.{Chosen}
 use Rattle.nc_tables.specs.declared.bgp.SessionRow.{SessionRow}
 use Rattle.nc_tables.specs.Rounds.{BgpRowView, aggregate_at, candidates_at, entry_at, made_from, origin_at}
 use Rattle.nc_tables.specs.Choice.{choose}
-use Rattle.nc_message.specs.Given.{IsOf}
+use Rattle.nc_message.specs.Inputs.{IsOf}
 use Rattle.nc_message.proofs.Distinct.{choose_few, made_few}
 use Rattle.nc_message.proofs.Making.{made_fewer}
 use Rattle.nc_message.proofs.choosing.chosen_by.Goals as goal
@@ -41,35 +41,35 @@ choose-requires c =
     omega (
       arith,
       ap (length {A = Chosen}) c.deref.ensures.value,
-      ap (length {A = Chosen}) c.in_ok-told.ensures.candidates,
-      few_candidates c.args.given.now.network.now c.args.given.now.base.now c.args.given.now.sessions.now c.args.ribs.now.rows c.args.router.0 (process_view c.args.process.now) c.args.of.now.prefix,
+      ap (length {A = Chosen}) c.in_ok-feasible.ensures.candidates,
+      few_candidates c.args.inputs.now.network.now c.args.inputs.now.base.now c.args.inputs.now.sessions.now c.args.ribs.now.rows c.args.router.0 (process_view c.args.process.now) c.args.of.now.prefix,
       c.requires.few,
     )
 
 pub returns-clause-chosen : goal.returns-clause-chosen
 returns-clause-chosen c =
-    let all = candidates_at c.args.given.now.network.now c.args.given.now.base.now c.args.given.now.sessions.now c.args.ribs.now.rows c.args.router.0 (process_view c.args.process.now) c.args.of.now.prefix in
-    c.in_ok-chosen.ensures
-    ∙ ap (λ (l : List Chosen). filter_map (slice_get l) c.deref-3.result.now) (c.deref-2.ensures.value ∙ c.in_ok-told.ensures.candidates)
+    let all = candidates_at c.args.inputs.now.network.now c.args.inputs.now.base.now c.args.inputs.now.sessions.now c.args.ribs.now.rows c.args.router.0 (process_view c.args.process.now) c.args.of.now.prefix in
+    c.in_ok-chosen-2.ensures
+    ∙ ap (λ (l : List Chosen). filter_map (slice_get l) c.deref-3.result.now) (c.deref-2.ensures.value ∙ c.in_ok-feasible.ensures.candidates)
     ∙ ap (filter_map (slice_get all))
     (c.deref-3.ensures.value ∙ c.in_ok-places.ensures
-    ∙ ap (λ (l : List Chosen). choose l c.args.process.now.max_paths c.args.process.now.relax) (map-id c.deref.result.now ∙ c.deref.ensures.value ∙ c.in_ok-told.ensures.candidates))
+    ∙ ap (λ (l : List Chosen). choose l c.args.process.now.max_paths c.args.process.now.relax) (map-id c.deref.result.now ∙ c.deref.ensures.value ∙ c.in_ok-feasible.ensures.candidates))
 
 pub returns-clause-own : goal.returns-clause-own
 returns-clause-own c =
     let p = c.args.of.now.prefix in
-    let told = c.deref-2.result.now in
+    let feasible = c.deref-2.result.now in
     let places = c.deref-3.result.now in
-    let own : All (IsOf p) told = subst (All (IsOf p)) (sym c.deref-2.ensures.value) c.in_ok-told.ensures.own in
-    let each : All (IsOf p) (filter_map (slice_get told) places) =
-    all_by_in (IsOf p) (filter_map (slice_get told) places) (λ z i. let from = in_by_filter_map (slice_get told) places z i in all_in (IsOf p) told own z (in_by_get told from.0 z from.2)) in
-    subst (All (IsOf p)) (sym c.in_ok-chosen.ensures) each
+    let own : All (IsOf p) feasible = subst (All (IsOf p)) (sym c.deref-2.ensures.value) c.in_ok-feasible.ensures.own in
+    let each : All (IsOf p) (filter_map (slice_get feasible) places) =
+    all_by_in (IsOf p) (filter_map (slice_get feasible) places) (λ z i. let from = in_by_filter_map (slice_get feasible) places z i in all_in (IsOf p) feasible own z (in_by_get feasible from.0 z from.2)) in
+    subst (All (IsOf p)) (sym c.in_ok-chosen-2.ensures) each
 
 pub returns-clause-few : goal.returns-clause-few
 returns-clause-few c =
-    let told = c.deref-2.result.now in
+    let feasible = c.deref-2.result.now in
     let places = c.deref-3.result.now in
     let some : length places ≤ MULTIPATH_LIMIT =
     subst (λ (l : List ℕ). length l ≤ MULTIPATH_LIMIT) (sym (c.deref-3.ensures.value ∙ c.in_ok-places.ensures))
     (choose_few _ c.args.process.now.max_paths MULTIPATH_LIMIT c.args.process.now.relax c.requires.formed.paths.1 (omega arith)) in
-    omega (arith, ap (length {A = Chosen}) c.in_ok-chosen.ensures, made_few (slice_get told) places, some)
+    omega (arith, ap (length {A = Chosen}) c.in_ok-chosen-2.ensures, made_few (slice_get feasible) places, some)

@@ -4,7 +4,7 @@ use Rattle.nc_types.specs.Cidr.{Cidr}
 use Rattle.nc_types.proofs.Members.{all_in, in_by_get}
 use Rattle.nc_tables.specs.declared.bgp.Chosen.{Chosen}
 use Rattle.nc_tables.specs.Rounds.{AreBgpRows}
-use Rattle.nc_message.specs.Given.{IsOf}
+use Rattle.nc_message.specs.Inputs.{IsOf}
 use Rattle.nc_message.proofs.Own.{row_own}
 use Rattle.nc_message.proofs.messages.best_at.Goals as goal
 

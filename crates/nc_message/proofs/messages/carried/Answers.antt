@@ -2,12 +2,12 @@ use Rattle.std.proofs.Common.{◌≡◌, ◌≤◌, true, false, cond, [], List,
 use Rattle.nc_types.specs.declared.TheConstants.{COMMUNITY_LIMIT}
 use Rattle.nc_policy.specs.Passing.{communities_by}
 use Rattle.nc_sessions.specs.Views.{link_view}
-use Rattle.nc_message.specs.declared.messages.Sent.{Sent}
+use Rattle.nc_message.specs.declared.messages.Advertisement.{Advertisement}
 use Rattle.nc_message.specs.Views.{message_view}
 use Rattle.nc_message.proofs.Sending.{message_is}
 use Rattle.nc_message.proofs.messages.carried.Goals as goal
 
-module _ (s : Sent) where
+module _ (s : Advertisement) where
   abbrev left : List ℕ
   left = communities_by s.out s.best.now.route.communities
 

@@ -7,18 +7,18 @@ use Rattle.nc_message.proofs.messages.message_at.Goals as goal
 
 pub returns-in_err-best-clause-message : goal.returns-in_err-best-clause-message
 returns-in_err-best-clause-message c =
-    let i = c.args.given.now in
+    let i = c.args.inputs.now in
     ap (option_map message_view) c.from_residual.ensures
     ∙ none_sent i.network.now i.base.now i.sessions.now c.args.table.now c.args.router.0 c.args.place c.args.prefix c.in_err-best.ensures.best
 
-pub returns-in_err-heard-clause-message : goal.returns-in_err-heard-clause-message
-returns-in_err-heard-clause-message c =
-    let i = c.args.given.now in
-    ap (option_map message_view) c.from_residual-in_err-heard.ensures
-    ∙ none_linked i.network.now i.base.now i.sessions.now c.args.table.now c.args.router.0 c.args.place c.args.prefix c.in_err-heard.ensures.link
+pub returns-in_err-adjacency-clause-message : goal.returns-in_err-adjacency-clause-message
+returns-in_err-adjacency-clause-message c =
+    let i = c.args.inputs.now in
+    ap (option_map message_view) c.from_residual-in_err-adjacency.ensures
+    ∙ none_linked i.network.now i.base.now i.sessions.now c.args.table.now c.args.router.0 c.args.place c.args.prefix c.in_err-adjacency.ensures.link
 
 pub returns-clause-message : goal.returns-clause-message
 returns-clause-message c =
-    let i = c.args.given.now in
+    let i = c.args.inputs.now in
     c.message_of.ensures.message
-    ∙ one_sent i.network.now i.base.now i.sessions.now c.args.table.now c.args.router.0 c.args.place c.args.prefix (link_view c.in_ok-heard.heard.link) c.in_ok-heard.ensures.link c.in_ok-best.best.now c.in_ok-best.ensures.best
+    ∙ one_sent i.network.now i.base.now i.sessions.now c.args.table.now c.args.router.0 c.args.place c.args.prefix (link_view c.in_ok-adjacency.adjacency.link) c.in_ok-adjacency.ensures.link c.in_ok-best.best.now c.in_ok-best.ensures.best

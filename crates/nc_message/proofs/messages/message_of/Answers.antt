@@ -9,7 +9,7 @@ use Rattle.nc_message.proofs.messages.message_of.Goals.{else-link-via-then-link+
 
 pub returns-clause-message : goal.returns-clause-message
 returns-clause-message c =
-    let k = link_view c.args.heard.link in
+    let k = link_view c.args.adjacency.link in
     let b = c.args.best.now in
     let out = c.in_ok-out.out in
     let may : (k.session.internal && b.internal) ≡ false = elim c.else-link.branch [
@@ -24,9 +24,9 @@ few_sent : (send : Bool) (left : List ℕ) → length left ≤ COMMUNITY_LIMIT �
 few_sent true left few = few
 few_sent false left few = omega arith
 
-pub returns-clause-told : goal.returns-clause-told
-returns-clause-told c =
-    let k = link_view c.args.heard.link in
+pub returns-clause-feasible : goal.returns-clause-feasible
+returns-clause-feasible c =
+    let k = link_view c.args.adjacency.link in
     let b = c.args.best.now in
     let out = c.in_ok-out.out in
     record {

@@ -3,34 +3,34 @@ use Rattle.nc_types.specs.Cidr.{Cidr}
 use Rattle.nc_tables.specs.declared.bgp.Chosen.{Chosen}
 use Rattle.nc_tables.specs.LocRibs.{AreChosen}
 use Rattle.nc_tables.specs.Rounds.{BgpRowView, chosen_at}
-use Rattle.nc_message.specs.declared.given.Given.{Given}
-use Rattle.nc_round.specs.declared.new_row.NewRow.{NewRow}
+use Rattle.nc_message.specs.declared.inputs.RoutingInputs.{RoutingInputs}
+use Rattle.nc_round.specs.declared.loc_rib_change.LocRibChange.{LocRibChange}
 use Rattle.nc_round.specs.Keys.{Key}
-use Rattle.nc_round.specs.Given.{next}
+use Rattle.nc_round.specs.Next.{next}
 use Rattle.nc_round.specs.Changes.{IsDifference}
-use Rattle.nc_round.specs.Renewing.{row_change, AreEnough, IsNew, Leads}
+use Rattle.nc_round.specs.Renewing.{row_change, AreEnough, IsLocRibChange, IsCompletedBy}
 use Rattle.nc_round.specs.Rows.{row_key}
-use Rattle.nc_round.proofs.NewRows.{key_of, target, changes, leads, difference, is_next}
+use Rattle.nc_round.proofs.LocRibChanges.{key_of, target, all_changes, leads, difference, is_next}
 use Rattle.nc_round.proofs.renewal.renew.Goals as goal
 use Rattle.nc_round.proofs.renewal.renew.Goals.{After-count-count}
 
-module _ (i : Given) (table new : List (List BgpRowView)) (keys : List Key) (news : List NewRow) (enough : AreEnough i table keys) (made : map row_change news ≡ changes i table keys enough) where
+module _ (i : RoutingInputs) (table new : List (List BgpRowView)) (keys : List Key) (changes : List LocRibChange) (enough : AreEnough i table keys) (made : map row_change changes ≡ all_changes i table keys enough) where
   -- the table into which all new rows are put is the next one
-  made_next : length new ≡ length table → All AreChosen new → ((want : ℕ → Cidr → List Chosen) → Leads want table (map row_change news) → (router : ℕ) (p : Cidr) → chosen_at new router p ≡ want router p) → new ≡ next i table
-  made_next count rows put = is_next i table keys enough new count rows (put (target i table keys enough) (subst (Leads (target i table keys enough) table) (sym made) (leads i table keys enough)))
+  made_next : length new ≡ length table → All AreChosen new → ((want : ℕ → Cidr → List Chosen) → IsCompletedBy want table (map row_change changes) → (router : ℕ) (p : Cidr) → chosen_at new router p ≡ want router p) → new ≡ next i table
+  made_next count rows put = is_next i table keys enough new count rows (put (target i table keys enough) (subst (IsCompletedBy (target i table keys enough) table) (sym made) (leads i table keys enough)))
 
   -- and these are the rows in which it differs
-  made_difference : (read : List NewRow) (changed : List Key) → read ≡ news → changed ≡ map (λ (n : NewRow). (row_change n).key) read → new ≡ next i table → IsDifference table new changed
+  made_difference : (read : List LocRibChange) (changed : List Key) → read ≡ changes → changed ≡ map (λ (n : LocRibChange). (row_change n).key) read → new ≡ next i table → IsDifference table new changed
   made_difference read changed same is next_is =
-      subst (IsDifference table new) (sym (is ∙ ap (map (λ (n : NewRow). (row_change n).key)) same ∙ sym (map_map news) ∙ ap (map key_of) made)) (difference i table keys enough new next_is)
+      subst (IsDifference table new) (sym (is ∙ ap (map (λ (n : LocRibChange). (row_change n).key)) same ∙ sym (map_map changes) ∙ ap (map key_of) made)) (difference i table keys enough new next_is)
     where
-      map_map : (ns : List NewRow) → map key_of (map row_change ns) ≡ map (λ (n : NewRow). (row_change n).key) ns
+      map_map : (ns : List LocRibChange) → map key_of (map row_change ns) ≡ map (λ (n : LocRibChange). (row_change n).key) ns
       map_map [] = refl
       map_map (n ∷ ns) = ap (λ (ks : List Key). (row_change n).key ∷ ks) (map_map ns)
 
-is_made : (c : After-count-count) → c.put_all.new.ribs.rows ≡ next c.args.given c.args.ribs.rows
+is_made : (c : After-count-count) → c.put_all.new.ribs.rows ≡ next c.args.inputs c.args.ribs.rows
 is_made c =
-    made_next c.args.given c.args.ribs.rows c.put_all.new.ribs.rows c.args.keys.now c.in_ok-news.news.items c.requires.keys c.in_ok-news.ensures.rows
+    made_next c.args.inputs c.args.ribs.rows c.put_all.new.ribs.rows c.args.keys.now c.in_ok-changes.changes.items c.requires.keys c.in_ok-changes.ensures.rows
     c.put_all.ensures.count c.count-count.ensures.valid c.put_all.ensures.leads
 
 pub returns-clause-table : goal.returns-clause-table
@@ -38,10 +38,10 @@ returns-clause-table c = is_made c
 
 pub returns-clause-changed : goal.returns-clause-changed
 returns-clause-changed c =
-    made_difference c.args.given c.args.ribs.rows c.put_all.new.ribs.rows c.args.keys.now c.in_ok-news.news.items c.requires.keys c.in_ok-news.ensures.rows
+    made_difference c.args.inputs c.args.ribs.rows c.put_all.new.ribs.rows c.args.keys.now c.in_ok-changes.changes.items c.requires.keys c.in_ok-changes.ensures.rows
     c.deref.result.now (map row_key c.in_ok-rows.rows.items) c.deref.ensures.value c.in_ok-rows.ensures.keys (is_made c)
 
 pub returns-clause-numbers : goal.returns-clause-numbers
 returns-clause-numbers c =
-    c.in_ok-rows.ensures.numbers (length c.args.given.network.now) c.args.ribs.prefixes
-    (subst (All (IsNew (length c.args.given.network.now) c.args.ribs.prefixes)) (sym c.deref.ensures.value) c.in_ok-news.ensures.news)
+    c.in_ok-rows.ensures.numbers (length c.args.inputs.network.now) c.args.ribs.prefixes
+    (subst (All (IsLocRibChange (length c.args.inputs.network.now) c.args.ribs.prefixes)) (sym c.deref.ensures.value) c.in_ok-changes.ensures.changes)

@@ -10,20 +10,20 @@ use Rattle.nc_round.proofs.rounds.round_changed.Goals as goal
 pub woken_in_order-requires-clause-ribs : goal.woken_in_order-requires-clause-ribs
 woken_in_order-requires-clause-ribs c =
     let changed = map row_key c.args.changed.rows.items in
-    table_count c.args.given c.requires.made.0 c.args.old.rows changed changed c.requires.given c.routers-routers.ensures.valid.each c.count-count.ensures.valid c.requires.made.1
+    table_count c.args.inputs c.requires.made.0 c.args.old.rows changed changed c.requires.inputs c.routers-routers.ensures.valid.each c.count-count.ensures.valid c.requires.made.1
 
 pub renew-requires-clause-keys : goal.renew-requires-clause-keys
 renew-requires-clause-keys c =
-    let given = c.args.given in
+    let inputs = c.args.inputs in
     let old = c.args.old.rows in
     let rows = c.in_ok-keys.keys.items in
     let changed = map row_key c.args.changed.rows.items in
     let before = c.requires.made.0 in
     let round = c.requires.made.1 in
     let formed = c.routers-routers.ensures.valid.each in
-    let within = changed_within given before old changed rows c.requires.given formed c.count-count.ensures.valid round in
-    subst (AreEnough given old) (sym c.deref-2.ensures.value)
-    (enough given before old changed rows c.requires.given formed c.count-count.ensures.valid round c.in_ok-keys.ensures.ordered c.in_ok-keys.ensures.within
+    let within = changed_within inputs before old changed rows c.requires.inputs formed c.count-count.ensures.valid round in
+    subst (AreEnough inputs old) (sym c.deref-2.ensures.value)
+    (enough inputs before old changed rows c.requires.inputs formed c.count-count.ensures.valid round c.in_ok-keys.ensures.ordered c.in_ok-keys.ensures.within
     (λ router p lt woken. c.in_ok-keys.ensures.woken router p lt
-    (subst (λ (l : List ChangedRow). All (λ (k : Key). k.0.0 < length given.network.now) (map row_key l)) (sym c.deref.ensures.value) within)
-    (subst (λ (l : List ChangedRow). IsWoken given old (map row_key l) router p) (sym c.deref.ensures.value) woken)))
+    (subst (λ (l : List ChangedRow). All (λ (k : Key). k.0.0 < length inputs.network.now) (map row_key l)) (sym c.deref.ensures.value) within)
+    (subst (λ (l : List ChangedRow). IsWoken inputs old (map row_key l) router p) (sym c.deref.ensures.value) woken)))

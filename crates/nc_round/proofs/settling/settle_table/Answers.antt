@@ -15,7 +15,7 @@ some_left rows some = omega (arith, length-map rows row_key)
 
 pub rounds-init : goal.rounds-init
 rounds-init c =
-    let i = c.args.given in record {
+    let i = c.args.inputs in record {
       run = run_start i.network.now i.base.now i.sessions.now c.in_ok-ribs.ribs.rows (map row_key c.in_ok-ribs.changed.rows.items) c.in_ok-ribs.ensures.table c.in_ok-ribs.ensures.changed;
       prefixes = c.in_ok-ribs.ensures.prefixes;
       numbers = c.in_ok-ribs.ensures.numbers;
@@ -23,12 +23,12 @@ rounds-init c =
 
 pub round_changed-requires-clause-made : goal.round_changed-requires-clause-made
 round_changed-requires-clause-made c =
-    let i = c.args.given in
+    let i = c.args.inputs in
     (at i.network.now i.base.now i.sessions.now c.rounds._more, run_made i.network.now i.base.now i.sessions.now c.rounds.ribs.rows (map row_key c.rounds.changed.rows.items) c.rounds._more c.rounds.invariant.run)
 
 pub rounds-preserved : goal.rounds-preserved
 rounds-preserved c =
-    let i = c.args.given in
+    let i = c.args.inputs in
     let k = c.rounds._more in
     let up : suc k ≡ k + 1 = omega arith in
     record {
@@ -40,19 +40,19 @@ rounds-preserved c =
 
 pub returns-then-is_empty : goal.returns-then-is_empty
 returns-then-is_empty c =
-    let i = c.args.given in
+    let i = c.args.inputs in
     subst (IsStable i.network.now i.base.now i.sessions.now c.args.rounds) (sym c.in_ok-into_table.ensures)
     (run_stop i.network.now i.base.now i.sessions.now c.rounds.ribs.rows (map row_key c.rounds.changed.rows.items) c.rounds._more c.rounds.invariant.run c.args.rounds (omega arith) (none_left c.rounds.changed.rows.items (search rules)))
 
 pub returns-then-is_empty-2 : goal.returns-then-is_empty-2
 returns-then-is_empty-2 c =
-    let i = c.args.given in
+    let i = c.args.inputs in
     subst (IsStable i.network.now i.base.now i.sessions.now c.args.rounds) (sym c.in_ok-into_table-2.ensures)
     (run_stop i.network.now i.base.now i.sessions.now c.rounds.ribs.rows (map row_key c.rounds.changed.rows.items) c.rounds._more c.rounds.invariant.run c.args.rounds (omega arith) (none_left c.rounds.changed.rows.items (search rules)))
 
 pub returns : goal.returns
 returns c =
-    let i = c.args.given in
+    let i = c.args.inputs in
     let all : suc c.rounds._more ≡ c.args.rounds = omega arith in
     subst (IsUnstable i.network.now i.base.now i.sessions.now) all
     (run_on i.network.now i.base.now i.sessions.now c.rounds.ribs.rows (map row_key c.rounds.changed.rows.items) c.rounds._more c.rounds.invariant.run (some_left c.rounds.changed.rows.items (search rules)))

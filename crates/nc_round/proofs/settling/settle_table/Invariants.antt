@@ -6,7 +6,7 @@ use Rattle.nc_round.proofs.settling.settle_table.Given as goal
 
 abbrev pub invariant-rounds : goal.invariant-rounds
 invariant-rounds l = record {
-  run : IsRun l.given.network.now l.given.base.now l.given.sessions.now l._more l.ribs.rows (map row_key l.changed.rows.items);
-  prefixes : l.ribs.prefixes ≡ prefixes l.given.network.now;
+  run : IsRun l.inputs.network.now l.inputs.base.now l.inputs.sessions.now l._more l.ribs.rows (map row_key l.changed.rows.items);
+  prefixes : l.ribs.prefixes ≡ prefixes l.inputs.network.now;
   numbers : AreRows l.ribs.prefixes l.changed.rows.items;
 }

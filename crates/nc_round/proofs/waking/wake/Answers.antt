@@ -9,7 +9,7 @@ use Rattle.nc_tables.specs.declared.bgp.SessionRow.{SessionRow}
 use Rattle.nc_tables.specs.Rounds.{is_longer_in}
 use Rattle.nc_round.specs.Keys.{Key}
 use Rattle.nc_round.specs.Rows.{listed, prefixes_of}
-use Rattle.nc_round.specs.Waking.{aggregates_of, heard_over}
+use Rattle.nc_round.specs.Waking.{aggregates_of, affected_over}
 use Rattle.nc_round.proofs.Lists.{all_over}
 use Rattle.nc_round.proofs.waking.wake.Goals as goal
 
@@ -37,10 +37,10 @@ noted_is f before first second changed there rows read aggregates known none e1 
 pub returns-clause-woken : goal.returns-clause-woken
 returns-clause-woken c p some =
     let lists : List (List Cidr) = listed c.args.lists.now in
-    let i = c.args.given.now in
+    let i = c.args.inputs.now in
     let router = c.args.router.0 in
-    let noted = noted_is (heard_over i c.args.ribs.now.rows lists router) c.clear.new.self.items c.add_heard.new.prefixes.items c.add_around.new.prefixes.items (prefixes_of c.changed_at.result.now) (slice_index_or lists router []) c.rows-rows.result.now (slice_index_or i.sessions.now router [])
-    c.aggregates_of-aggregates.result.now (aggregates_of i.network.now router) c.clear.ensures.items c.in_ok-add_heard.ensures c.in_ok-add_around.ensures c.rows-rows.ensures.rows c.changed_at.ensures.prefixes c.aggregates_of-aggregates.ensures in
+    let noted = noted_is (affected_over i c.args.ribs.now.rows lists router) c.clear.new.self.items c.add_affected.new.prefixes.items c.add_around.new.prefixes.items (prefixes_of c.changed_at.result.now) (slice_index_or lists router []) c.rows-rows.result.now (slice_index_or i.sessions.now router [])
+    c.aggregates_of-aggregates.result.now (aggregates_of i.network.now router) c.clear.ensures.items c.in_ok-add_affected.ensures c.in_ok-add_around.ensures c.rows-rows.ensures.rows c.changed_at.ensures.prefixes c.aggregates_of-aggregates.ensures in
     subst (λ (l : List Key). Contains l (c.args.router, p)) (sym c.in_ok-wake_each.ensures)
     (Contains-append_right c.args.woken.now.items (map (λ (q : Cidr). (c.args.router, q)) c.deref.result.now) (c.args.router, p)
     (row_among c.args.router c.deref.result.now p (subst (λ (l : List Cidr). Contains l p) (sym c.deref.ensures.value)

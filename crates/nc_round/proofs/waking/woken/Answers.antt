@@ -11,7 +11,7 @@ use Rattle.nc_round.proofs.waking.woken.Goals as goal
 pub routers-preserved : goal.routers-preserved
 routers-preserved c =
     let number = c.routers.router in
-    let W : ℕ → List Cidr = woken_at c.args.given.now c.args.ribs.now.rows (listed c.args.lists.now) in
+    let W : ℕ → List Cidr = woken_at c.args.inputs.now c.args.ribs.now.rows (listed c.args.lists.now) in
     let keys = c.wake.new.woken.items in
     record {
       woken = λ router p lt some. elim (cases_lt router number) [
@@ -20,7 +20,7 @@ routers-preserved c =
             let same : number ≡ router = omega arith in
             subst (λ (r : ℕ). Contains keys (key r p)) same (c.in_ok-wake.ensures.woken p (subst (λ (r : ℕ). Contains (W r) p) (let back : router ≡ number = omega arith in back) some))
       ];
-      within = c.in_ok-wake.ensures.within (length c.args.given.now.network.now) (omega (arith, length-map c.routers-router-end.result.now config_view, ap (length {A = ConfigView}) c.routers-router-end.ensures.routers)) c.routers.invariant.within;
+      within = c.in_ok-wake.ensures.within (length c.args.inputs.now.network.now) (omega (arith, length-map c.routers-router-end.result.now config_view, ap (length {A = ConfigView}) c.routers-router-end.ensures.routers)) c.routers.invariant.within;
     }
 
 pub returns-clause-woken : goal.returns-clause-woken

@@ -8,6 +8,6 @@ use Rattle.nc_round.proofs.waking.woken.Given as goal
 abbrev pub invariant-routers : goal.invariant-routers
 invariant-routers l = record {
   -- the rows of the routers so far are woken
-  woken : (router : ℕ) (p : Cidr) → router < l.router → Contains (woken_at l.given l.ribs.rows (listed l.lists) router) p → Contains l.keys.items (key router p);
-  within : All (λ k. k.0.0 < length l.given.network.now) l.keys.items;
+  woken : (router : ℕ) (p : Cidr) → router < l.router → Contains (woken_at l.inputs l.ribs.rows (listed l.lists) router) p → Contains l.keys.items (key router p);
+  within : All (λ k. k.0.0 < length l.inputs.network.now) l.keys.items;
 }

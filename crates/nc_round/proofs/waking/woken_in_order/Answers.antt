@@ -8,12 +8,12 @@ use Rattle.nc_types.specs.declared.config.AggregateStatement.{AggregateStatement
 use Rattle.nc_types.proofs.Members.{In, in_left, in_right, in_map, in_filter, in_by_contains, contains_by_in, all_in, all_by_in, passes_some}
 use Rattle.nc_tables.specs.declared.bgp.SessionRow.{SessionRow}
 use Rattle.nc_tables.specs.Rounds.{BgpRowView, is_longer_in}
-use Rattle.nc_message.specs.Idle.{is_idle}
-use Rattle.nc_message.specs.declared.given.Given.{Given}
+use Rattle.nc_message.specs.BestPath.{leaves_best_path}
+use Rattle.nc_message.specs.declared.inputs.RoutingInputs.{RoutingInputs}
 use Rattle.nc_tables.specs.declared.ribs.Numbered.{Numbered}
 use Rattle.nc_round.specs.Rows.{listed, row_key}
 use Rattle.nc_round.specs.Keys.{Key, key}
-use Rattle.nc_round.specs.Waking.{aggregates_of, changed_at, heard_over, woken_at, IsHeard, IsAround, IsWoken}
+use Rattle.nc_round.specs.Waking.{aggregates_of, changed_at, affected_over, woken_at, IsAffectedByPeer, IsAround, IsWoken}
 use Rattle.nc_round.proofs.Lists.{in_flat_map, in_filter_map}
 use Rattle.nc_round.proofs.waking.woken_in_order.Goals as goal
 
@@ -22,7 +22,7 @@ there : (changed : List Key) (router : ℕ) (p : Cidr) → In (key router p) cha
 there changed router p i =
     in_filter_map (λ (k : Key). cond {A = Option Cidr} (k.0.0 == router) (Some k.1) None) changed (key router p) p i (ap (λ (b : Bool). cond {A = Option Cidr} b (Some p) None) (eq-eqb router router refl))
 
-module _ (i : Given) (table : List (List BgpRowView)) (changed : List Key) (lists : List (List Cidr)) (within : All (λ (k : Key). k.0.0 < length i.network.now) changed)
+module _ (i : RoutingInputs) (table : List (List BgpRowView)) (changed : List Key) (lists : List (List Cidr)) (within : All (λ (k : Key). k.0.0 < length i.network.now) changed)
     (each : (r : ℕ) → r < length i.network.now → slice_index_or lists r [] ≡ changed_at changed r) where
   -- so it is in the list of the router
   is_listed : (router : ℕ) (p : Cidr) → Contains changed (key router p) → In p (slice_index_or lists router [])
@@ -35,7 +35,7 @@ module _ (i : Given) (table : List (List BgpRowView)) (changed : List Key) (list
     sessions_there = slice_index_or i.sessions.now router []
 
     abbrev heard : List Cidr
-    heard = flat_map (heard_over i table lists router) sessions_there
+    heard = flat_map (affected_over i table lists router) sessions_there
 
     abbrev is_around : AggregateStatement → Bool
     is_around a = list_any (λ (q : Cidr). is_longer_in q a.prefix) (slice_index_or lists router [])
@@ -43,11 +43,11 @@ module _ (i : Given) (table : List (List BgpRowView)) (changed : List Key) (list
     abbrev around : List AggregateStatement
     around = filter is_around (aggregates_of i.network.now router)
 
-    by_session : IsHeard i table changed router p → In p (woken_at i table lists router)
+    by_session : IsAffectedByPeer i table changed router p → In p (woken_at i table lists router)
     by_session h =
         in_left heard (map (λ (a : AggregateStatement). a.prefix) around) p
-        (in_flat_map (heard_over i table lists router) sessions_there h.session p (in_by_contains sessions_there h.session h.own)
-        (in_filter (λ (q : Cidr). not (is_idle i.network.now i.base.now i.sessions.now table router h.session.neighbor q)) (slice_index_or lists h.session.peer.0 []) p (is_listed h.session.peer.0 p h.row) (ap not h.counts)))
+        (in_flat_map (affected_over i table lists router) sessions_there h.session p (in_by_contains sessions_there h.session h.own)
+        (in_filter (λ (q : Cidr). not (leaves_best_path i.network.now i.base.now i.sessions.now table router h.session.neighbor q)) (slice_index_or lists h.session.peer.0 []) p (is_listed h.session.peer.0 p h.row) (ap not h.counts)))
 
     by_aggregate : IsAround i.network.now changed router p → In p (woken_at i table lists router)
     by_aggregate h =
@@ -63,7 +63,7 @@ module _ (i : Given) (table : List (List BgpRowView)) (changed : List Key) (list
 
 pub returns-clause-woken : goal.returns-clause-woken
 returns-clause-woken c router p lt within woken =
-    let i = c.args.given.now in
+    let i = c.args.inputs.now in
     let network = i.network.now in
     let lists : List (List Cidr) = listed c.deref.result.now in
     let each : (r : ℕ) → r < length network → slice_index_or lists r [] ≡ changed_at (map row_key c.args.changed.now) r =
@@ -76,5 +76,5 @@ pub returns-clause-within : goal.returns-clause-within
 returns-clause-within c =
     let keys = c.in_ok-keys.keys.items in
     let rows = c.in_order.result.items in
-    all_by_in (λ (k : Key). k.0.0 < length c.args.given.now.network.now) rows
-    (λ k j. all_in (λ (q : Key). q.0.0 < length c.args.given.now.network.now) keys c.in_ok-keys.ensures.within k (in_by_contains keys k ((c.in_order.ensures.same k).0 (contains_by_in rows k j))))
+    all_by_in (λ (k : Key). k.0.0 < length c.args.inputs.now.network.now) rows
+    (λ k j. all_in (λ (q : Key). q.0.0 < length c.args.inputs.now.network.now) keys c.in_ok-keys.ensures.within k (in_by_contains keys k ((c.in_order.ensures.same k).0 (contains_by_in rows k j))))

@@ -1,0 +1,61 @@
+use Rattle.std.proofs.Common.{◌≡◌, ℕ, List, Option, Some, None, IfSome, ap, ◌∙◌, arith}
+use Rattle.std.specs.Option.{option_map}
+use Rattle.std.proofs.lemmas.Option.{slice_get_within}
+use Rattle.nc_tables.specs.declared.base.BaseRow.{BaseRow}
+use Rattle.nc_tables.specs.declared.bgp.Chosen.{Chosen}
+use Rattle.nc_tables.specs.Rounds.{Link, learnt_from}
+use Rattle.nc_tables.specs.Sessions.{router_id}
+use Rattle.nc_sessions.specs.Views.{link_view}
+use Rattle.nc_message.specs.Adjacencies.{IsSender}
+use Rattle.nc_message.specs.declared.adjacencies.Sender.{Sender}
+use Rattle.nc_message.proofs.PeerFirst.{none_learnt_alone, none_learnt_silent, one_learnt}
+use Rattle.nc_message.proofs.Sending.{message_is}
+use Rattle.nc_message.proofs.feasible.feasible_at.Goals as goal
+
+-- of what is known of a sender, its router id
+id_of : (tables : List (List BaseRow)) (router : ℕ) (k : Link) (o : Option Sender) → IfSome o (IsSender tables router k) → IfSome o (λ d. d.id.0 ≡ router_id k.sender.config)
+id_of tables router k None known = tt
+id_of tables router k (Some d) known = known.id
+
+pub best_of-requires-clause-router : goal.best_of-requires-clause-router
+best_of-requires-clause-router c =
+    let routers = c.args.inputs.now.network.now in
+    let k = link_view c.in_ok-adjacency.adjacency.link in
+    omega (arith, slice_get_within routers k.session.peer.0 k.sender.config c.in_ok-adjacency.ensures.between.sender, c.requires.ribs)
+
+pub learnt-requires-clause-sender : goal.learnt-requires-clause-sender
+learnt-requires-clause-sender c =
+    let s = c.in_ok-taken.taken.sent in
+    id_of c.args.inputs.now.base.now c.args.router.0 (link_view s.link) s.sender c.in_ok-taken.ensures.known
+
+pub returns-in_err-adjacency-clause-feasible : goal.returns-in_err-adjacency-clause-feasible
+returns-in_err-adjacency-clause-feasible c =
+    let i = c.args.inputs.now in
+    c.from_residual.ensures
+    ∙ none_learnt_alone i.network.now i.base.now i.sessions.now c.args.ribs.now.rows c.args.router.0 c.args.place c.args.of.prefix c.in_err-adjacency.ensures.link
+
+pub returns-in_err-best-clause-feasible : goal.returns-in_err-best-clause-feasible
+returns-in_err-best-clause-feasible c =
+    let i = c.args.inputs.now in
+    c.from_residual-in_err-best.ensures
+    ∙ none_learnt_silent i.network.now i.base.now i.sessions.now c.args.ribs.now.rows c.args.router.0 c.args.place c.args.of.prefix (link_view c.in_ok-adjacency.adjacency.link) c.in_ok-adjacency.ensures.link c.in_err-best.ensures.best
+
+pub returns-in_err-taken-clause-feasible : goal.returns-in_err-taken-clause-feasible
+returns-in_err-taken-clause-feasible c =
+    let i = c.args.inputs.now in
+    c.from_residual-in_err-taken.ensures
+    ∙ ap (option_map (learnt_from c.args.place)) c.in_err-taken.ensures.accepted
+    ∙ one_learnt i.network.now i.base.now i.sessions.now c.args.ribs.now.rows c.args.router.0 c.args.place c.args.of.prefix (link_view c.in_ok-adjacency.adjacency.link) c.in_ok-adjacency.ensures.link c.in_ok-best.best.now c.in_ok-best.ensures.best
+
+pub returns-clause-feasible : goal.returns-clause-feasible
+returns-clause-feasible c =
+    let i = c.args.inputs.now in
+    ap Some c.learnt.ensures
+    ∙ ap (option_map (learnt_from c.args.place)) c.in_ok-taken.ensures.accepted
+    ∙ one_learnt i.network.now i.base.now i.sessions.now c.args.ribs.now.rows c.args.router.0 c.args.place c.args.of.prefix (link_view c.in_ok-adjacency.adjacency.link) c.in_ok-adjacency.ensures.link c.in_ok-best.best.now c.in_ok-best.ensures.best
+
+pub returns-clause-own : goal.returns-clause-own
+returns-clause-own c =
+    let s = c.in_ok-taken.taken.sent in
+    ap (λ (x : Chosen). x.route.prefix) c.learnt.ensures ∙ (message_is (link_view s.link) s.best.now s.out).prefix
+    ∙ ap (λ (b : Chosen). b.route.prefix) c.in_ok-taken.ensures.best ∙ c.in_ok-best.ensures.own

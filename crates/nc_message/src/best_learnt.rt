@@ -1,0 +1,183 @@
+//! The best of the candidates of a prefix, found as they come: none is kept but the best so far.
+
+ghost use Rattle.std.specs.Prelude.{◌≡◌, ◌<◌, ◌^◌, MatchOption, IfSome, Some, false, length, true};
+ghost use Rattle.std.specs.Ordering.{is_gt};
+ghost use Rattle.std.specs.Option.{option_map, option_map_or};
+ghost use Rattle.nc_tables.specs.Choice.{preference_cmp};
+ghost use Rattle.nc_tables.specs.LocRibs.{IsNumbered};
+ghost use Rattle.nc_tables.specs.Rounds.{entry_at, made_from, session_by};
+ghost use Rattle.nc_sessions.specs.Views.{link_view};
+ghost use Rattle.nc_message.specs.BestPath.{best_among, best_from, best_with, better_of, IsOutranked};
+ghost use Rattle.nc_message.specs.Inputs.{AreRoutingInputs, IsOf};
+ghost use Rattle.nc_message.specs.Peerings.{IsPeering};
+ghost use Rattle.nc_message.specs.Peers.{best_over};
+
+use crate::adjacencies::Peering;
+use crate::best_path::is_outranked;
+use crate::feasible::{FeasibleRoute, feasible_over};
+use crate::inputs::{RoutingInputs, peering_of};
+use crate::rows::best_of;
+use nc_select::preference_cmp;
+use nc_sessions::Link;
+use nc_tables::{Chosen, LocRibs, Numbered};
+use nc_types::{Neighbor, RouterId};
+
+// Whether the best so far beats what may be learnt of a peer's candidate, whatever the maps on its
+// way: then no map runs.
+fn is_outranked_by(best: &Option<FeasibleRoute<'_>>, link: &Link<'_>, sent: &Chosen) -> bool
+    ensures { result ≡ true → MatchOption best.now (false ≡ true)
+        (λ b. IsOutranked b (link_view link.now) sent.now) }
+{
+    match best {
+        Some(standing) => is_outranked(standing, link, sent),
+        None => false,
+    }
+}
+
+// Whether the best so far is preferred to another route.
+fn is_preferred_to(best: &Option<FeasibleRoute<'_>>, route: &FeasibleRoute<'_>) -> bool
+    ensures { result ≡ option_map_or (λ b. is_gt (preference_cmp route.now b)) best.now false }
+{
+    match best {
+        Some(standing) => preference_cmp(route, standing).is_gt(),
+        None => false,
+    }
+}
+
+// Takes what a router learns over a session, unless the best so far is preferred.
+fn prefer<'a>(
+    best: &mut Option<FeasibleRoute<'a>>,
+    inputs: &RoutingInputs<'a>,
+    ribs: &'a LocRibs,
+    router: RouterId,
+    peering: &Peering<'a>,
+    of: &Numbered,
+)
+    requires inputs { AreRoutingInputs inputs.now }
+    requires ribs { length ribs.now.rows ≡ length inputs.now.network.now }
+    requires number { IsNumbered ribs.now.prefixes of.now }
+    requires peering { IsPeering inputs.now.network.now inputs.now.base.now
+        inputs.now.sessions.now router.0 peering.now }
+    ensures best { best.new ≡ best_with (entry_at inputs.now.network.now inputs.now.base.now
+        inputs.now.sessions.now ribs.now.rows router.0 peering.now.place of.now.prefix) best.old }
+    ensures own { IfSome best.old (IsOf of.now.prefix) → IfSome best.new (IsOf of.now.prefix) }
+{
+    let link = &peering.adjacency.link;
+    let Some(sent) = best_of(ribs, link.session.peer, *of) else {
+        return;
+    };
+    if is_outranked_by(&*best, link, sent) {
+        return;
+    }
+    let Some(route) = feasible_over(inputs, router, peering, sent) else {
+        return;
+    };
+    if is_preferred_to(&*best, &route) {
+        return;
+    }
+    *best = Some(route);
+}
+
+// The best candidate of a prefix that the peer of a neighbor statement's session has chosen. Most
+// peers have none while routes spread, so this is asked before the session's ends are looked up.
+fn best_of_peer<'a>(
+    inputs: &RoutingInputs<'_>,
+    ribs: &'a LocRibs,
+    router: RouterId,
+    place: u32,
+    of: &Numbered,
+) -> Option<&'a Chosen>
+    requires inputs { AreRoutingInputs inputs.now }
+    requires ribs { length ribs.now.rows ≡ length inputs.now.network.now }
+    requires number { IsNumbered ribs.now.prefixes of.now }
+    ensures { option_map (λ b. b.now) result ≡ best_over ribs.now.rows of.now.prefix
+        (session_by inputs.now.sessions.now router.0 place) }
+{
+    let count = inputs.network.routers().len();
+    if router.0 as usize >= count {
+        return None;
+    }
+    let session = inputs.sessions.get(router, place)?;
+    if session.peer.0 as usize >= count {
+        return None;
+    }
+    best_of(ribs, session.peer, *of)
+}
+
+// Takes what a router learns by the neighbor statement at a place, unless the best so far is
+// preferred.
+fn prefer_at<'a>(
+    best: &mut Option<FeasibleRoute<'a>>,
+    inputs: &RoutingInputs<'a>,
+    ribs: &'a LocRibs,
+    router: RouterId,
+    place: u32,
+    of: &Numbered,
+)
+    requires inputs { AreRoutingInputs inputs.now }
+    requires ribs { length ribs.now.rows ≡ length inputs.now.network.now }
+    requires number { IsNumbered ribs.now.prefixes of.now }
+    ensures best { best.new ≡ best_with (entry_at inputs.now.network.now inputs.now.base.now
+        inputs.now.sessions.now ribs.now.rows router.0 place of.now.prefix) best.old }
+    ensures own { IfSome best.old (IsOf of.now.prefix) → IfSome best.new (IsOf of.now.prefix) }
+{
+    let Some(_sent) = best_of_peer(inputs, ribs, router, place, of) else {
+        return;
+    };
+    let Some(peering) = peering_of(inputs, router, place) else {
+        return;
+    };
+    prefer(best, inputs, ribs, router, &peering, of);
+}
+
+/// The best of what a router learns of a prefix by its neighbor statements.
+pub(crate) fn best_learnt<'a>(
+    inputs: &RoutingInputs<'a>,
+    ribs: &'a LocRibs,
+    router: RouterId,
+    neighbors: &[Neighbor],
+    of: &Numbered,
+) -> Option<FeasibleRoute<'a>>
+    requires inputs { AreRoutingInputs inputs.now }
+    requires ribs { length ribs.now.rows ≡ length inputs.now.network.now }
+    requires number { IsNumbered ribs.now.prefixes of.now }
+    requires few { length neighbors.now < 2 ^ 32 }
+    ensures best { result ≡ best_among (made_from (λ place n. entry_at inputs.now.network.now
+        inputs.now.base.now inputs.now.sessions.now ribs.now.rows router.0 place of.now.prefix) 0
+        neighbors.now) }
+    ensures own { IfSome result (IsOf of.now.prefix) }
+{
+    let mut best = None;
+    let mut place = neighbors.len();
+    'neighbors: while place > 0 {
+        place -= 1;
+        prefer_at(&mut best, inputs, ribs, router, place as u32, of);
+    }
+    best
+}
+
+// A candidate, or the best of those behind it.
+fn better<'a>(
+    route: FeasibleRoute<'a>,
+    best: Option<FeasibleRoute<'a>>,
+) -> Option<FeasibleRoute<'a>>
+    ensures { result ≡ Some (better_of route.entry best.entry) }
+{
+    if is_preferred_to(&best, &route) {
+        return best;
+    }
+    Some(route)
+}
+
+/// The best of some candidates and of the best of those behind them.
+pub(crate) fn best_of_all<'a>(
+    mut routes: Vec<FeasibleRoute<'a>>,
+    mut best: Option<FeasibleRoute<'a>>,
+) -> Option<FeasibleRoute<'a>>
+    ensures { result ≡ best_from routes.entry.items best.entry }
+{
+    'routes: while let Some(route) = routes.pop() {
+        best = better(route, best);
+    }
+    best
+}

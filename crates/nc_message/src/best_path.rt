@@ -1,0 +1,188 @@
+//! What neighbors say now, that may change what is chosen.
+
+ghost use Rattle.std.specs.Prelude.{◌≡◌, ◌<◌, ◌++◌, All, filter, length, map, not, true, IfSome, OnOk, Some};
+ghost use Rattle.std.specs.List.{list_any};
+ghost use Rattle.std.specs.Option.{option_map, option_map_or};
+ghost use Rattle.nc_types.specs.Config.{ProcessView, process_view};
+ghost use Rattle.nc_tables.specs.Choice.{is_learnt};
+ghost use Rattle.nc_tables.specs.LocRibs.{IsNumbered};
+ghost use Rattle.nc_tables.specs.Rounds.{entry_at, link_at};
+ghost use Rattle.nc_sessions.specs.Views.{link_view};
+ghost use Rattle.nc_message.specs.Inputs.{AreRoutingInputs, IsBetween};
+ghost use Rattle.nc_message.specs.BestPath.{is_beaten, is_from, leaves_best_path, IsOutranked};
+
+use crate::adjacencies::Adjacency;
+use crate::compared::Compared;
+use crate::feasible::{FeasibleRoute, feasible_at};
+use crate::inputs::{RoutingInputs, adjacency_of};
+use crate::rows::best_of;
+use nc_select::{Candidate, is_equal_to, preference_cmp};
+use nc_sessions::Link;
+use nc_tables::{BgpFrom, Chosen, LocRibs, Numbered};
+use nc_types::{DEFAULT_PREFERENCE, Prefix, Process, RouterId};
+use std::alloc::AllocError;
+
+// Whether a candidate was learnt by the neighbor statement at a place.
+fn is_from(place: u32, from: BgpFrom) -> bool
+    ensures { result ≡ is_from place from }
+{
+    match from {
+        BgpFrom::Origin(_) => false,
+        BgpFrom::Aggregate(_) => false,
+        BgpFrom::Entry(number) => number == place,
+    }
+}
+
+// Whether one of some candidates was learnt by the neighbor statement at a place.
+fn has_from(chosen: &[Chosen], place: u32) -> bool
+    ensures { result ≡ list_any (λ x. is_from place x.from) chosen.now }
+{
+    chosen
+        .iter()
+        .any(|candidate| is_from(place, candidate.from))
+}
+
+// Whether a candidate was learnt.
+fn is_learnt(from: BgpFrom) -> bool
+    ensures { result ≡ is_learnt from }
+{
+    matches!(from, BgpFrom::Entry(_))
+}
+
+/// Whether the best candidate that stands beats what may be learnt of a peer's candidate, whatever
+/// the maps on its way: by its path alone.
+pub(crate) fn is_outranked<C: Candidate>(best: &C, link: &Link<'_>, sent: &Chosen) -> bool
+    ensures { result ≡ true → IsOutranked (C.candidate_of best.now) (link_view link.now) sent.now }
+{
+    if link.session.internal || link.receiver.statement.map_in.is_some() {
+        return false;
+    }
+    if sent.route.path.len() < best.path_length() {
+        return false;
+    }
+    !is_learnt(best.from()) || best.preference() >= DEFAULT_PREFERENCE
+}
+
+// Whether the best candidate beats a feasible route: it is preferred, and the other isn't used
+// beside it.
+fn is_beaten(process: &Process, best: &Chosen, feasible: &FeasibleRoute<'_>) -> bool
+    ensures { result ≡ is_beaten (process_view process.now) best.now feasible.now }
+{
+    let best = Compared::Standing(best);
+    let feasible = Compared::New(feasible);
+    if !preference_cmp(&best, &feasible).is_lt() {
+        return false;
+    }
+    if process.max_paths == 1 {
+        return true;
+    }
+    !is_equal_to(process.relax, &best, &feasible)
+}
+
+// Whether what the peer of a session has chosen of a prefix tells at once that nothing is learnt of
+// it, or what the best candidate beats.
+fn cannot_win(
+    inputs: &RoutingInputs<'_>,
+    ribs: &LocRibs,
+    router: RouterId,
+    place: u32,
+    adjacency: &Option<Adjacency<'_>>,
+    best: &Chosen,
+    of: Numbered,
+) -> bool
+    requires ribs { length ribs.now.rows ≡ length inputs.now.network.now }
+    requires number { IsNumbered ribs.now.prefixes of }
+    requires adjacency { option_map (λ h. link_view h.link) adjacency.now
+        ≡ link_at inputs.now.network.now inputs.now.sessions.now router.0 place }
+    requires between { IfSome adjacency.now
+        (λ h. IsBetween inputs.now.network.now router.0 (link_view h.link)) }
+    ensures { result ≡ true → (p : ProcessView) → option_map_or (is_beaten p best.now)
+        (entry_at inputs.now.network.now inputs.now.base.now inputs.now.sessions.now ribs.now.rows router.0
+        place of.prefix) true ≡ true }
+{
+    let Some(adjacency) = adjacency else {
+        return true;
+    };
+    match best_of(ribs, adjacency.link.session.peer, of) {
+        None => true,
+        Some(sent) => is_outranked(best, &adjacency.link, sent),
+    }
+}
+
+// Whether what a router learns now of a prefix by the neighbor statement at a place, of whose
+// session these are the ends, leaves what stands chosen as it is: something stands chosen, nothing
+// of it comes from the neighbor, and the neighbor's message isn't accepted, or the best that stands
+// beats what is learnt from it.
+fn leaves_best_path<'a>(
+    inputs: &RoutingInputs<'a>,
+    ribs: &'a LocRibs,
+    router: RouterId,
+    place: u32,
+    adjacency: &Option<Adjacency<'_>>,
+    of: &Numbered,
+) -> bool
+    requires inputs { AreRoutingInputs inputs.now }
+    requires ribs { length ribs.now.rows ≡ length inputs.now.network.now }
+    requires router { router.0 < length inputs.now.network.now }
+    requires number { IsNumbered ribs.now.prefixes of.now }
+    requires adjacency { option_map (λ h. link_view h.link) adjacency.now
+        ≡ link_at inputs.now.network.now inputs.now.sessions.now router.0 place }
+    requires between { IfSome adjacency.now
+        (λ h. IsBetween inputs.now.network.now router.0 (link_view h.link)) }
+    ensures { result ≡ leaves_best_path inputs.now.network.now inputs.now.base.now inputs.now.sessions.now
+        ribs.now.rows router.0 place of.now.prefix }
+{
+    let chosen = ribs.chosen(router, *of);
+    let Some(best) = chosen.first() else {
+        return false;
+    };
+    if has_from(chosen, place) {
+        return false;
+    }
+    let Some(process) = &inputs.network.routers()[router.0 as usize].process else {
+        return false;
+    };
+    if cannot_win(inputs, ribs, router, place, adjacency, best, *of) {
+        return true;
+    }
+    match feasible_at(inputs, ribs, router, place, *of) {
+        None => true,
+        Some(feasible) => is_beaten(process, best, &feasible),
+    }
+}
+
+/// Adds those of some prefixes of which what a router learns now, by the neighbor statement at a
+/// place, may change what stands chosen. It doesn't where nothing that stands comes from the
+/// neighbor, and the neighbor's message isn't accepted or the best that stands beats what is learnt
+/// from it. Each table has a list for each router of the network, which has the router.
+///
+/// # Errors
+///
+/// Memory that runs out; no more of it is taken than the list needs.
+pub fn add_counting<'a>(
+    prefixes: &mut Vec<Prefix>,
+    inputs: &RoutingInputs<'a>,
+    ribs: &'a LocRibs,
+    router: RouterId,
+    place: u32,
+    changed: &[Numbered],
+) -> Result<(), AllocError>
+    requires inputs { AreRoutingInputs inputs.now }
+    requires ribs { length ribs.now.rows ≡ length inputs.now.network.now }
+    requires router { router.0 < length inputs.now.network.now }
+    requires numbers { All (IsNumbered ribs.now.prefixes) changed.now }
+    ensures { OnOk result (prefixes.new.items ≡ prefixes.old.items
+        ++ filter (λ p. not (leaves_best_path inputs.now.network.now inputs.now.base.now
+        inputs.now.sessions.now ribs.now.rows router.0 place p)) (map (λ n. n.prefix) changed.now)) }
+{
+    if changed.is_empty() {
+        return Ok(());
+    }
+    let adjacency = adjacency_of(inputs, router, place);
+    'changed: for of in changed {
+        if !leaves_best_path(inputs, ribs, router, place, &adjacency, of) {
+            prefixes.push(of.prefix)?;
+        }
+    }
+    Ok(())
+}

@@ -1,8 +1,0 @@
--- One more round of a network.
-use Rattle.std.specs.Prelude.{List}
-use Rattle.nc_tables.specs.Rounds.{BgpRowView, round}
-use Rattle.nc_message.specs.declared.given.Given.{Given}
-
--- the table after one more round
-abbrev pub next : Given → List (List BgpRowView) → List (List BgpRowView)
-next i table = round i.network.now i.base.now i.sessions.now table
