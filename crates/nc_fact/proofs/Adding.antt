@@ -31,15 +31,15 @@ module _ {X : Type 0} (x : X) (left rest : List X) (first : left ≡ x ∷ rest)
       ∙ append_assoc before (parts x) (flat_map parts rest)
       ∙ ap (λ (l : List X). before ++ flat_map parts l) (sym first)
 
-  -- one fact more, if it holds
-  pub held_more : (has : Fact → Bool) (make : X → Fact) (b : Bool) → has (make x) ≡ b → after ≡ before ++ cond b (make x ∷ []) [] → after ++ filter has (map make rest) ≡ before ++ filter has (map make left)
-  held_more has make b is added =
-      ap (λ (fs : List Fact). fs ++ filter has (map make rest)) added
-      ∙ append_assoc before (cond b (make x ∷ []) []) (filter has (map make rest))
+  -- one fact more, if its item passes
+  pub kept_more : (test : X → Bool) (make : X → Fact) (b : Bool) → test x ≡ b → after ≡ before ++ cond b (make x ∷ []) [] → after ++ map make (filter test rest) ≡ before ++ map make (filter test left)
+  kept_more test make b is added =
+      ap (λ (fs : List Fact). fs ++ map make (filter test rest)) added
+      ∙ append_assoc before (cond b (make x ∷ []) []) (map make (filter test rest))
       ∙ ap (λ (fs : List Fact). before ++ fs) (by_kept b)
-      ∙ ap (λ (h : Bool). before ++ cond h (make x ∷ filter has (map make rest)) (filter has (map make rest))) (sym is)
-      ∙ ap (λ (l : List X). before ++ filter has (map make l)) (sym first)
+      ∙ ap (λ (h : Bool). before ++ map make (cond h (x ∷ filter test rest) (filter test rest))) (sym is)
+      ∙ ap (λ (l : List X). before ++ map make (filter test l)) (sym first)
     where
-      by_kept : (h : Bool) → cond h (make x ∷ []) [] ++ filter has (map make rest) ≡ cond h (make x ∷ filter has (map make rest)) (filter has (map make rest))
+      by_kept : (h : Bool) → cond h (make x ∷ []) [] ++ map make (filter test rest) ≡ map make (cond h (x ∷ filter test rest) (filter test rest))
       by_kept true = refl
       by_kept false = refl

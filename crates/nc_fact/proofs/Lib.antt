@@ -8,3 +8,4 @@ pub mod Parts
 pub mod Roots
 pub mod RootsOrder
 pub mod Adding
+pub mod Accepting

@@ -99,17 +99,17 @@ before_differs fact other before same = on (subst (IsBefore fact) (sym same) bef
 -- ---- the roots of one router
 
 module _ (s : StateView) (is : IsState s) (router : ℕ) where
-  sessions_in_order : AreSessions (sessions_at s router)
+  pub sessions_in_order : AreSessions (sessions_at s router)
   unfolding state_at
   sessions_in_order = elim (cases_lt router (length s.sessions)) [
     | inl lt ↦ All-get_or AreSessions s.sessions router [] lt (subst (All AreSessions) (sym (ap (λ (t : StateView). t.sessions) is.tables)) (all_rise s.routers (base_tables s.routers)))
     | inr past ↦ subst AreSessions (sym (get_or_past s.sessions router [] past)) (no_pairs (λ (a b : SessionRow). a.neighbor < b.neighbor))
   ]
 
-  AreOrdered : List BgpRowView → Type 0
+  unfoldable pub AreOrdered : List BgpRowView → Type 0
   AreOrdered rows = AllPairs (λ (a b : BgpRowView). prefix_cmp a.prefix b.prefix ≡ Less) rows
 
-  rows_in_order : (peer : ℕ) → AreOrdered (bgp_rows s peer)
+  pub rows_in_order : (peer : ℕ) → AreOrdered (bgp_rows s peer)
   unfolding AreOrdered
   rows_in_order peer = elim (cases_lt peer (length s.bgp)) [
     | inl lt ↦ (All-get_or AreBgpRows s.bgp peer [] lt is.rows).ordered

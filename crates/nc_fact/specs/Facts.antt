@@ -116,7 +116,7 @@ module _ (s : StateView) where
   holds (Flow router from to hops) = nat_le hops HOP_LIMIT && flows s from.0 to.0 hops router.0
 
   -- the rank of a fact, which is above that of each fact from which it follows: that of a route's fact by its prefix and its path, 0 where
-  -- there is no such route. The gaps are for the kinds of facts that are to come
+  -- there is no such route. Sessions are above all reach, main rows above all routes, and steps above main rows
   unfoldable pub rank : Fact → ℕ
   rank (Element e) = 0
   rank (Connected router iface) = 1

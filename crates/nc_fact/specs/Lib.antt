@@ -1,3 +1,4 @@
 pub mod Facts
 pub mod Tested
 pub mod Roots
+pub mod Accepting

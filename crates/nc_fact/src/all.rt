@@ -5,13 +5,18 @@ ghost use Rattle.nc_tables.specs.Rounds.{bgp_row_view};
 ghost use Rattle.nc_tables.specs.State.{StateView, IsState};
 ghost use Rattle.nc_policy.specs.Indexes.{ArePolicies};
 ghost use Rattle.nc_fact.specs.declared.fact.Fact.{Fact};
+ghost use Rattle.nc_message.specs.Inputs.{AreRoutingInputs, IsBetween};
+ghost use Rattle.nc_message.specs.Adjacencies.{IsAdjacency};
+ghost use Rattle.nc_sessions.specs.Views.{link_view};
+ghost use Rattle.nc_fact.specs.Accepting.{accepts, entries_by, AreInputsOf};
 ghost use Rattle.nc_fact.specs.Facts.{holds};
 ghost use Rattle.nc_fact.specs.Roots.{IsRoot, IsBefore, sessions_at, bgp_rows};
 ghost use Rattle.nc_fact.specs.Roots.{row_facts, session_facts, entries_over, entry_facts, roots_of, roots};
 
+use crate::bgp::inputs;
 use crate::fact::Fact;
 use crate::rows::{has_router, main_rows};
-use crate::truth::holds;
+use nc_message::{Adjacencies, Adjacency, RoutingInputs, accepted_over, adjacency_of};
 use nc_policy::Policies;
 use nc_tables::{BgpRow, SessionRow, Stable};
 use nc_types::RouterId;
@@ -59,42 +64,82 @@ fn add_sessions(facts: &mut Vec<Fact>, state: &Stable, router: RouterId) -> Resu
     Ok(())
 }
 
-// Adds the facts of what a router accepts over a session. Each prefix of which its peer has chosen a route is
-// asked once, and no other.
-fn add_entries_over(
-    facts: &mut Vec<Fact>,
-    state: &Stable,
-    policies: &Policies,
+// Whether a router accepts over a session what its peer has chosen as the best of a row.
+fn accepts(
+    inputs: &RoutingInputs<'_>,
     router: RouterId,
-    session: &SessionRow,
-) -> Result<(), AllocError>
-    requires policies { ArePolicies state.now.routers policies.now }
-    ensures { OnOk result (facts.new.items
-        ≡ facts.old.items ++ entries_over state.now router.0 session.now) }
+    adjacency: Adjacency<'_>,
+    row: &BgpRow,
+) -> bool
+    requires inputs { AreRoutingInputs inputs.now }
+    requires between { IsBetween inputs.now.network.now router.0 (link_view adjacency.link) }
+    requires sender { IsAdjacency inputs.now.base.now router.0 adjacency }
+    ensures { result ≡ accepts inputs.now.base.now router.0 (link_view adjacency.entry.link) (bgp_row_view row.now) }
 {
-    let rows = bgp_rows(state, session.peer);
+    match row.chosen.first() {
+        Some(best) => accepted_over(inputs, router, adjacency, best).is_some(),
+        None => false,
+    }
+}
+
+// Adds the facts of what a router accepts over a session of which these are the ends. Each prefix of which its peer
+// has chosen a route is asked once, and no other.
+fn add_entries_by(
+    facts: &mut Vec<Fact>,
+    inputs: &RoutingInputs<'_>,
+    router: RouterId,
+    place: u32,
+    adjacency: Adjacency<'_>,
+    rows: &[BgpRow],
+) -> Result<(), AllocError>
+    requires inputs { AreRoutingInputs inputs.now }
+    requires between { IsBetween inputs.now.network.now router.0 (link_view adjacency.link) }
+    requires sender { IsAdjacency inputs.now.base.now router.0 adjacency }
+    ensures { OnOk result (facts.new.items ≡ facts.old.items
+        ++ entries_by inputs.now.base.now router.0 place (link_view adjacency.entry.link) (map bgp_row_view rows.now)) }
+{
     'rows: for row in rows {
-        let entry = Fact::Entry(router, session.neighbor, row.prefix);
-        if holds(state, policies, &entry) {
-            facts.push(entry)?;
+        if accepts(inputs, router, adjacency, row) {
+            facts.push(Fact::Entry(router, place, row.prefix))?;
         }
     }
     Ok(())
+}
+
+// Adds the facts of what a router accepts over one of its sessions.
+fn add_entries_over(
+    facts: &mut Vec<Fact>,
+    state: &Stable,
+    inputs: &RoutingInputs<'_>,
+    router: RouterId,
+    session: &SessionRow,
+) -> Result<(), AllocError>
+    requires inputs { AreInputsOf state.now inputs.now }
+    requires own { Contains (sessions_at state.now router.0) session.now }
+    ensures { OnOk result (facts.new.items
+        ≡ facts.old.items ++ entries_over state.now router.0 session.now) }
+{
+    let _valid = state.network();
+    let rows = bgp_rows(state, session.peer);
+    match adjacency_of(inputs, router, session.neighbor) {
+        Some(adjacency) => add_entries_by(facts, inputs, router, session.neighbor, adjacency, rows),
+        None => Ok(()),
+    }
 }
 
 // Adds the facts of what a router accepts.
 fn add_entries(
     facts: &mut Vec<Fact>,
     state: &Stable,
-    policies: &Policies,
+    inputs: &RoutingInputs<'_>,
     router: RouterId,
 ) -> Result<(), AllocError>
-    requires policies { ArePolicies state.now.routers policies.now }
+    requires inputs { AreInputsOf state.now inputs.now }
     ensures { OnOk result (facts.new.items ≡ facts.old.items ++ entry_facts state.now router.0) }
 {
     let sessions = sessions_at(state, router);
     'sessions: for session in sessions {
-        add_entries_over(facts, state, policies, router, session)?;
+        add_entries_over(facts, state, inputs, router, session)?;
     }
     Ok(())
 }
@@ -103,28 +148,28 @@ fn add_entries(
 fn add_roots(
     facts: &mut Vec<Fact>,
     state: &Stable,
-    policies: &Policies,
+    inputs: &RoutingInputs<'_>,
     router: RouterId,
 ) -> Result<(), AllocError>
-    requires policies { ArePolicies state.now.routers policies.now }
+    requires inputs { AreInputsOf state.now inputs.now }
     ensures { OnOk result (facts.new.items ≡ facts.old.items ++ roots_of state.now router.0) }
 {
     add_rows(facts, state, router)?;
     add_sessions(facts, state, router)?;
-    add_entries(facts, state, policies, router)?;
+    add_entries(facts, state, inputs, router)?;
     Ok(())
 }
 
 // The roots, router by router.
 #[tactic(auto, unfolding(crate::specs::Roots::roots))]
-fn roots(alloc: Global, state: &Stable, policies: &Policies) -> Result<Vec<Fact>, AllocError>
-    requires policies { ArePolicies state.now.routers policies.now }
+fn roots(alloc: Global, state: &Stable, inputs: &RoutingInputs<'_>) -> Result<Vec<Fact>, AllocError>
+    requires inputs { AreInputsOf state.now inputs.now }
     ensures { IfOk result (λ facts. facts.items ≡ roots state.now) }
 {
     let mut facts = Vec::new(alloc);
     let count = state.network().routers().len();
     'routers: for router in 0..count {
-        add_roots(&mut facts, state, policies, RouterId(router as u32))?;
+        add_roots(&mut facts, state, inputs, RouterId(router as u32))?;
     }
     Ok(facts)
 }
@@ -146,7 +191,9 @@ pub fn all_facts(
     ensures facts { IfOk result (λ facts. facts.items ≡ roots state.now) }
     ensures hold { IfOk result (λ facts. All (λ f. holds state.now f ≡ true) facts.items) }
 {
-    let facts = roots(alloc, state, policies)?;
+    let adjacencies = Adjacencies::new(alloc, state.network(), state.base(), state.sessions())?;
+    let inputs = inputs(state, policies, Some(&adjacencies));
+    let facts = roots(alloc, state, &inputs)?;
     Ok(facts)
 }
 

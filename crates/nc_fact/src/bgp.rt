@@ -3,34 +3,45 @@
 ghost use Rattle.std.specs.Prelude.{◌≡◌, ◌≤◌, false, IfSome, length};
 ghost use Rattle.std.specs.Option.{option_map, option_map_or};
 ghost use Rattle.nc_types.specs.declared.TheConstants.{MULTIPATH_LIMIT};
-ghost use Rattle.nc_tables.specs.Rounds.{chosen_at, is_active};
+ghost use Rattle.nc_tables.specs.Rounds.{best_at, chosen_at, is_active, link_at};
 ghost use Rattle.nc_policy.specs.Indexes.{ArePolicies};
-ghost use Rattle.nc_message.specs.Given.{AreGiven};
-ghost use Rattle.nc_message.specs.Views.{message_view, taken_view, IsTold, IsTaken};
+ghost use Rattle.nc_sessions.specs.Views.{link_view};
+ghost use Rattle.nc_message.specs.Inputs.{IsBetween};
+ghost use Rattle.nc_message.specs.Adjacencies.{AreAdjacencies};
+ghost use Rattle.nc_message.specs.Views.{message_view, accepted_view, IsAdvertised, IsAccepted};
+ghost use Rattle.nc_fact.specs.Accepting.{accepted_by, AreInputsOf};
 ghost use Rattle.nc_fact.specs.Facts.{network_of, aggregate_of, has_active, has_source};
 ghost use Rattle.nc_fact.specs.Facts.{message_of, accepted_of, chosen_of};
 
 use crate::rows::{has_router, rows_of_prefix};
 use crate::statements::process_at;
-use nc_message::{Given, Sent, Taken, accepted_at, message_at};
+use nc_message::{
+    AcceptedRoute, Adjacencies, Adjacency, Advertisement, RoutingInputs, accepted_at,
+    accepted_over, adjacency_of, message_at,
+};
 use nc_policy::Policies;
+use nc_sessions::Link;
 use nc_tables::{Chosen, Stable};
 use nc_types::{AggregateStatement, NetworkStatement, Prefix, RouterId};
 
-// What is needed to tell messages: the network with its tables, and those of its maps.
-fn given<'a>(state: &'a Stable, policies: &'a Policies) -> Given<'a>
+/// What is needed to tell messages: the network with its tables, those of its maps, and what is known of the senders
+/// of its sessions, where that is asked again and again.
+pub(crate) fn inputs<'a>(
+    state: &'a Stable,
+    policies: &'a Policies,
+    adjacencies: Option<&'a Adjacencies>,
+) -> RoutingInputs<'a>
     requires policies { ArePolicies state.now.routers policies.now }
-    ensures given { AreGiven result }
-    ensures network { result.network.now ≡ state.entry.now.routers }
-    ensures base { result.base.now ≡ state.entry.now.base }
-    ensures sessions { result.sessions.now ≡ state.entry.now.sessions }
+    requires adjacencies { IfSome adjacencies
+        (λ l. AreAdjacencies state.now.routers state.now.base state.now.sessions l.now) }
+    ensures { AreInputsOf state.entry.now result }
 {
-    Given {
+    RoutingInputs {
         network: state.network(),
         base: state.base(),
         sessions: state.sessions(),
         policies,
-        links: None,
+        adjacencies,
     }
 }
 
@@ -99,14 +110,14 @@ pub fn message_of<'a>(
     router: RouterId,
     place: u32,
     prefix: Prefix,
-) -> Option<Sent<'a>>
+) -> Option<Advertisement<'a>>
     requires policies { ArePolicies state.now.routers policies.now }
     ensures message { option_map message_view result
         ≡ message_of state.entry.now router.0 place prefix }
-    ensures told { IfSome result IsTold }
+    ensures told { IfSome result IsAdvertised }
 {
-    let given = given(state, policies);
-    message_at(&given, state.bgp(), router, place, prefix)
+    let inputs = inputs(state, policies, None);
+    message_at(&inputs, state.bgp(), router, place, prefix)
 }
 
 /// What the router accepts of that message; `None` where it accepts nothing. Takes no memory.
@@ -116,14 +127,60 @@ pub fn accepted_of<'a>(
     router: RouterId,
     place: u32,
     prefix: Prefix,
-) -> Option<Taken<'a>>
+) -> Option<AcceptedRoute<'a>>
     requires policies { ArePolicies state.now.routers policies.now }
-    ensures accepted { option_map taken_view result
+    ensures accepted { option_map accepted_view result
         ≡ accepted_of state.entry.now router.0 place prefix }
-    ensures taken { IfSome result IsTaken }
+    ensures taken { IfSome result IsAccepted }
 {
-    let given = given(state, policies);
-    accepted_at(&given, state.bgp(), router, place, prefix)
+    let inputs = inputs(state, policies, None);
+    accepted_at(&inputs, state.bgp(), router, place, prefix)
+}
+
+/// Both ends of the session of the neighbor statement at a place of a router; `None` where there is no such session,
+/// statement or router. The policies are those of the state's routers. Takes no memory.
+pub fn link_at<'a>(
+    state: &'a Stable,
+    policies: &'a Policies,
+    router: RouterId,
+    place: u32,
+) -> Option<Link<'a>>
+    requires policies { ArePolicies state.now.routers policies.now }
+    ensures link { option_map link_view result
+        ≡ link_at state.entry.now.routers state.entry.now.sessions router.0 place }
+    ensures between { IfSome result
+        (λ k. IsBetween state.entry.now.routers router.0 (link_view k)) }
+{
+    let inputs = inputs(state, policies, None);
+    let adjacency = adjacency_of(&inputs, router, place)?;
+    Some(adjacency.link)
+}
+
+// The best route of a prefix that a router has chosen.
+fn best_at(state: &Stable, router: RouterId, prefix: Prefix) -> Option<&Chosen>
+    ensures { option_map (λ b. b.now) result ≡ best_at state.now.bgp router.0 prefix }
+{
+    chosen_at(state, router, prefix).first()
+}
+
+/// What a router accepts over a session of the best that its peer has chosen of a prefix; `None` where it accepts
+/// nothing. The policies are those of the state's routers. Takes no memory.
+pub fn accepted_by<'a>(
+    state: &'a Stable,
+    policies: &'a Policies,
+    router: RouterId,
+    link: Link<'a>,
+    prefix: Prefix,
+) -> Option<AcceptedRoute<'a>>
+    requires policies { ArePolicies state.now.routers policies.now }
+    requires between { IsBetween state.now.routers router.0 (link_view link) }
+    ensures { option_map accepted_view result
+        ≡ accepted_by state.entry.now router.0 (link_view link.entry) prefix }
+{
+    let inputs = inputs(state, policies, None);
+    let best = best_at(state, link.session.peer, prefix)?;
+    let adjacency = Adjacency { link, sender: None };
+    accepted_over(&inputs, router, adjacency, best)
 }
 
 /// The routes of a prefix that a router has chosen, best first; none where the prefix has no row, and where

@@ -4,13 +4,13 @@ ghost use Rattle.std.specs.Prelude.{◌≡◌, ◌≤◌, length};
 ghost use Rattle.std.specs.Option.{option_map_or};
 ghost use Rattle.nc_types.specs.declared.TheConstants.{PATH_LIMIT};
 ghost use Rattle.nc_policy.specs.Indexes.{ArePolicies};
-ghost use Rattle.nc_message.specs.Views.{message_view, taken_view, IsTold, IsTaken};
+ghost use Rattle.nc_message.specs.Views.{message_view, accepted_view, IsAdvertised, IsAccepted};
 ghost use Rattle.nc_fact.specs.Facts.{weight, lowest_rank, rank_of_network, rank_of_aggregate};
 ghost use Rattle.nc_fact.specs.Facts.{rank_of_message, rank_of_accepted, rank_of_chosen};
 ghost use Rattle.nc_fact.specs.Facts.{network_of, aggregate_of, message_of, accepted_of, chosen_of};
 
 use crate::bgp::{accepted_of, aggregate_of, chosen_of, message_of, network_of};
-use nc_message::{Sent, Taken};
+use nc_message::{AcceptedRoute, Advertisement};
 use nc_policy::Policies;
 use nc_tables::{Chosen, Stable};
 use nc_types::{Prefix, RouterId};
@@ -36,8 +36,8 @@ fn lowest_rank(prefix: Prefix, weight: u32) -> u32
 }
 
 // How many numbers the path of a message has.
-fn sent_count(sent: &Sent) -> usize
-    requires { IsTold sent.now }
+fn sent_count(sent: &Advertisement) -> usize
+    requires { IsAdvertised sent.now }
     ensures count { result ≡ length (message_view sent.now).route.path }
     ensures few { result ≤ PATH_LIMIT }
 {
@@ -50,9 +50,9 @@ fn sent_count(sent: &Sent) -> usize
 }
 
 // How many numbers the path has of what is accepted of a message.
-fn taken_count(taken: &Taken) -> usize
-    requires { IsTaken taken.now }
-    ensures count { result ≡ length (taken_view taken.now).into.route.path }
+fn taken_count(taken: &AcceptedRoute) -> usize
+    requires { IsAccepted taken.now }
+    ensures count { result ≡ length (accepted_view taken.now).into.route.path }
     ensures few { result ≤ PATH_LIMIT }
 {
     let sent = &taken.sent;
@@ -66,17 +66,17 @@ fn taken_count(taken: &Taken) -> usize
 }
 
 // The rank of a message for a prefix.
-fn rank_of_message(prefix: Prefix, sent: &Sent) -> u32
-    requires { IsTold sent.now }
+fn rank_of_message(prefix: Prefix, sent: &Advertisement) -> u32
+    requires { IsAdvertised sent.now }
     ensures { result ≡ rank_of_message prefix (message_view sent.now) }
 {
     lowest_rank(prefix, weight(sent_count(sent), sent.link.session.internal)) + 2
 }
 
 // The rank of what is accepted of a message for a prefix.
-fn rank_of_accepted(prefix: Prefix, taken: &Taken) -> u32
-    requires { IsTaken taken.now }
-    ensures { result ≡ rank_of_accepted prefix (taken_view taken.now) }
+fn rank_of_accepted(prefix: Prefix, taken: &AcceptedRoute) -> u32
+    requires { IsAccepted taken.now }
+    ensures { result ≡ rank_of_accepted prefix (accepted_view taken.now) }
 {
     lowest_rank(
         prefix,

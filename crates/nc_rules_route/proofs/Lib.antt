@@ -20,3 +20,4 @@ pub mod RowsByPrefix
 pub mod Inside
 pub mod RouteFacts
 pub mod PassFacts
+pub mod SentFacts

@@ -1,5 +1,5 @@
 -- What it rests on that an interface lets a packet pass holds, and has a lower rank.
-use Rattle.std.proofs.Common.{◌≡◌, ℕ, ◌<◌, Bool, true, false, ◌&&◌, not, [], ◌∷◌, ◌++◌, length, All, refl, arith}
+use Rattle.std.proofs.Common.{◌≡◌, ℕ, Bool, true, not, All, arith}
 use Rattle.std.specs.Option.{is_some}
 use Rattle.std.proofs.lemmas.Bool.{and_parts}
 use Rattle.std.proofs.lemmas.List.Elements.{All-nil, All-cons, All-append}
@@ -11,7 +11,6 @@ use Rattle.nc_tables.specs.declared.filters.Passing.{Passing}
 use Rattle.nc_tables.specs.declared.filters.Passing.TheVariants.{Free, Deny, By}
 use Rattle.nc_tables.specs.Filters.{is_denied, passing_at}
 use Rattle.nc_tables.specs.State.{StateView, IsState}
-use Rattle.nc_fact.specs.declared.fact.Fact.{Fact}
 use Rattle.nc_fact.specs.declared.fact.Fact.TheVariants.{Connected, Pass}
 use Rattle.nc_fact.specs.Facts.{holds, rank}
 use Rattle.nc_fact.proofs.Few.{formed_at}

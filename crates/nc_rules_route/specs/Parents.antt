@@ -27,7 +27,7 @@ use Rattle.nc_tables.specs.Forwarding.{Outcome, Deliver, Go, Lost, Alternative, 
 use Rattle.nc_tables.specs.Longest.{places_from}
 use Rattle.nc_tables.specs.Reach.{hits, leads_to, own_place}
 use Rattle.nc_tables.specs.Sessions.{End, process_of}
-use Rattle.nc_tables.specs.Rounds.{BgpRowView, Link, Message as SentMessage, Accepted, is_longer_in, link_at}
+use Rattle.nc_tables.specs.Rounds.{BgpRowView, Link, Message as SentMessage, Accepted, best_at, is_longer_in, link_at, out_of}
 use Rattle.nc_tables.specs.State.{StateView}
 use Rattle.nc_graph.specs.declared.node.NodeKind.{NodeKind}
 use Rattle.nc_graph.specs.declared.node.NodeKind.TheVariants.{Leaf, Every, Any}
@@ -229,6 +229,10 @@ module _ (s : StateView) where
   -- and an aggregate statement: its process, itself, and that it has something to gather
   abbrev pub aggregate_parents : RouterId → ℕ → ProcessView → AggregateStatement → List Fact
   aggregate_parents router place p a = element_in router.0 p.element ∷ element_in router.0 a.element ∷ Contrib router place ∷ []
+
+  -- those by which the peer of a session let pass the best that it has chosen of a prefix
+  abbrev pub of_out : Link → Cidr → List Fact
+  of_out k prefix = option_map_or (λ out. of_passed k.session.peer.0 out.clause out.names) (option_and_then (out_of k) (best_at s.bgp k.session.peer.0 prefix)) []
 
   -- what a message rests on: the session, the best that the sender has chosen, and by what its map let that pass
   abbrev pub message_parents : RouterId → ℕ → Cidr → SentMessage → List Fact

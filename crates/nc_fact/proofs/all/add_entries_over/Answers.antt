@@ -1,27 +1,42 @@
-use Rattle.std.proofs.Common.{◌+◌, Vec, Global, true, false, List, map, drop, append-nil, sym, ap, ◌∙◌, arith}
-use Rattle.nc_types.proofs.Walks.{drop_view}
-use Rattle.nc_tables.specs.Rounds.{BgpRowView, bgp_row_view}
+use Rattle.std.proofs.Common.{◌≡◌, ◌++◌, List, OnOk, Some, map, append-nil, sym, ap, subst, ◌∙◌}
+use Rattle.nc_types.specs.Config.{ConfigView}
+use Rattle.nc_types.proofs.Members.{in_by_contains}
+use Rattle.nc_tables.specs.declared.base.BaseRow.{BaseRow}
+use Rattle.nc_tables.specs.declared.bgp.SessionRow.{SessionRow}
+use Rattle.nc_tables.specs.Rounds.{BgpRowView, bgp_row_view, link_at}
+use Rattle.nc_sessions.specs.Views.{link_view}
 use Rattle.nc_fact.specs.declared.fact.Fact.{Fact}
-use Rattle.nc_fact.specs.declared.fact.Fact.TheVariants.{Entry}
-use Rattle.nc_fact.specs.Facts.{holds}
-use Rattle.nc_fact.proofs.Adding.{held_more}
+use Rattle.nc_fact.specs.Accepting.{entries_by}
+use Rattle.nc_fact.specs.Roots.{sessions_at}
+use Rattle.nc_fact.proofs.Accepting.{entries_are, none_over}
 use Rattle.nc_fact.proofs.all.add_entries_over.Goals as goal
-use Rattle.nc_fact.proofs.all.add_entries_over.Goals.{then-holds+in_ok-push, else-holds}
 
-pub rows-preserved : goal.rows-preserved
-rows-preserved c =
-    let rows = c.bgp_rows-rows.result.now in
-    let all : List BgpRowView = map bgp_row_view rows in
-    let index = c.rows.row-index in
-    let row = c.row-item.result in
-    let make : BgpRowView → Fact = λ r. Entry c.args.router c.args.session.now.neighbor r.prefix in
-    let before = c.rows.facts.items in
-    let step = held_more (bgp_row_view row) (drop index all) (drop (index + 1) all) (drop_view bgp_row_view rows index row c.row-item.is (omega arith)) before in
-    elim c.if-holds.branch [
-      | then-holds+in_ok-push w ↦
-          step c.if-holds.facts.items (holds c.args.state.now) make true (sym c.holds.ensures ∙ w.if-holds.true) (ap (λ (v : Vec Fact Global). v.items) w.facts-is ∙ w.in_ok-push.ensures.items)
-          ∙ c.rows.invariant
-      | else-holds w ↦
-          step c.if-holds.facts.items (holds c.args.state.now) make false (sym c.holds.ensures ∙ w.if-holds.false) (ap (λ (v : Vec Fact Global). v.items) w.facts-is ∙ sym (append-nil before))
-          ∙ c.rows.invariant
-    ]
+pub returns-in-Some : goal.returns-in-Some
+returns-in-Some c =
+    let s = c.args.state.now in
+    let g = c.args.inputs.now in
+    let router = c.args.router.0 in
+    let k = c.args.session.now in
+    let l = link_view c.in-Some.adjacency.link in
+    let all : List BgpRowView = map bgp_row_view c.bgp_rows-rows.result.now in
+    let ends : Some l ≡ link_at s.routers s.sessions router k.neighbor =
+    c.in-Some.ensures.link
+    ∙ ap (λ (n : List ConfigView). link_at n g.sessions.now router k.neighbor) c.requires.inputs.network
+    ∙ ap (λ (t : List (List SessionRow)). link_at s.routers t router k.neighbor) c.requires.inputs.sessions in
+    let same =
+    ap (λ (t : List (List BaseRow)). entries_by t router k.neighbor l all) c.requires.inputs.base
+    ∙ ap (λ (rows : List BgpRowView). entries_by s.base router k.neighbor l rows) c.bgp_rows-rows.ensures
+    ∙ entries_are s router c.network-valid.ensures.state k (in_by_contains (sessions_at s router) k c.requires.own) l ends in
+    subst (λ (fs : List Fact). OnOk c.add_entries_by.result (c.add_entries_by.new.facts.items ≡ c.args.facts.now.items ++ fs)) same c.add_entries_by.ensures
+
+pub returns-in-None : goal.returns-in-None
+returns-in-None c =
+    let s = c.args.state.now in
+    let g = c.args.inputs.now in
+    let router = c.args.router.0 in
+    let k = c.args.session.now in
+    let none =
+    c.in-None.ensures.link
+    ∙ ap (λ (n : List ConfigView). link_at n g.sessions.now router k.neighbor) c.requires.inputs.network
+    ∙ ap (λ (t : List (List SessionRow)). link_at s.routers t router k.neighbor) c.requires.inputs.sessions in
+    sym (append-nil c.args.facts.now.items) ∙ ap (λ (fs : List Fact). c.args.facts.now.items ++ fs) (sym (none_over s router k none))
