@@ -6,3 +6,4 @@ pub mod PageLemmas
 pub mod WalkLemmas
 pub mod LawLemmas
 mod DecidingLemmas
+pub mod FirstLemmas

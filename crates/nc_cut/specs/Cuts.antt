@@ -1,11 +1,16 @@
 -- Cuts of a function: free variables without which it is false.
-use Rattle.std.specs.Prelude.{◌≡◌, ℕ, ◌<◌, ◌≤◌, Bool, true, false, List, length, All, slice_index, slice_index_or}
+use Rattle.std.specs.Prelude.{◌≡◌, ℕ, ◌<◌, ◌≤◌, Bool, true, false, List, length, All, Contains, Option, Some, None, slice_index, slice_index_or}
 use Rattle.std.specs.List.Sorted.{IsStrictlyIncreasing}
 use Rattle.nc_diagram.specs.Sets.{Members, has, all_but}
 
 -- whether a variable is free, that is, may be in a cut; one past the list is not
 abbrev pub is_free : List Bool → ℕ → Bool
 is_free free v = slice_index_or free v false
+
+-- of the listed variables the first that is free, the lowest; none, where none of them is
+abbrev pub IsFirstFree : List Bool → List ℕ → Option ℕ → Type 0
+IsFirstFree free listed None = All (λ v. is_free free v ≡ false) listed
+IsFirstFree free listed (Some v) = Contains listed v × (is_free free v ≡ true) × All (λ w. w < v → is_free free w ≡ false) listed
 
 -- a cut: free variables, ascending, such that the function is false at the set of all the others
 pub record IsCut (f : Members → Bool) (free : List Bool) (cut : List ℕ) : Type 0 where

@@ -8,15 +8,20 @@
 //! nodes, the ends before the node, and once from the top down for the cut. The sizes stand by place in
 //! pages of 256, which are made as their places are reached. So both take time and memory for the nodes
 //! that are reached, no more than a page for each, and for a number that tells where a page starts for
-//! each 256 places up to the reference, whatever else the store holds.
+//! each 256 places up to the reference, whatever else the store holds. Where it is known of which
+//! variables each alone is a cut, no diagram is walked: `first_free` answers the first of them that is
+//! free, which is the least cut by a law of `laws`.
 #![tactic(auto)]
 
 mod cut;
+mod first;
 mod laws;
 mod pages;
 mod sizes;
 
 pub use cut::least_cut;
+pub use first::first_free;
 pub use laws::{
-    law_of_cuts_or_none, law_of_no_variable_kept, law_of_one_least_cut, law_of_same_functions,
+    law_of_cuts_or_none, law_of_no_variable_kept, law_of_one_least_cut, law_of_one_variable,
+    law_of_same_functions,
 };

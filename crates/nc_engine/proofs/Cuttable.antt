@@ -26,7 +26,7 @@ all_free routers router [] = All-nil (λ (b : Bool). b ≡ true)
 all_free routers router (c ∷ cs) =
     All-append (λ (b : Bool). b ≡ true) (replicate (length c.elements) true) (free_from (is_kept routers []) (router + 1) cs) (all_true (length c.elements)) (all_free routers (router + 1) cs)
 
-free_count : (kept : ℕ → Bool) (router : ℕ) (cs : List ConfigView) → length (free_from kept router cs) ≡ element_count cs
+pub free_count : (kept : ℕ → Bool) (router : ℕ) (cs : List ConfigView) → length (free_from kept router cs) ≡ element_count cs
 unfolding free_from
 free_count kept router [] = refl
 free_count kept router (c ∷ cs) =

@@ -13,7 +13,9 @@ mod Fewer
 mod Comparing
 mod Drawing
 pub mod Cutting
+mod Crowding
 mod Cuttable
+mod Single
 mod Answering
 mod Asking
 mod GoingOn

@@ -1,5 +1,5 @@
 -- What an engine works with, and what of a session it keeps.
-use Rattle.std.specs.Prelude.{◌≡◌, ◌⊎◌, ℕ, ◌-◌, ◌≤◌, Bool, true, false, nat_lt, List, [], ◌∷◌, ◌++◌, length, map, All, Option, Some, None, is_some, slice_get, if◌then◌else◌, codes}
+use Rattle.std.specs.Prelude.{◌≡◌, ◌⊎◌, ℕ, ◌-◌, ◌≤◌, Bool, true, false, nat_lt, List, [], ◌∷◌, ◌++◌, length, map, All, Option, Some, None, is_some, slice_get, slice_index_or, if◌then◌else◌, codes}
 use Rattle.std.specs.List.{flat_map}
 use Rattle.std.specs.Option.{ForSome}
 use Rattle.nc_types.specs.Config.{ConfigView}
@@ -23,7 +23,7 @@ use Rattle.nc_command.specs.Command.{Asks, text_of}
 use Rattle.nc_engine.specs.Limits.{most_tests, most_facts, most_parts}
 use Rattle.nc_engine.specs.declared.work.Work.{Work}
 use Rattle.nc_engine.specs.declared.work.KeptTest.{KeptTest as Made}
-use Rattle.nc_engine.specs.Session.{KeptTest, State, with_test, posed_in, live_place, asked_in, live_in, router_of, has_line, IsReply, Counts, Tests, Lined, Named, Forgets, Questions, Compares, Cuts, CutsNamed, Tells, Shows, TellsSuite, TellsDead}
+use Rattle.nc_engine.specs.Session.{KeptTest, State, with_test, posed_in, live_place, asked_in, live_in, router_of, has_line, IsCrowded, IsReply, Counts, Tests, Lined, Named, Forgets, Questions, Compares, Cuts, CutsNamed, Tells, Shows, TellsSuite, TellsDead}
 use Rattle.nc_report.specs.Texts.{Sheet, line_of}
 use Rattle.nc_report.specs.Sheets.{sheets_from}
 use Rattle.nc_report.specs.Views.{FileView}
@@ -106,6 +106,7 @@ pub record IsWork (w : Work) : Type 0 where
   pub shown : w.shown ≡ sheets_from (state_of w.rules).routers w.marks.marks 0 (state_of w.rules).routers
   pub few : length w.tests.items ≤ most_tests
   pub dead : ForSome w.dead (IsKnownDead (state_of w.rules))
+  pub crowded : (place : ℕ) → slice_index_or w.refused.items place false ≡ true → IsCrowded (state_of w.rules) (kept_of w)
 
 -- the network is the same, whether reports list its routers, and what is known of its dead elements
 pub record SameNetwork (old new : Work) : Type 0 where

@@ -1,10 +1,13 @@
 //! Least cuts: the fewest elements without which what is left doesn't carry a test.
 
-ghost use Rattle.std.specs.Prelude.{◌≡◌, ◌⊎◌, ◌++◌, ◌<◌, ◌||◌, ℕ, false, nat_eq, length, slice_index_or, IfOk, OnOk, IsErrOf, MatchOption};
+ghost use Rattle.std.specs.Prelude.{◌≡◌, ◌⊎◌, ◌++◌, ◌∷◌, [], ◌<◌, ◌||◌, ℕ, All, true, false, nat_eq, length, slice_index_or, IfOk, IfSome, OnOk, IsErrOf, MatchOption};
+ghost use Rattle.std.specs.List.{flat_map};
 ghost use Rattle.std.specs.Option.{option_map, option_map_or};
-ghost use Rattle.nc_types.specs.Network.{router_named};
+ghost use Rattle.nc_types.specs.Network.{element_count, router_named};
 ghost use Rattle.nc_diagram.specs.Diagrams.{Means};
+ghost use Rattle.nc_cut.specs.Cuts as plain;
 ghost use Rattle.nc_formula.specs.Parts.{carrying_each};
+ghost use Rattle.nc_marks.specs.Kept.{kept_nodes, strong_at};
 ghost use Rattle.nc_rules.specs.Rules.{flow_of};
 ghost use Rattle.nc_rules.specs.Seen.{state_of, asked_of};
 ghost use Rattle.nc_engine.specs.Cuts.{IsLeastCut, IsUncut, is_kept, least_of, may_be_cut, none_of, unknown_among};
@@ -17,11 +20,13 @@ use crate::questions::push_elements;
 use crate::testing::push_unknown;
 use crate::work::Work;
 use nc_command::Names;
-use nc_cut::{law_of_same_functions, least_cut};
+use nc_cut::{first_free, law_of_one_variable, law_of_same_functions, least_cut};
 use nc_diagram::{Ref, StoreFault};
 use nc_fact::Fact;
 use nc_formula::{comparisons_are_of_facts, drawn_by_a_test, refused_for_the_parts_of_a_test};
 use nc_graph::laws::carrying_is_evaluation;
+use nc_graph::node::NodeId;
+use nc_marks::kept::KeptMarks;
 use nc_report::push_line;
 use nc_rules::rules_make_a_flow;
 use nc_types::{Network, Text};
@@ -84,6 +89,19 @@ fn free_elements(alloc: Global, network: &Network, names: &[Text]) -> Result<Vec
     Ok(free)
 }
 
+// The first of the elements that are strong for some of these nodes and may be cut.
+fn first_strong(marks: &KeptMarks, nodes: &[NodeId], free: &[bool]) -> Option<u32>
+    requires { All (λ p. p.0 < kept_nodes marks.now) nodes.now }
+    ensures { plain.IsFirstFree free.now
+        (flat_map (λ p. strong_at marks.now p.0) nodes.now) result }
+{
+    let mut first = None;
+    'nodes: for node in nodes {
+        first = first_free(free, first, marks.strong_of(*node));
+    }
+    first
+}
+
 // Appends the answer for the test of a number that it has no cut.
 fn push_none(alloc: Global, number: u32, out: &mut Vec<u8>) -> Result<(), AllocError>
     ensures { OnOk result (out.new.items ≡ out.old.items ++ none_of number) }
@@ -137,8 +155,26 @@ impl Work {
             .of_each(&self.graph, &mut self.store, &self.tests[place].nodes)
     }
 
-    // The least cut of the test at a place, by its diagram, of elements of routers that none of these
-    // names is of.
+    // The element that alone is the least cut of the test at a place, if one is: without it the test
+    // isn't carried, so that it is strong for a fact of the test.
+    fn single_cut(&self, place: usize, free: &[bool]) -> Option<u32>
+        requires work { IsWork self.now }
+        requires place { place < length self.now.tests.items }
+        requires elements { (element : ℕ) → plain.is_free free.now element ≡ true
+            → element < element_count (state_of self.now.rules).routers }
+        ensures { IfSome result (λ element. plain.IsLeastCut
+            (carrying_each (flow_of (state_of self.now.rules))
+            (test_in (tests_of self.now) place).facts) free.now (element ∷ [])) }
+    {
+        rules_make_a_flow();
+        carrying_is_evaluation::<Fact>();
+        law_of_one_variable();
+        let _facts = self.graph.len();
+        first_strong(&self.marks, &self.tests[place].nodes, free)
+    }
+
+    // The least cut of the test at a place, of elements of routers that none of these names is of: by
+    // the marks where it has one element, else by its diagram.
     fn cut_with(
         &self,
         alloc: Global,
@@ -164,6 +200,10 @@ impl Work {
         let _facts = self.graph.len();
         let network = self.rules.state().network();
         let free = free_elements(alloc, network, names)?;
+        if let Some(element) = self.single_cut(place, &free) {
+            let single = vec![in alloc; element]?;
+            return Ok(Some(single));
+        }
         let cut = least_cut(alloc, &self.store, diagram, &free)?;
         Ok(cut)
     }
@@ -185,9 +225,14 @@ impl Work {
         ensures drawn { OnOk result (IsDrawnAt self.new.formulas self.new.tests.items place
             ⊎ IsRefusal out.old.items out.new.items) }
     {
+        if self.is_refused(place) {
+            push_line(out, b"refused limit diagrams")?;
+            return Ok(());
+        }
         let diagram = match self.draw(place) {
             Ok(diagram) => diagram,
             Err(StoreFault::Full) => {
+                self.refuse(place)?;
                 push_line(out, b"refused limit diagrams")?;
                 return Ok(());
             }

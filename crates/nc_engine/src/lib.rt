@@ -17,6 +17,7 @@ mod forms;
 pub mod laws;
 mod lines;
 mod questions;
+mod refusals;
 mod suites;
 mod testing;
 mod work;

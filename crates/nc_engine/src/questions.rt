@@ -142,6 +142,8 @@ impl Work {
             (all_but missing.items))) }
         ensures full { IsErrOf result StoreFault.Full
             → IsCrowded (state_of self.old.rules) (with_pair (kept_of self.old) first second) }
+        ensures crowded { IsErrOf result StoreFault.Full
+            → IsCrowded (state_of self.old.rules) (kept_of self.old) }
         ensures drawn { OnOk result
             (IsDrawnFor self.new.formulas self.new.tests.items (first, second)) }
     {
@@ -189,6 +191,10 @@ impl Work {
         ensures compared { OnOk result (Compared self.old self.new places.0 places.1 first second
             out.old.items out.new.items) }
     {
+        if self.is_refused(places.0) || self.is_refused(places.1) {
+            push_line(out, b"refused limit diagrams")?;
+            return Ok(());
+        }
         match self.compare(places.0, places.1) {
             Ok(None) => {
                 self.note(places.0, places.1)?;
@@ -202,6 +208,7 @@ impl Work {
                 return Ok(());
             }
             Err(StoreFault::Full) => {
+                self.refuse_undrawn(places.0)?;
                 push_line(out, b"refused limit diagrams")?;
                 return Ok(());
             }

@@ -55,6 +55,8 @@ pub(crate) struct Work {
     /// The diagrams of what was asked about, and their references.
     pub(crate) store: Store,
     pub(crate) formulas: Formulas,
+    /// Of tests, by their places, whether there was no room for the diagram when it was asked for.
+    pub(crate) refused: Vec<bool>,
     /// What is known of the dead elements, once they were asked for.
     pub(crate) dead: Option<DeadElements>,
     /// Whether reports list the lines of the routers.
@@ -123,6 +125,7 @@ impl Work {
             pairs: Vec::new(alloc),
             store: Store::new(alloc, DIAGRAM_LIMIT),
             formulas: Formulas::new(alloc),
+            refused: Vec::new(alloc),
             dead: None,
             listed,
         })

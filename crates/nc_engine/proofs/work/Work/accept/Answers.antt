@@ -16,13 +16,14 @@ use Rattle.nc_engine.specs.declared.work.KeptTest.{KeptTest as Made}
 use Rattle.std.proofs.lemmas.List.{map_push}
 use Rattle.std.proofs.lemmas.List.Elements.{All-nil, All-cons, All-append, All-weaker}
 use Rattle.nc_formula.specs.Session.{AreDrawn}
-use Rattle.nc_engine.specs.Session.{KeptTest, live_test, posed_in, asked_in}
+use Rattle.nc_engine.specs.Session.{KeptTest, IsCrowded, live_test, posed_in, asked_in}
 use Rattle.nc_report.specs.Sheets.{sheets_from}
 use Rattle.std.specs.Option.{ForSome}
 use Rattle.nc_engine.specs.Work.{IsMarked, IsDrawnFor, IsKnownDead, HaveNodes, test_view, tests_of, kept_of}
 use Rattle.nc_engine.proofs.Closing.{many-from, many-to, nodes-extended}
 use Rattle.nc_engine.proofs.Working.{tests-more, marked-more, shown-more}
 use Rattle.nc_engine.proofs.Drawing.{answered-longer}
+use Rattle.nc_engine.proofs.Crowding.{crowded-test}
 use Rattle.nc_engine.proofs.work.Work.accept.Goals as goal
 
 pub returns-in-Err-Full-clause-taken : goal.returns-in-Err-Full-clause-taken
@@ -83,6 +84,10 @@ returns-clause-work c =
           net c.marks.ensures c.deref-3.ensures.value marked.kept.marks.count c.in_ok-touched.ensures.touched c.requires.work.shown c.refresh.ensures);
       few = omega (arith, ap length c.in_ok-push.ensures.items, length_push old.tests.items test);
       dead = subst (λ (s : StateView). ForSome old.dead (IsKnownDead s)) (sym done.state) c.requires.work.dead;
+      crowded = λ place raised.
+          subst (λ (s : StateView). IsCrowded s (record { tests = map test_view c.push.new.self.items; pairs = old.pairs.items })) (sym done.state)
+          (subst (λ (ts : List KeptTest). IsCrowded s (record { tests = ts; pairs = old.pairs.items })) (sym tests)
+          (crowded-test s (kept_of old) (test_view test) (c.requires.work.crowded place raised)));
     }
 
 pub returns-clause-taken : goal.returns-clause-taken

@@ -8,6 +8,7 @@ use Rattle.nc_rules.specs.Rules.{flow_of}
 use Rattle.nc_rules.specs.Seen.{state_of}
 use Rattle.nc_engine.specs.Work.{HaveNodes, IsDrawnFor, drawn_in, test_view}
 use Rattle.nc_engine.proofs.Working.{marked-none, shown-first}
+use Rattle.nc_engine.proofs.Crowding.{none_raised}
 use Rattle.nc_engine.proofs.work.Work.begin.Goals as goal
 
 pub returns-clause-work : goal.returns-clause-work
@@ -26,6 +27,7 @@ returns-clause-work c =
       room = c.new-6.ensures.limit;
       few = omega (arith, ap length c.new-4.ensures.items);
       dead = λ known is. absurd (cc);
+      crowded = λ place raised. absurd (none_raised c.new-8.result.items c.new-8.ensures.items place raised);
     }
 
 pub returns-clause-progress : goal.returns-clause-progress

@@ -13,6 +13,7 @@ use Rattle.nc_engine.specs.Work.{kept_of, test_view, tests_of}
 use Rattle.nc_engine.proofs.Carrying.{implied, greatest}
 use Rattle.nc_engine.proofs.Comparing.{posed-at, ids-at, nodes-hold, option-weaker}
 use Rattle.nc_engine.proofs.Drawing.{answered-still, drawn-at}
+use Rattle.nc_engine.proofs.Crowding.{crowded-both}
 use Rattle.nc_engine.proofs.work.Work.compare.Goals as goal
 
 pub compare-requires-clause-first : goal.compare-requires-clause-first
@@ -52,6 +53,7 @@ returns-clause-work c =
       shown = was.shown;
       few = was.few;
       dead = was.dead;
+      crowded = was.crowded;
     }
 
 pub returns-clause-answers : goal.returns-clause-answers
@@ -93,6 +95,23 @@ returns-clause-full c = λ full.
     let there = posed-at (tests_of w) c.args.second (omega (arith, c.requires.second, length-map w.tests.items test_view)) in
     subst (HasMoreParts g (posed_in (with_pair (kept_of w) c.args.first c.args.second))) c.requires.work.room
     (c.refused_for_its_parts.ensures g flow w.graph c.len-facts.ensures.graph mirrors (posed_in (kept_of w)) c.args.first c.args.second left right here there
+    c.deref.result.now c.deref-2.result.now first second w.store w.formulas c.requires.work.drawn (c.compare.ensures.full full))
+
+pub returns-clause-crowded : goal.returns-clause-crowded
+returns-clause-crowded c = λ full.
+    let w = c.args.self.now in
+    let s = state_of w.rules in
+    let g = flow_of s in
+    let flow = c.rules_make_a_flow.ensures s c.requires.work.state in
+    let mirrors = c.requires.work.marked.mirrors in
+    let left = (test_in (tests_of w) c.args.first).facts in
+    let right = (test_in (tests_of w) c.args.second).facts in
+    let first = ids-at w.graph w.tests.items c.args.first c.index.result.now c.deref.result.now c.requires.first c.index.ensures c.deref.ensures.value c.requires.work.nodes in
+    let second = ids-at w.graph w.tests.items c.args.second c.index-2.result.now c.deref-2.result.now c.requires.second c.index-2.ensures c.deref-2.ensures.value c.requires.work.nodes in
+    let here = posed-at (tests_of w) c.args.first (omega (arith, c.requires.first, length-map w.tests.items test_view)) in
+    let there = posed-at (tests_of w) c.args.second (omega (arith, c.requires.second, length-map w.tests.items test_view)) in
+    subst (HasMoreParts g (posed_in (kept_of w))) c.requires.work.room
+    (crowded-both g flow w.graph c.len-facts.ensures.graph mirrors (posed_in (kept_of w)) c.args.first c.args.second left right here there
     c.deref.result.now c.deref-2.result.now first second w.store w.formulas c.requires.work.drawn (c.compare.ensures.full full))
 
 pub returns-clause-drawn : goal.returns-clause-drawn

@@ -29,3 +29,6 @@ returns-in_default-clause-cut c =
       network = drawn.network;
       infers = drawn.asked;
     }
+
+pub returns-then-is_refused-clause-drawn : goal.returns-then-is_refused-clause-drawn
+returns-then-is_refused-clause-drawn c = inr (codes "limit diagrams", c.in_ok-push_line.ensures)

@@ -8,7 +8,7 @@ use Rattle.nc_rules.specs.Seen.{state_of, asked_of}
 use Rattle.nc_command.specs.declared.command.Command.TheVariants.{Dead}
 use Rattle.nc_command.specs.Command.{Asks}
 use Rattle.nc_engine.specs.Engine.{InfersFor}
-use Rattle.nc_engine.specs.Session.{posed_in}
+use Rattle.nc_engine.specs.Session.{IsCrowded, posed_in}
 use Rattle.nc_engine.specs.Work.{IsMarked, IsKnownDead, kept_of, known_text, tests_of}
 use Rattle.nc_engine.proofs.Unmarked.{told-by}
 use Rattle.nc_engine.proofs.work.Work.dead.Goals as goal
@@ -27,6 +27,7 @@ returns-clause-work c =
       room = was.room;
       shown = subst (λ (s : StateView). old.shown ≡ sheets_from s.routers old.marks.marks 0 s.routers) (sym same) was.shown;
       few = was.few;
+      crowded = λ place raised. subst (λ (s : StateView). IsCrowded s (kept_of old)) (sym same) (was.crowded place raised);
       dead = λ known is.
           let known_is : c.in_ok-known.known ≡ known = cc in
           subst (λ (s : StateView). IsKnownDead s known) (sym same) (subst (IsKnownDead (state_of old.rules)) known_is c.in_ok-known.ensures.known);

@@ -38,6 +38,7 @@ returns-clause-work c =
       shown = was.shown;
       few = was.few;
       dead = was.dead;
+      crowded = was.crowded;
     }
 
 pub returns-clause-means : goal.returns-clause-means

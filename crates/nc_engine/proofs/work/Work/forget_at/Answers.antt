@@ -5,11 +5,12 @@ use Rattle.nc_graph.specs.Nodes.{node_flow}
 use Rattle.nc_graph.specs.declared.node.NodeId.{NodeId}
 use Rattle.nc_graph.proofs.NodeLemmas.{nodes_of-within}
 use Rattle.nc_marks.specs.Kept.{AreKept}
-use Rattle.nc_formula.specs.Session.{Asked, AreDrawn}
+use Rattle.nc_formula.specs.Session.{Asked, AreDrawn, HasMoreParts}
 use Rattle.nc_tables.specs.State.{StateView}
 use Rattle.nc_fact.specs.declared.fact.Fact.{Fact}
 use Rattle.nc_rules.specs.Rules.{flow_of}
 use Rattle.nc_rules.specs.Seen.{state_of}
+use Rattle.nc_engine.specs.Limits.{most_parts}
 use Rattle.nc_engine.specs.Session.{State, posed_in, asked_in, live_in}
 use Rattle.nc_engine.specs.Work.{nodes_in, test_view, tests_of, kept_of}
 use Rattle.nc_engine.proofs.Working.{numbers, shown-more}
@@ -46,6 +47,7 @@ returns-clause-work c =
           net c.marks.ensures c.deref-3.ensures.value marked.kept.marks.count c.in_ok-touched.ensures.touched c.requires.work.shown c.refresh.ensures;
       few = omega (arith, c.requires.work.few, length-set w.tests.items c.args.place (record { facts = c.index_mut.result.now.facts; nodes = c.index_mut.result.now.nodes; live = false }));
       dead = c.requires.work.dead;
+      crowded = λ place raised. subst (λ (a : Asked Fact). HasMoreParts (flow_of s) a most_parts) (sym (ap posed_in view ∙ posed-fewer (kept_of w) c.args.place)) (c.requires.work.crowded place raised);
     }
 
 pub returns-clause-kept : goal.returns-clause-kept

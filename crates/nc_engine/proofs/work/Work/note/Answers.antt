@@ -3,8 +3,9 @@ use Rattle.std.proofs.lemmas.List.Elements.{All-nil, All-cons, All-append}
 use Rattle.nc_formula.specs.Session.{AreDrawn}
 use Rattle.nc_rules.specs.Rules.{flow_of}
 use Rattle.nc_rules.specs.Seen.{state_of}
-use Rattle.nc_engine.specs.Session.{posed_in}
+use Rattle.nc_engine.specs.Session.{IsCrowded, posed_in}
 use Rattle.nc_engine.specs.Work.{IsDrawnFor, kept_of, tests_of}
+use Rattle.nc_engine.proofs.Crowding.{crowded-question}
 use Rattle.nc_engine.proofs.work.Work.note.Goals as goal
 
 pub returns-clause-work : goal.returns-clause-work
@@ -25,4 +26,7 @@ returns-clause-work c =
       shown = was.shown;
       few = was.few;
       dead = was.dead;
+      crowded = λ place raised.
+          subst (λ (pairs : List (ℕ × ℕ)). IsCrowded s (record { tests = tests_of w; pairs = pairs })) (sym c.in_ok-push.ensures.items)
+          (crowded-question s (kept_of w) c.args.first c.args.second (was.crowded place raised));
     }

@@ -1,4 +1,5 @@
-use Rattle.std.proofs.Common.{ap, ◌∙◌}
+use Rattle.std.proofs.Common.{inr, refl, ap, ◌∙◌}
+use Rattle.std.specs.Prelude.{codes}
 use Rattle.nc_tables.specs.State.{StateView}
 use Rattle.std.specs.List.Sorted.{IsStrictlyIncreasing}
 use Rattle.std.proofs.lemmas.Option.{MatchOption-at_some}
@@ -6,10 +7,13 @@ use Rattle.nc_diagram.specs.Sets.{all_but}
 use Rattle.nc_rules.specs.Rules.{flow_of}
 use Rattle.nc_rules.specs.Seen.{state_of}
 use Rattle.nc_engine.specs.Questions.{IsImplied, IsGreatestApart}
-use Rattle.nc_engine.specs.Session.{State, test_in, with_pair}
-use Rattle.nc_engine.specs.Work.{tests_of}
+use Rattle.nc_engine.specs.Session.{State, IsCrowded, test_in, with_pair}
+use Rattle.nc_engine.specs.Work.{kept_of, tests_of}
+use Rattle.nc_report.specs.Texts.{line_of}
 use Rattle.nc_engine.proofs.Comparing.{compared-no}
+use Rattle.nc_engine.proofs.Crowding.{crowded-question}
 use Rattle.nc_engine.proofs.work.Work.weigh.Goals as goal
+use Rattle.nc_engine.proofs.work.Work.weigh.Goals.{then-is_refused-via-then-is_refused, then-is_refused-via-else-is_refused+then-is_refused-2}
 
 pub returns-in-Ok-Some-clause-compared : goal.returns-in-Ok-Some-clause-compared
 returns-in-Ok-Some-clause-compared c =
@@ -28,3 +32,19 @@ returns-in-Ok-Some-clause-compared c =
     compared-no old c.note-in-Ok-Some.new.self (record { state = state; listed = noted.network.listed ∙ compared.network.listed; dead = noted.network.dead ∙ compared.network.dead }) (noted.asked ∙ compared.asked) i j c.args.first c.args.second
     (c.in_ok-note-in-Ok-Some.ensures.kept ∙ ap (λ (kept : State). with_pair kept i j) compared.kept) missing c.deref.result.now answer.0 answer.1 c.deref.ensures.value
     c.network-network.result.now (c.network-network.ensures.network ∙ ap (λ (s : StateView). s.routers) (c.state.ensures ∙ state)) c.args.out.now.items c.push_no.new.out.items c.in_ok-push_no-in-Ok-Some.ensures
+
+pub returns-then-is_refused-clause-compared : goal.returns-then-is_refused-clause-compared
+returns-then-is_refused-clause-compared c =
+    let old = c.args.self.now in
+    let s = state_of old.rules in
+    let crowded : IsCrowded s (kept_of old) = elim c.then-is_refused.branch [
+      | then-is_refused-via-then-is_refused w ↦ c.is_refused.ensures w.if-is_refused.true
+      | then-is_refused-via-else-is_refused+then-is_refused-2 w ↦ w.is_refused-else-is_refused.ensures w.if-is_refused-2.true
+    ] in
+    record {
+      reply = line_of (codes "refused limit diagrams");
+      answer = inr (crowded-question s (kept_of old) c.args.places.0 c.args.places.1 crowded, (refl, refl));
+      text = c.in_ok-push_line.ensures;
+      network = record { state = refl; listed = refl; dead = refl };
+      infers = refl;
+    }
