@@ -21,7 +21,7 @@ pub mod steady;
 mod trial;
 
 use crate::tally::Tally;
-use example::{Example, PAIR, ROUTE, SINGLE, WAYS};
+use example::{Example, PAIR, QUESTIONS, ROUTE, SINGLE, WAYS};
 use judging::Verdict;
 use nc_session::Status;
 use network::Network;
@@ -47,14 +47,17 @@ fn all_rows(rt: &HostRuntime) -> IoResult<Vec<Row>> {
     rows.push(steady_row(alloc, &SINGLE)?)?;
     rows.push(steady_row(alloc, &ROUTE)?)?;
     rows.push(steady_row(alloc, &WAYS)?)?;
+    rows.push(steady_row(alloc, &QUESTIONS)?)?;
     cutting::add_cutting(alloc, &PAIR, &mut rows)?;
     cutting::add_cutting(alloc, &SINGLE, &mut rows)?;
     cutting::add_cutting(alloc, &ROUTE, &mut rows)?;
     cutting::add_cutting(alloc, &WAYS, &mut rows)?;
+    cutting::add_cutting(alloc, &QUESTIONS, &mut rows)?;
     faults::add_faults(alloc, &PAIR, &mut rows)?;
     faults::add_faults(alloc, &SINGLE, &mut rows)?;
     faults::add_faults(alloc, &ROUTE, &mut rows)?;
     faults::add_faults(alloc, &WAYS, &mut rows)?;
+    faults::add_faults(alloc, &QUESTIONS, &mut rows)?;
     ending::add_endings(alloc, &mut rows)?;
     refusals::add_refusals(alloc, &mut rows)?;
     lines::add_long_lines(alloc, &mut rows)?;

@@ -1,4 +1,5 @@
-//! Four small networks with a session and its replies, which were worked out by hand.
+//! Four small networks, one of them with two sessions, and the replies. They were worked out by hand, but for those to
+//! questions, which the second program answered.
 
 use crate::failing::network::{Config, Network};
 use std::alloc::{AllocError, Global};
@@ -173,6 +174,59 @@ const WAYS_EXCHANGES: [Exchange; 4] = [
     },
 ];
 
+// Questions about two tests over those ways, of which one is taken back.
+const QUESTION_EXCHANGES: [Exchange; 11] = [
+    Exchange {
+        line: b"reach r1 10.2.0.9",
+        reply: b"test 1 facts 25\nstrong 2 weak 10 uncovered 2 outside 2\nr1 .WWWWUUWW\n\
+            r2 .WWWWSS\n",
+    },
+    Exchange {
+        line: b"rib r1 10.2.0.0/24 via 10.0.12.2",
+        reply: b"test 2 facts 25\nstrong 5 weak 7 uncovered 2 outside 2\nr1 .SSWWUUSW\n\
+            r2 .WWWWSS\n",
+    },
+    Exchange {
+        line: b"implies 1 2",
+        reply: b"implies 1 2 no without r1:8\n",
+    },
+    Exchange {
+        line: b"implies 2 1",
+        reply: b"implies 2 1 no without r2:6\n",
+    },
+    Exchange {
+        line: b"cut 1",
+        reply: b"cut 1 1 r2:6\n",
+    },
+    Exchange {
+        line: b"cut 1 keep r2",
+        reply: b"cut 1 2 r1:2 r1:4\n",
+    },
+    Exchange {
+        line: b"suite",
+        reply: b"suite 1 2\n",
+    },
+    Exchange {
+        line: b"dead",
+        reply: b"dead 0\n",
+    },
+    Exchange {
+        line: b"forget 1",
+        reply: b"forgot 1\nstrong 3 weak 0 uncovered 11 outside 2\nr1 .SSUUUUSU\nr2 .UUUUUU\n",
+    },
+    Exchange {
+        line: b"show r2",
+        reply: b". 1 hostname r2\nU 2 interface Ethernet0\n\
+            U 3  ip address 10.0.12.2 255.255.255.252\nU 4 interface Ethernet1\n\
+            U 5  ip address 10.0.13.2 255.255.255.252\nU 6 interface Ethernet2\n\
+            U 7  ip address 10.2.0.1 255.255.255.0\n",
+    },
+    Exchange {
+        line: b"implies 2 1",
+        reply: b"refused test 1\n",
+    },
+];
+
 /// Two routers; the session ends with `quit`.
 pub const PAIR: Example = Example {
     name: "pair",
@@ -211,6 +265,16 @@ pub const WAYS: Example = Example {
     file_calls: 6,
     reads: 5,
     writes: 4,
+};
+
+/// The same routers and questions about tests; the session ends with its bytes.
+pub const QUESTIONS: Example = Example {
+    name: "questions",
+    files: &WAYS_FILES,
+    exchanges: &QUESTION_EXCHANGES,
+    file_calls: 6,
+    reads: 12,
+    writes: 11,
 };
 
 impl Example {
