@@ -8,13 +8,16 @@ mod case;
 mod check;
 mod verdict;
 
-use crate::tally::Tally;
 use case::Case;
 use std::fs;
 use std::io::Result;
 
-// The names of the cases, in order.
-fn case_names(rt: &HostRuntime) -> Result<Vec<String>> {
+/// The names of the cases, in order.
+///
+/// # Errors
+///
+/// Memory that runs out, and a folder that can't be read.
+pub fn case_names(rt: &HostRuntime) -> Result<Vec<String>> {
     let mut names = Vec::new(rt.alloc());
     for entry in fs::read_dir(rt, ".")? {
         let entry = entry?;
@@ -24,23 +27,13 @@ fn case_names(rt: &HostRuntime) -> Result<Vec<String>> {
     Ok(names)
 }
 
-// Runs one case, prints what came of it, and says whether it passed.
-fn try_case(rt: &HostRuntime, name: &str) -> Result<bool> {
-    let verdict = Case::read(rt, name)?.judge(rt.alloc())?;
-    println!(rt; "{name}: {verdict}")?;
-    Ok(verdict.is_pass())
-}
-
-/// Runs each case, and prints a line for it.
+/// Runs one case, prints what came of it, and says whether it passed.
 ///
 /// # Errors
 ///
-/// Memory that runs out, a folder that can't be read, and lines that can't be written.
-pub fn try_cases(rt: &HostRuntime) -> Result<Tally> {
-    let names = case_names(rt)?;
-    let mut tally = Tally::new();
-    for name in &names {
-        tally.count(try_case(rt, name.as_str())?);
-    }
-    Ok(tally)
+/// Memory that runs out, and a line that can't be written.
+pub fn try_case(rt: &HostRuntime, name: &str) -> Result<bool> {
+    let verdict = Case::read(rt, name)?.judge(rt.alloc())?;
+    println!(rt; "{name}: {verdict}")?;
+    Ok(verdict.is_pass())
 }

@@ -1,6 +1,6 @@
 //! The rows of the table.
 
-use crate::failing::judging::Verdict;
+use crate::judging::Verdict;
 use std::fmt::{Display, Formatter, Result, Write};
 
 /// What came of runs of one kind, over one network.

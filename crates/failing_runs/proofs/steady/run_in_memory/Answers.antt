@@ -4,8 +4,8 @@ use Rattle.nc_outside.specs.Memory.{faults_of}
 use Rattle.nc_words.specs.Words.{texts}
 use Rattle.nc_session.specs.Load.{load}
 use Rattle.nc_session.specs.Output.{session_of}
-use Rattle.worked_cases.proofs.Unfailing.{ends_complete, ends_served}
-use Rattle.worked_cases.proofs.failing.steady.run_in_memory.Goals as goal
+use Rattle.failing_runs.proofs.Unfailing.{ends_complete, ends_served}
+use Rattle.failing_runs.proofs.steady.run_in_memory.Goals as goal
 
 pub returns-clause-complete : goal.returns-clause-complete
 returns-clause-complete c =

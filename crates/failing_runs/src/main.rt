@@ -1,9 +1,18 @@
-//! Runs that are cut, that fail or that meet a limit.
+//! Whole runs over objects in memory that are cut, that fail or that meet a limit.
 //!
 //! A session comes in pieces or with carriage returns; each call of the files, of the session's
 //! source and of the sink fails in turn; the sink has little room; a file is cut behind each of its
 //! bytes; words and files are refused; and each limit is met and passed. Beside the runs stands what
 //! no run shows: the adapters over the system where that fails, and sets of communities in memory.
+//! The program prints a line for each kind of runs and, last, how many came to what they must; it
+//! ends with 1 where one did not.
+//!
+//! One promise is proved besides safety: [`steady::run_in_memory`], over objects of which none can
+//! fail, ends as the words, the files and the session have it, or for want of memory. The crate
+//! stands on `nc_session` for the run, on `nc_outside` for the objects in memory and the adapters, on
+//! `nc_words` for what is said of words, on `nc_engine` for what is said of files, on `nc_community`
+//! for sets and on `nc_types` for names.
+#![tactic(auto)]
 
 mod adapters;
 mod cutting;
@@ -20,7 +29,6 @@ mod sets;
 pub mod steady;
 mod trial;
 
-use crate::tally::Tally;
 use example::{Example, PAIR, QUESTIONS, ROUTE, SINGLE, WAYS};
 use judging::Verdict;
 use nc_session::Status;
@@ -28,6 +36,7 @@ use network::Network;
 use row::Row;
 use std::alloc::{AllocError, Global};
 use std::io::Result as IoResult;
+use std::process::ExitCode;
 use steady::run_in_memory;
 
 // The row of a run over objects that can't fail.
@@ -67,17 +76,14 @@ fn all_rows(rt: &HostRuntime) -> IoResult<Vec<Row>> {
     Ok(rows)
 }
 
-/// Makes the runs of each kind, and prints a line for it.
-///
-/// # Errors
-///
-/// Memory that runs out, and lines that can't be written.
-pub fn try_rows(rt: &HostRuntime) -> IoResult<Tally> {
-    let rows = all_rows(rt)?;
-    let mut tally = Tally::new();
+fn main(rt: HostRuntime) -> IoResult<ExitCode> {
+    let rows = all_rows(&rt)?;
+    let mut failed: usize = 0;
     for row in &rows {
         println!(rt; "{row}")?;
-        tally.count(row.verdict.is_fine());
+        failed = failed.saturating_add(usize::from(!row.verdict.is_fine()));
     }
-    Ok(tally)
+    let passed = rows.len().saturating_sub(failed);
+    println!(rt; "{passed} passed, {failed} failed")?;
+    Ok(ExitCode::from(u8::from(failed > 0)))
 }

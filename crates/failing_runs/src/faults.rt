@@ -1,10 +1,10 @@
 //! Each call of each object failing in turn, a sink with little room, and files that are cut.
 
-use crate::failing::example::Example;
-use crate::failing::judging::{Expectation, Verdict};
-use crate::failing::network::{Config, Network};
-use crate::failing::row::Row;
-use crate::failing::trial::{Failing, Pieces, Trial};
+use crate::example::Example;
+use crate::judging::{Expectation, Verdict};
+use crate::network::{Config, Network};
+use crate::row::Row;
+use crate::trial::{Failing, Pieces, Trial};
 use nc_session::Status;
 use std::alloc::{AllocError, Global};
 

@@ -1,9 +1,9 @@
 //! Words, files and generated networks that are refused before the session is read, also where that can't be written.
 
-use crate::failing::judging::{Expectation, Verdict};
-use crate::failing::network::{Config, Network};
-use crate::failing::row::Row;
-use crate::failing::trial::{Failing, Trial};
+use crate::judging::{Expectation, Verdict};
+use crate::network::{Config, Network};
+use crate::row::Row;
+use crate::trial::{Failing, Trial};
 use nc_session::Status;
 use std::alloc::{AllocError, Global};
 

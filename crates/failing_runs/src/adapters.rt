@@ -1,8 +1,8 @@
 //! The adapters over the system, where the system fails: a file that isn't there, a folder as a
 //! file, and a reader and a writer that give way in the middle.
 
-use crate::failing::judging::Verdict;
-use crate::failing::row::Row;
+use crate::judging::Verdict;
+use crate::row::Row;
 use nc_outside::{Files, FolderFiles, Sink, Source, StdinSource, StdoutSink};
 use std::io::{self, ErrorKind, Read, Write};
 

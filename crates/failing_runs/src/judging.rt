@@ -1,6 +1,6 @@
 //! What a run must come to, and what is said of runs that are judged.
 
-use crate::failing::trial::{Ran, Trial};
+use crate::trial::{Ran, Trial};
 use nc_session::Status;
 use std::alloc::{AllocError, Global};
 use std::fmt::{self, Display, Formatter, Write};

@@ -1,7 +1,7 @@
 //! Four small networks, one of them with two sessions, and the replies. They were worked out by hand, but for those to
 //! questions, which the second program answered.
 
-use crate::failing::network::{Config, Network};
+use crate::network::{Config, Network};
 use std::alloc::{AllocError, Global};
 
 /// A line of a session, without its end, and its reply.

@@ -1,10 +1,10 @@
 //! Session lines about as long as a line may be, cut at many places.
 
-use crate::failing::cutting::at_each_place;
-use crate::failing::example::SINGLE;
-use crate::failing::judging::{Expectation, Verdict};
-use crate::failing::row::Row;
-use crate::failing::trial::{Pieces, Trial};
+use crate::cutting::at_each_place;
+use crate::example::SINGLE;
+use crate::judging::{Expectation, Verdict};
+use crate::row::Row;
+use crate::trial::{Pieces, Trial};
 use std::alloc::{AllocError, Global};
 
 // A long line, and its reply.

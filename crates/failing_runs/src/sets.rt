@@ -1,6 +1,6 @@
 //! Sets of communities in memory: calls that no run makes.
 
-use crate::failing::judging::Verdict;
+use crate::judging::Verdict;
 use nc_community::{gather, union};
 use std::alloc::{AllocError, Global};
 

@@ -2,7 +2,7 @@
 
 ghost use Rattle.std.specs.Prelude.{◌<◌, All, IfOk};
 
-use crate::failing::network::Network;
+use crate::network::Network;
 use nc_outside::{MemFiles, MemSink, MemSource};
 use nc_session::run;
 use std::alloc::{AllocError, Global};

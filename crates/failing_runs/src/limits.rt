@@ -1,11 +1,11 @@
 //! Each limit, and one past it.
 
-use crate::failing::example::SINGLE;
-use crate::failing::judging::{Expectation, Verdict};
-use crate::failing::lines::filled;
-use crate::failing::network::Network;
-use crate::failing::row::Row;
-use crate::failing::trial::{Failing, Trial};
+use crate::example::SINGLE;
+use crate::judging::{Expectation, Verdict};
+use crate::lines::filled;
+use crate::network::Network;
+use crate::row::Row;
+use crate::trial::{Failing, Trial};
 use nc_session::Status;
 use std::alloc::{AllocError, Global};
 

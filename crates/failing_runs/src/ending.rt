@@ -1,9 +1,9 @@
 //! How a session ends: by its bytes, by `quit`, or by a call that fails.
 
-use crate::failing::example::SINGLE;
-use crate::failing::judging::{Expectation, Verdict};
-use crate::failing::row::Row;
-use crate::failing::trial::{Failing, Pieces, Trial};
+use crate::example::SINGLE;
+use crate::judging::{Expectation, Verdict};
+use crate::row::Row;
+use crate::trial::{Failing, Pieces, Trial};
 use nc_session::Status;
 use std::alloc::{AllocError, Global};
 

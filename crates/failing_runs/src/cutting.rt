@@ -1,9 +1,9 @@
 //! Sessions that come in pieces, and with carriage returns: the replies are the same.
 
-use crate::failing::example::Example;
-use crate::failing::judging::{Expectation, Verdict};
-use crate::failing::row::Row;
-use crate::failing::trial::{Pieces, Trial};
+use crate::example::Example;
+use crate::judging::{Expectation, Verdict};
+use crate::row::Row;
+use crate::trial::{Pieces, Trial};
 use std::alloc::{AllocError, Global};
 
 /// The session cut into two pieces, once behind so many of its bytes, once behind one more, and so
