@@ -1,5 +1,5 @@
 -- What is found stays found.
-use Rattle.std.proofs.Common.{◌≡◌, ℕ, zero, suc, ◌-◌, ◌≤◌, true, false, List, [], ◌∷◌, ◌++◌, length, map, take, drop, replicate, get_or, Option, Some, None, refl, sym, ap, subst, ◌∙◌, arith, inl, inr}
+use Rattle.std.proofs.Common.{◌≡◌, ℕ, zero, suc, ◌-◌, ◌<◌, ◌≤◌, true, false, List, [], ◌∷◌, ◌++◌, length, map, take, drop, replicate, get_or, Option, Some, None, refl, sym, ap, subst, ◌∙◌, arith, inl, inr}
 use Rattle.std.specs.List.{All, slice_get, slice_index_or}
 use Rattle.std.specs.Option.{is_some, option_map, ForSome}
 use Rattle.std.proofs.lemmas.List.{take-append-drop, take-append-le, drop-append-le, length-map, length-drop, take_all, drop-map, map_push}
@@ -27,14 +27,43 @@ at_view (span ∷ spans) ways zero = refl
 at_view (span ∷ spans) ways (suc router) = at_view spans ways router
 
 -- nothing is found at first
-pub none_found : (n : ℕ) (ways : List Alternative) (router : ℕ) → found_at (found_view (replicate n None) ways) router ≡ None
-none_found n ways router = at_view (replicate n None) ways router ∙ ap (option_map (in_span ways)) (none_yet n router)
+pub no_span : (spans : List (Option Span)) → spans ≡ [] → (router : ℕ) → slice_index_or spans router None ≡ None
+no_span spans none router = ap (λ (xs : List (Option Span)). slice_index_or xs router None) none
 
-pub none_within : (n : ℕ) (ways : List Alternative) → AreWithin (replicate n None) ways
-none_within n ways router span e = let none = none_yet {A = Span} n router in absurd cc
+pub none_found : (spans : List (Option Span)) (ways : List Alternative) → spans ≡ [] → (router : ℕ) → found_at (found_view spans ways) router ≡ None
+none_found spans ways none router = at_view spans ways router ∙ ap (option_map (in_span ways)) (no_span spans none router)
 
-pub none_listed : (n router : ℕ) → is_some (slice_index_or (replicate {A = Option Span} n None) router None) ≡ false
-none_listed n router = ap is_some (none_yet {A = Span} n router)
+-- room for more has none either
+pub same_span : (spans : List (Option Span)) (n router : ℕ) → slice_index_or (spans ++ replicate n None) router None ≡ slice_index_or spans router None
+same_span [] n router = none_yet n router
+same_span (span ∷ spans) n zero = refl
+same_span (span ∷ spans) n (suc router) = same_span spans n router
+
+pub same_found : (spans more : List (Option Span)) (ways : List Alternative) → ((router : ℕ) → slice_index_or more router None ≡ slice_index_or spans router None)
+    → (router : ℕ) → found_at (found_view more ways) router ≡ found_at (found_view spans ways) router
+same_found spans more ways same router = at_view more ways router ∙ ap (option_map (in_span ways)) (same router) ∙ sym (at_view spans ways router)
+
+-- for how many there is room
+pub room_of : (spans : List (Option Span)) (ways : List Alternative) (found : FoundWays) → found_view spans ways ≡ found → length found ≡ length spans
+room_of spans ways found is = sym (ap (λ (f : FoundWays). length f) is) ∙ length-map spans (option_map (in_span ways))
+
+-- whether it has one
+pub some_span : (spans : List (Option Span)) (ways : List Alternative) (router : ℕ) → is_some (found_at (found_view spans ways) router) ≡ is_some (slice_index_or spans router None)
+some_span spans ways router = ap is_some (at_view spans ways router) ∙ on (slice_index_or spans router None)
+  where
+    on : (span : Option Span) → is_some (option_map (in_span ways) span) ≡ is_some span
+    on None = refl
+    on (Some span) = refl
+
+-- where there is something, there is a place
+pub some_within : {A : Type 0} (items : List (Option A)) (place : ℕ) → is_some (slice_index_or items place None) ≡ true → place < length items
+some_within [] place some = absurd cc
+some_within (item ∷ items) zero some = omega arith
+some_within (item ∷ items) (suc place) some = omega (arith, some_within items place some)
+
+-- a list that was lent as a slice
+pub lent : {A : Type 0} (new rest : List A) (n : ℕ) → length new ≡ n → take n (new ++ rest) ≡ new
+lent new rest n e = take-append-le n new rest (omega (arith, e)) ∙ take_all n new (omega (arith, e))
 
 -- ways behind those of a span leave them as they are
 pub span_kept : (old new : List Alternative) (span : Span) → IsWithin (length old) span → take (length old) new ≡ old → in_span new span ≡ in_span old span

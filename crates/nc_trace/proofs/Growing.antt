@@ -9,7 +9,7 @@ use Rattle.nc_tables.specs.State.{StateView}
 use Rattle.nc_tables.specs.Forwarding as defined
 use Rattle.nc_tables.proofs.Owner.{some_is}
 use Rattle.nc_trace.specs.declared.packet.Packet.{Packet}
-use Rattle.nc_trace.specs.Found.{FoundWays, found_at, covers, GoesTo, IsListed, IsListedOrNone, IsCoveredOrNone, IsCoveredOrListed, AreWays, LeadTo, ways_out}
+use Rattle.nc_trace.specs.Found.{FoundWays, found_at, covers, GoesTo, IsListed, IsListedOrNone, IsCoveredOrNone, IsCoveredOrListed, IsFoundTo, AreWays, LeadTo, ways_out}
 use Rattle.nc_trace.proofs.Finding.{AreKept, goes_more}
 
 module _ (s : StateView) (p : Packet) (old new : FoundWays) (router : ℕ) (found : found_at new router ≡ Some (ways_out s p router)) (others : (other : ℕ) → other ≢ router → found_at new other ≡ found_at old other) where
@@ -50,6 +50,18 @@ module _ (s : StateView) (p : Packet) (old new : FoundWays) (router : ℕ) (foun
       | inr e ↦ λ k d lt. goes_more (IsCoveredOrListed count before old) (IsCoveredOrListed count after new) lifted (slice_index_or (ways_out s p r) k d).outcome (leads r (sym (ap is_some e) ∙ there) k d lt)
     ]
 
+-- where more is found, a router that was included still is
+pub still_included : (count : ℕ) (old new : FoundWays) → ((r : ℕ) → covers old r ≡ true → covers new r ≡ true) → (r : ℕ) → IsCoveredOrNone count old r → IsCoveredOrNone count new r
+still_included count old new more r (inl there) = inl (more r there)
+still_included count old new more r (inr past) = inr past
+
+-- where the same is found, it is right as before
+pub found_same : (s : StateView) (p : Packet) (old new : FoundWays) → ((r : ℕ) → found_at new r ≡ found_at old r) → IsFoundTo s p old → IsFoundTo s p new
+found_same s p old new same is = record {
+  ways = λ r ways e. is.ways r ways (sym (same r) ∙ e);
+  closed = λ r place way next there at goes within. ap is_some (same next.router) ∙ is.closed r place way next (sym (ap is_some (same r)) ∙ there) at goes within;
+}
+
 -- the router at a place was looked at
 pub record IsDone (count : ℕ) (list : List RouterId) (found : FoundWays) (place : ℕ) : Type 0 where
   pub router : RouterId
@@ -58,11 +70,7 @@ pub record IsDone (count : ℕ) (list : List RouterId) (found : FoundWays) (plac
 
 -- it stays so
 pub done_still : (count : ℕ) (before after : List RouterId) (old new : FoundWays) → AreKept before after → ((r : ℕ) → covers old r ≡ true → covers new r ≡ true) → (place : ℕ) → IsDone count before old place → IsDone count after new place
-done_still count before after old new kept more place done = record { router = done.router; at = kept place done.router done.at; covered = still done.covered }
-  where
-    still : IsCoveredOrNone count old done.router.0 → IsCoveredOrNone count new done.router.0
-    still (inl there) = inl (more done.router.0 there)
-    still (inr past) = inr past
+done_still count before after old new kept more place done = record { router = done.router; at = kept place done.router done.at; covered = still_included count old new more done.router.0 done.covered }
 
 -- where all of a list were, each of them is covered
 pub all_done : (count : ℕ) (list : List RouterId) (found : FoundWays) (last : ℕ) → length list ≤ last → ((place : ℕ) → place < last → IsDone count list found place) → (r : ℕ) → IsListed list r → IsCoveredOrNone count found r

@@ -6,11 +6,10 @@ use Rattle.std.proofs.lemmas.Bool.{eqb-true, eq-eqb, or_right, cases_lt}
 use Rattle.std.proofs.lemmas.List.{take_all}
 use Rattle.std.proofs.lemmas.List.Folds.{list_any-append}
 use Rattle.nc_tables.proofs.Owner.{some_is}
-use Rattle.nc_types.specs.declared.TheConstants.{ROUTER_LIMIT}
 use Rattle.nc_types.specs.declared.config.RouterId.{RouterId}
 use Rattle.nc_trace.specs.declared.alternative.Alternative.{Alternative}
 use Rattle.nc_trace.specs.declared.span.Span.{Span}
-use Rattle.nc_trace.specs.Found.{is_one_of, AreFew, AreListed, AreWithin, IsWithin}
+use Rattle.nc_trace.specs.Found.{is_one_of, AreKept, AreListed, AreWithin, IsWithin}
 
 -- the last of a list, and those before it
 module _ (list before : List RouterId) (last : RouterId) (cut : list ≡ before ++ last ∷ []) (router : ℕ) where
@@ -38,8 +37,20 @@ is_here list before last cut = is_last list before last cut last.0 refl
 pub not_one : (list : List RouterId) → list ≡ [] → (router : ℕ) → is_one_of list router ≡ false
 not_one list none router = ap (λ (l : List RouterId). is_one_of l router) none
 
-pub none_few : (list : List RouterId) → list ≡ [] → AreFew list
-none_few list none router one = let no = sym (not_one list none router) ∙ one in absurd cc
+-- where there is no span, no router has one
+pub none_kept : (spans : List (Option Span)) (ways : List Alternative) (list : List RouterId) → ((router : ℕ) → slice_index_or spans router None ≡ None) → list ≡ [] → AreKept spans ways list
+none_kept spans ways list none empty = record {
+  within = λ router span e. let no = none router in absurd cc;
+  listed = λ router. ap is_some (none router) ∙ sym (not_one list empty router);
+}
+
+-- where routers have the spans that they had
+pub still_kept : (spans more : List (Option Span)) (ways : List Alternative) (list : List RouterId) → ((router : ℕ) → slice_index_or more router None ≡ slice_index_or spans router None)
+    → AreKept spans ways list → AreKept more ways list
+still_kept spans more ways list same kept = record {
+  within = λ router span e. kept.within router span (sym (same router) ∙ e);
+  listed = λ router. ap is_some (same router) ∙ kept.listed router;
+}
 
 pub no_list : (list : List RouterId) → length list ≡ 0 → list ≡ []
 no_list [] e = refl
@@ -72,12 +83,6 @@ module _ (spans : List (Option Span)) (list : List RouterId) (listed : AreListed
           ∙ listed other
           ∙ or_false (is_one_of list other)
           ∙ sym (ap (λ (b : Bool). is_one_of list other || (b || false)) same)
-
-pub few_more : (list : List RouterId) (router : RouterId) → AreFew list → router.0 < ROUTER_LIMIT → AreFew (list ++ router ∷ [])
-few_more list router few lt other one = elim (last_or_before (list ++ router ∷ []) list router refl other one) [
-  | inl before ↦ few other before
-  | inr last ↦ omega (arith, lt, last)
-]
 
 -- the last one's span is taken away
 pub gone : (spans : List (Option Span)) (list before : List RouterId) (last : RouterId) → list ≡ before ++ last ∷ []

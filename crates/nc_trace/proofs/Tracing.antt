@@ -1,5 +1,5 @@
 -- What is right of routers that are included.
-use Rattle.std.proofs.Common.{◌≡◌, ℕ, zero, suc, ◌≤◌, Bool, nat_le, [], false, ◌&&◌, List, length, replicate, Option, None, Some, refl, sym, ap, subst, ◌∙◌, arith, inl, inr}
+use Rattle.std.proofs.Common.{◌≡◌, ℕ, zero, suc, ◌≤◌, Bool, nat_le, [], false, ◌&&◌, List, length, Option, None, Some, refl, sym, ap, subst, ◌∙◌, arith, inl, inr}
 use Rattle.std.specs.List.{slice_get}
 use Rattle.std.specs.Option.{is_some, option_map, option_map_or, unwrap_or}
 use Rattle.std.proofs.lemmas.Bool.{le-leb, lt-leb}
@@ -9,7 +9,6 @@ use Rattle.nc_tables.specs.State.{StateView, IsState}
 use Rattle.nc_tables.specs.Forwarding.{Outcome, Alternative, arrives_by, goes_on}
 use Rattle.nc_tables.proofs.Owner.{some_is}
 use Rattle.nc_underlay.specs.Distances as distances
-use Rattle.nc_underlay.proofs.Fewest.{never}
 use Rattle.nc_trace.specs.declared.packet.By.{By}
 use Rattle.nc_trace.specs.declared.packet.By.TheVariants.{SomeWay, EachWay}
 use Rattle.nc_trace.specs.declared.packet.Packet.{Packet}
@@ -30,19 +29,20 @@ module _ (s : StateView) (addr : ℕ) (found : FoundWays) (none : (router : ℕ)
     closed = λ router place way next there at goes within. let no = ap is_some (none router) in absurd cc;
   }
 
-  pub never_fewest : (by : By) (n : ℕ) → AreFewest s found by addr (replicate n (suc HOP_LIMIT))
-  never_fewest by n = record {
+  pub never_fewest : (by : By) (fewest : List ℕ) → fewest ≡ [] → AreFewest s found by addr fewest
+  never_fewest by fewest empty = record {
     hops = λ router hops few.
-        lt-leb (distances.fewest_of (replicate n (suc HOP_LIMIT)) router) hops (omega (arith, never n router, few))
+        ap (λ (fs : List ℕ). nat_le (distances.fewest_of fs router) hops) empty
+        ∙ lt-leb (suc HOP_LIMIT) hops (omega (arith, few))
         ∙ sym (ap (λ (b : Bool). b && arrives_as s by hops router addr) (ap is_some (none router)));
   }
 
-  pub nothing_included : IsState s → (n : ℕ) → IsTracedTo s addr (record { found = found; some = replicate n (suc HOP_LIMIT); each = replicate n (suc HOP_LIMIT) })
-  nothing_included is n = record {
+  pub nothing_included : IsState s → (some each : List ℕ) → some ≡ [] → each ≡ [] → IsTracedTo s addr (record { found = found; some = some; each = each })
+  nothing_included is some each no_some no_each = record {
     found = none_found (packet_of SomeWay addr);
     none = λ router past. none_there s is router past addr;
-    some = never_fewest SomeWay n;
-    each = never_fewest EachWay n;
+    some = never_fewest SomeWay some no_some;
+    each = never_fewest EachWay each no_each;
   }
 
 -- what is counted of a question is of what was asked

@@ -2,7 +2,6 @@
 use Rattle.std.specs.Prelude.{◌≡◌, ◌⊎◌, ◌==◌, ℕ, ◌-◌, ◌<◌, ◌≤◌, Bool, true, List, length, map, take, drop, All, Option, None, Some, is_some, slice_get, slice_index_or, if◌then◌else◌}
 use Rattle.std.specs.List.{list_any}
 use Rattle.std.specs.Option.{option_map, ForSome}
-use Rattle.nc_types.specs.declared.TheConstants.{ROUTER_LIMIT}
 use Rattle.nc_types.specs.declared.config.RouterId.{RouterId}
 use Rattle.nc_types.specs.Network.{PlaceIn}
 use Rattle.nc_types.specs.declared.addr.Addr.{Addr}
@@ -44,15 +43,10 @@ is_one_of list router = list_any (λ other. other.0 == router) list
 abbrev pub AreListed : List (Option Span) → List RouterId → Type 0
 AreListed spans list = (router : ℕ) → is_some (slice_index_or spans router None) ≡ is_one_of list router
 
--- none has a number that no router may have
-abbrev pub AreFew : List RouterId → Type 0
-AreFew list = (router : ℕ) → is_one_of list router ≡ true → router < ROUTER_LIMIT
-
 -- the spans are among the ways, and those of these routers
 pub record AreKept (spans : List (Option Span)) (ways : List Alternative) (list : List RouterId) : Type 0 where
   pub within : AreWithin spans ways
   pub listed : AreListed spans list
-  pub few : AreFew list
 
 -- the ways of a router were found
 abbrev pub covers : FoundWays → ℕ → Bool

@@ -17,6 +17,10 @@ pub record Traced : Type 0 where
   pub some : List ℕ
   pub each : List ℕ
 
+-- no router is among those whose ways were found
+abbrev pub IncludesNone : Traced → Type 0
+IncludesNone traced = (router : ℕ) → covers traced.found router ≡ false
+
 -- some way passes, or each of them does
 abbrev pub ways_pass : Bool → (Alternative → Bool) → List Alternative → Bool
 ways_pass true passes ways = each_way passes ways

@@ -2,9 +2,9 @@
 //! that was found to the first, until none gets a smaller number: most ways lead to a router that was found later, so
 //! that the first time mostly finds all numbers, and the second knows that they stay.
 
-ghost use Rattle.std.specs.Prelude.{◌≡◌, ◌≤◌, ◌<◌, ◌&&◌, ◌||◌, ℕ, true, false, Some, map, nat_le, nat_lt};
+ghost use Rattle.std.specs.Prelude.{◌≡◌, ◌≤◌, ◌<◌, ◌&&◌, ◌||◌, ℕ, suc, true, false, Some, OnOk, length, map, nat_le, nat_lt, replicate};
 ghost use Rattle.std.specs.List.{sum_by};
-ghost use Rattle.nc_types.specs.declared.TheConstants.{HOP_LIMIT, ROUTER_LIMIT};
+ghost use Rattle.nc_types.specs.declared.TheConstants.{HOP_LIMIT};
 ghost use Rattle.nc_tables.specs.Forwarding.{arrives_by, some_way, each_way};
 ghost use Rattle.nc_trace.specs.Asked.{IsAsked};
 ghost use Rattle.nc_trace.specs.Counting.{AreBacked, AreLeast, IsLeast};
@@ -17,7 +17,8 @@ ghost use Rattle.nc_underlay.specs.Distances.{is_earlier};
 use crate::alternative::{Alternative, Outcome};
 use crate::found::Found;
 use crate::levels::{NEVER, Question, is_owner};
-use nc_types::{HOP_LIMIT, ROUTER_LIMIT, RouterId};
+use nc_types::{HOP_LIMIT, RouterId};
+use std::alloc::AllocError;
 
 // One hop more than a number.
 fn one_more(number: u8) -> u8
@@ -45,7 +46,7 @@ fn larger(one: u8, other: u8) -> u8
 }
 
 // The fewest hops over which a packet arrives by a way, as the numbers of routers tell.
-fn hops_by(outcome: Outcome, fewest: &[u8; ROUTER_LIMIT]) -> u8
+fn hops_by(outcome: Outcome, fewest: &[u8]) -> u8
     ensures { (hops : ℕ) → hops ≤ HOP_LIMIT
         → nat_le result hops ≡ arrives_by (is_earlier fewest.now hops) (outcome_view outcome) }
 {
@@ -60,7 +61,7 @@ fn hops_by(outcome: Outcome, fewest: &[u8; ROUTER_LIMIT]) -> u8
 }
 
 // The same of some of these ways.
-fn hops_by_some(ways: &[Alternative], fewest: &[u8; ROUTER_LIMIT]) -> u8
+fn hops_by_some(ways: &[Alternative], fewest: &[u8]) -> u8
     ensures { (hops : ℕ) → hops ≤ HOP_LIMIT → nat_le result hops
         ≡ some_way (λ way. arrives_by (is_earlier fewest.now hops) way.outcome) (map alternative_view ways.now) }
 {
@@ -72,7 +73,7 @@ fn hops_by_some(ways: &[Alternative], fewest: &[u8; ROUTER_LIMIT]) -> u8
 }
 
 // The same of each of them, where there is one.
-fn hops_by_each(ways: &[Alternative], fewest: &[u8; ROUTER_LIMIT]) -> u8
+fn hops_by_each(ways: &[Alternative], fewest: &[u8]) -> u8
     ensures { (hops : ℕ) → hops ≤ HOP_LIMIT → nat_le result hops
         ≡ each_way (λ way. arrives_by (is_earlier fewest.now hops) way.outcome) (map alternative_view ways.now) }
 {
@@ -88,7 +89,7 @@ fn hops_by_each(ways: &[Alternative], fewest: &[u8; ROUTER_LIMIT]) -> u8
 
 // The fewest hops from a router whose ways were found: none where it owns the address, and else those by its ways, by
 // some or by each.
-fn hops_from(asked: Question, found: &Found, router: RouterId, fewest: &[u8; ROUTER_LIMIT]) -> u8
+fn hops_from(asked: Question, found: &Found, router: RouterId, fewest: &[u8]) -> u8
     requires asked { IsAsked asked }
     requires found { IsFoundTo asked.state.now (packet_of asked.by asked.addr.0) found.now }
     requires this { covers found.now router.0 ≡ true }
@@ -107,11 +108,11 @@ fn hops_from(asked: Question, found: &Found, router: RouterId, fewest: &[u8; ROU
 }
 
 // Gives a router whose ways were found the number that they tell, where it is smaller than its own; whether it is.
-fn lower(asked: Question, found: &Found, router: RouterId, fewest: &mut [u8; ROUTER_LIMIT]) -> bool
+fn lower(asked: Question, found: &Found, router: RouterId, fewest: &mut [u8]) -> bool
     requires asked { IsAsked asked }
     requires found { IsFoundTo asked.state.now (packet_of asked.by asked.addr.0) found.now }
     requires this { covers found.now router.0 ≡ true }
-    requires within { router.0 < ROUTER_LIMIT }
+    requires room { length found.now ≤ length fewest.old }
     requires backed { AreBacked asked.state.now asked.by asked.addr.0 found.now fewest.old }
     ensures backed { AreBacked asked.entry.state.now asked.entry.by asked.entry.addr.0 found.now fewest.new }
     ensures smaller { result ≡ true → sum_by (λ n. n) fewest.new < sum_by (λ n. n) fewest.old }
@@ -129,9 +130,10 @@ fn lower(asked: Question, found: &Found, router: RouterId, fewest: &mut [u8; ROU
 
 // Goes through the routers once, and gives each the number that its ways tell, where that is smaller; whether there
 // was such a router.
-fn go_through(asked: Question, found: &Found, fewest: &mut [u8; ROUTER_LIMIT]) -> bool
+fn go_through(asked: Question, found: &Found, fewest: &mut [u8]) -> bool
     requires asked { IsAsked asked }
     requires found { IsFoundTo asked.state.now (packet_of asked.by asked.addr.0) found.now }
+    requires room { length found.now ≤ length fewest.old }
     requires backed { AreBacked asked.state.now asked.by asked.addr.0 found.now fewest.old }
     ensures backed { AreBacked asked.entry.state.now asked.entry.by asked.entry.addr.0 found.now fewest.new }
     ensures least { result ≡ false
@@ -150,16 +152,47 @@ fn go_through(asked: Question, found: &Found, fewest: &mut [u8; ROUTER_LIMIT]) -
     more
 }
 
-/// For each router whose ways were found the fewest hops over which a packet arrives.
-pub(crate) fn count_hops(asked: Question, found: &Found) -> [u8; ROUTER_LIMIT]
+// Goes through the routers until none gets a smaller number.
+fn lower_all(asked: Question, found: &Found, fewest: &mut [u8])
     requires asked { IsAsked asked }
     requires found { IsFoundTo asked.state.now (packet_of asked.by asked.addr.0) found.now }
-    ensures { AreFewest asked.entry.state.now asked.entry.by asked.entry.addr.0 (Some found.now) result }
+    requires room { length found.now ≤ length fewest.old }
+    requires backed { AreBacked asked.state.now asked.by asked.addr.0 found.now fewest.old }
+    ensures fewest { AreFewest asked.entry.state.now asked.entry.by asked.entry.addr.0 (Some found.now) fewest.new }
+    ensures len { length fewest.new ≡ length fewest.old }
 {
-    let mut fewest = [NEVER; ROUTER_LIMIT];
     let mut more = true;
     'times: while more {
-        more = go_through(asked, found, &mut fewest);
+        more = go_through(asked, found, fewest);
     }
-    fewest
+}
+
+// Says of so many routers that no packet arrives from them.
+fn reset(fewest: &mut Vec<u8>, count: usize) -> Result<(), AllocError>
+    ensures { OnOk result (fewest.new.items ≡ replicate count (suc HOP_LIMIT)) }
+{
+    fewest.clear();
+    fewest.resize(count, NEVER)?;
+    Ok(())
+}
+
+/// Counts for each router whose ways were found the fewest hops over which a packet arrives. It takes memory where
+/// `fewest` has no room for as many routers as what was found has.
+///
+/// # Errors
+///
+/// Memory that runs out.
+pub(crate) fn count_hops(
+    asked: Question,
+    found: &Found,
+    fewest: &mut Vec<u8>,
+) -> Result<(), AllocError>
+    requires asked { IsAsked asked }
+    requires found { IsFoundTo asked.state.now (packet_of asked.by asked.addr.0) found.now }
+    ensures { OnOk result (AreFewest asked.entry.state.now asked.entry.by asked.entry.addr.0
+        (Some found.now) fewest.new.items) }
+{
+    reset(fewest, found.room())?;
+    lower_all(asked, found, fewest);
+    Ok(())
 }

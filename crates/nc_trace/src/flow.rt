@@ -1,13 +1,13 @@
 //! What is found of one packet that access lists may stop, from routers that are included.
 
-ghost use Rattle.std.specs.Prelude.{◌≡◌, ◌≤◌, ℕ, IfOk, OnOk, map};
+ghost use Rattle.std.specs.Prelude.{◌≡◌, ◌≤◌, ℕ, IfOk, OnErr, OnOk, map};
 ghost use Rattle.std.specs.Option.{ForSome};
 ghost use Rattle.nc_types.specs.declared.TheConstants.{HOP_LIMIT};
 ghost use Rattle.nc_tables.specs.Filters.{passing_at};
 ghost use Rattle.nc_tables.specs.Flows.{flows, flow_step_at};
 ghost use Rattle.nc_tables.specs.State.{StateView, IsState};
 ghost use Rattle.nc_filter.specs.Tables.{AreFilters};
-ghost use Rattle.nc_trace.specs.Flow.{IsFlowIncluded, IsFlowTo};
+ghost use Rattle.nc_trace.specs.Flow.{FlowIncludesNone, IsFlowIncluded, IsFlowTo};
 ghost use Rattle.nc_trace.specs.Found.{flow_ways, IsFoundTo};
 ghost use Rattle.nc_trace.specs.Packets.{between};
 ghost use Rattle.nc_trace.specs.Views.{alternative_view};
@@ -16,11 +16,11 @@ use crate::alternative::Alternative;
 use crate::counting::count_hops;
 use crate::found::Found;
 use crate::hops::{is_within, leads_on, outcome_in};
-use crate::levels::{NEVER, asked_of};
+use crate::levels::asked_of;
 use crate::packet::{By, Packet};
 use nc_filter::FilterTables;
 use nc_tables::{Passing, Stable};
-use nc_types::{Addr, HOP_LIMIT, IfaceId, ROUTER_LIMIT, RouterId};
+use nc_types::{Addr, HOP_LIMIT, IfaceId, RouterId};
 use std::alloc::{AllocError, Global};
 
 /// The ways of routers as a packet from one address to another takes them, and over how few hops it arrives from each.
@@ -31,7 +31,7 @@ use std::alloc::{AllocError, Global};
 pub struct FlowTo {
     alloc: Global,
     pub(crate) found: Found,
-    pub(crate) fewest: [u8; ROUTER_LIMIT],
+    pub(crate) fewest: Vec<u8>,
     pub(crate) tables: Option<FilterTables>,
 }
 
@@ -39,12 +39,13 @@ impl FlowTo {
     /// No router is included yet; so it is right for any packet, in any state whose network is valid. Takes no memory;
     /// `alloc` is for what is included.
     pub fn new(alloc: Global) -> FlowTo
-        ensures { (s : StateView) (from to : ℕ) → IsState s → IsFlowTo s from to result }
+        ensures flow { (s : StateView) (from to : ℕ) → IsState s → IsFlowTo s from to result }
+        ensures none { FlowIncludesNone result }
     {
         FlowTo {
             alloc,
             found: Found::new(alloc),
-            fewest: [NEVER; ROUTER_LIMIT],
+            fewest: Vec::new(alloc),
             tables: None,
         }
     }
@@ -53,11 +54,12 @@ impl FlowTo {
     /// same state.
     #[inline(never)]
     pub fn clear(&mut self)
-        ensures { (s : StateView) (from to : ℕ) → IsState s → ForSome self.old.tables (AreFilters s.routers)
+        ensures flow { (s : StateView) (from to : ℕ) → IsState s → ForSome self.old.tables (AreFilters s.routers)
             → IsFlowTo s from to self.new }
+        ensures none { FlowIncludesNone self.new }
     {
         self.found.clear();
-        self.fewest = [NEVER; ROUTER_LIMIT];
+        self.fewest.clear();
     }
 
     // Makes the tables of access lists, where they weren't made.
@@ -91,6 +93,9 @@ impl FlowTo {
         requires { IsFlowTo state.now from.0 to.0 self.old }
         ensures flow { IsFlowTo state.now from.0 to.0 self.new }
         ensures included { OnOk result (IsFlowIncluded state.now self.new router.0) }
+        ensures kept { OnOk result ((other : ℕ) → IsFlowIncluded state.now self.old other
+            → IsFlowIncluded state.now self.new other) }
+        ensures none { OnErr result (FlowIncludesNone self.new) }
     {
         if self.found.covers(router) {
             return Ok(());
@@ -111,21 +116,13 @@ impl FlowTo {
         requires { IsFlowTo state.now from.0 to.0 self.old }
         ensures flow { IsFlowTo state.now from.0 to.0 self.new }
         ensures included { OnOk result (IsFlowIncluded state.now self.new router.0) }
+        ensures kept { OnOk result ((other : ℕ) → IsFlowIncluded state.now self.old other
+            → IsFlowIncluded state.now self.new other) }
+        ensures none { OnErr result (FlowIncludesNone self.new) }
     {
         let _state = state.network();
-        self.make_tables(state)?;
-        let packet = Packet {
-            from: Some(from),
-            to,
-        };
-        match self
-            .found
-            .include(self.alloc, state, packet, &mut self.tables, router)
-        {
-            Ok(()) => {
-                self.count(state, from, to);
-                Ok(())
-            }
+        match self.find(state, from, to, router) {
+            Ok(()) => Ok(()),
             Err(error) => {
                 self.clear();
                 Err(error)
@@ -133,16 +130,44 @@ impl FlowTo {
         }
     }
 
+    // Finds the ways of a router and of all to which they lead, and counts the hops from all that are included.
+    fn find(
+        &mut self,
+        state: &Stable,
+        from: Addr,
+        to: Addr,
+        router: RouterId,
+    ) -> Result<(), AllocError>
+        requires { IsFlowTo state.now from.0 to.0 self.old }
+        ensures flow { OnOk result (IsFlowTo state.now from.0 to.0 self.new) }
+        ensures included { OnOk result (IsFlowIncluded state.now self.new router.0) }
+        ensures kept { OnOk result ((other : ℕ) → IsFlowIncluded state.now self.old other
+            → IsFlowIncluded state.now self.new other) }
+        ensures tables { ForSome self.new.tables (AreFilters state.now.routers) }
+    {
+        self.make_tables(state)?;
+        let packet = Packet {
+            from: Some(from),
+            to,
+        };
+        self.found
+            .include(self.alloc, state, packet, &mut self.tables, router)?;
+        self.count(state, from, to)?;
+        Ok(())
+    }
+
     // Counts the hops from all routers that are included.
-    fn count(&mut self, state: &Stable, from: Addr, to: Addr)
+    fn count(&mut self, state: &Stable, from: Addr, to: Addr) -> Result<(), AllocError>
         requires found { IsFoundTo state.now (between from.0 to.0) self.old.found }
         requires tables { ForSome self.old.tables (AreFilters state.now.routers) }
-        ensures flow { IsFlowTo state.now from.0 to.0 self.new }
+        ensures flow { OnOk result (IsFlowTo state.now from.0 to.0 self.new) }
         ensures found { self.new.found ≡ self.old.found }
+        ensures tables { self.new.tables ≡ self.old.tables }
     {
         let _state = state.network();
         let asked = asked_of(state, to, By::Filtered(from));
-        self.fewest = count_hops(asked, &self.found);
+        count_hops(asked, &self.found, &mut self.fewest)?;
+        Ok(())
     }
 
     /// The ways out of a router that is included, in order, as the packet takes them: by one on which an access list

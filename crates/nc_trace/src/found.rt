@@ -4,7 +4,7 @@ ghost use Rattle.std.specs.Prelude.{◌≡◌, ◌-◌, ◌<◌, ◌≤◌, ◌�
 ghost use Rattle.std.specs.Option.{unwrap_or, ForSome};
 ghost use Rattle.nc_filter.specs.Tables.{AreFilters};
 ghost use Rattle.nc_tables.specs.Forwarding.{alternatives};
-ghost use Rattle.nc_trace.specs.Found.{AreFew, AreListed, IsWithin, found_at, is_one_of, covers, GoesTo, IsListed, IsListedOrNone, IsCoveredOrNone, IsCoveredOrListed, IsFoundTo, AreWays, LeadTo, ways_out};
+ghost use Rattle.nc_trace.specs.Found.{AreListed, IsWithin, found_at, is_one_of, covers, GoesTo, IsListed, IsListedOrNone, IsCoveredOrNone, IsCoveredOrListed, IsFoundTo, AreWays, LeadTo, ways_out};
 ghost use Rattle.nc_trace.specs.Views.{alternative_view, outcome_view};
 
 use crate::alternative::{Alternative, Outcome};
@@ -14,7 +14,7 @@ use crate::taken::taken_by;
 use crate::ways::Ways;
 use nc_filter::FilterTables;
 use nc_tables::Stable;
-use nc_types::{ROUTER_LIMIT, RouterId};
+use nc_types::RouterId;
 use std::alloc::{AllocError, Global};
 use std::marker::Model;
 
@@ -71,11 +71,19 @@ fn part(ways: &[Alternative], span: Span) -> &[Alternative]
     &ways[span.from..span.to]
 }
 
+// The span of a router; none where it has none.
+fn span_of(spans: &[Option<Span>], router: RouterId) -> Option<Span>
+    ensures { result ≡ slice_index_or spans.now router.0 None }
+{
+    let span = spans.get(router.0 as usize)?;
+    *span
+}
+
 // Takes away the spans of these routers, which are all that have one.
-fn forget(routers: &[RouterId], spans: &mut [Option<Span>; ROUTER_LIMIT])
-    requires listed { AreListed spans.old routers.now }
-    requires few { AreFew routers.now }
-    ensures { (router : ℕ) → slice_index_or spans.new router None ≡ None }
+fn forget(routers: &[RouterId], spans: &mut [Option<Span>])
+    requires { AreListed spans.old routers.now }
+    ensures none { (router : ℕ) → slice_index_or spans.new router None ≡ None }
+    ensures len { length spans.new ≡ length spans.old }
 {
     let mut left = routers;
     'routers: while let Some((router, before)) = left.split_last() {
@@ -87,7 +95,8 @@ fn forget(routers: &[RouterId], spans: &mut [Option<Span>; ROUTER_LIMIT])
 /// The ways of some routers for one packet.
 #[derive(Drop)]
 pub(crate) struct Found {
-    spans: [Option<Span>; ROUTER_LIMIT],
+    // One for each router of the network, from the first on whose ways are asked for.
+    spans: Vec<Option<Span>>,
     ways: Vec<Alternative>,
     // The routers that have a span, so that no other has to be looked at.
     routers: Vec<RouterId>,
@@ -98,9 +107,9 @@ impl Model for Found {
 
     ghost Value = { FoundWays };
 
-    ghost view = { λ f. found_view f.spans f.ways.items };
+    ghost view = { λ f. found_view f.spans.items f.ways.items };
 
-    ghost invariant = { λ f. AreKept f.spans f.ways.items f.routers.items };
+    ghost invariant = { λ f. AreKept f.spans.items f.ways.items f.routers.items };
 }
 
 impl Found {
@@ -109,13 +118,13 @@ impl Found {
         ensures { (router : ℕ) → found_at result router ≡ None }
     {
         Found {
-            spans: [None; ROUTER_LIMIT],
+            spans: Vec::new(alloc),
             ways: Vec::new(alloc),
             routers: Vec::new(alloc),
         }
     }
 
-    /// Forgets all of them.
+    /// Forgets all of them; its room in memory is kept.
     pub(crate) fn clear(&mut self)
         ensures { (router : ℕ) → found_at self.new router ≡ None }
     {
@@ -124,10 +133,16 @@ impl Found {
         self.ways.clear();
     }
 
+    /// For how many routers there is room: all of the network, from the first on whose ways are asked for.
+    pub(crate) fn room(&self) -> usize
+        ensures { result ≡ length self.now }
+    {
+        self.spans.len()
+    }
+
     /// The routers whose ways were found.
     pub(crate) fn routers(&self) -> &[RouterId]
-        ensures these { (router : ℕ) → covers self.now router ≡ is_one_of result.now router }
-        ensures few { AreFew result.now }
+        ensures { (router : ℕ) → covers self.now router ≡ is_one_of result.now router }
     {
         &self.routers
     }
@@ -136,20 +151,28 @@ impl Found {
     pub(crate) fn covers(&self, router: RouterId) -> bool
         ensures { result ≡ covers self.now router.0 }
     {
-        match self.spans.get(router.0 as usize) {
-            Some(span) => span.is_some(),
-            None => false,
-        }
+        span_of(&self.spans, router).is_some()
     }
 
     /// Those of a router; none where they weren't found.
     pub(crate) fn ways(&self, router: RouterId) -> &[Alternative]
         ensures { map alternative_view result.now ≡ unwrap_or (found_at self.now router.0) [] }
     {
-        match self.spans.get(router.0 as usize) {
-            Some(Some(span)) => part(&self.ways, *span),
-            _ => &[],
+        match span_of(&self.spans, router) {
+            Some(span) => part(&self.ways, span),
+            None => &[],
         }
+    }
+
+    // Makes room for so many routers, unless there is.
+    fn make_room(&mut self, count: usize) -> Result<(), AllocError>
+        ensures room { OnOk result (count ≤ length self.new) }
+        ensures found { (router : ℕ) → found_at self.new router ≡ found_at self.old router }
+    {
+        if self.spans.len() < count {
+            self.spans.resize(count, None)?;
+        }
+        Ok(())
     }
 
     // Finds those of one router, and lists the routers to which they lead.
@@ -162,8 +185,10 @@ impl Found {
         list: &mut Vec<RouterId>,
     ) -> Result<(), AllocError>
         requires router { router.0 < length state.now.routers }
+        requires room { length state.now.routers ≤ length self.old }
         requires tables { ForSome tables.old (AreFilters state.now.routers) }
         ensures tables { ForSome tables.new (AreFilters state.now.routers) }
+        ensures room { length self.new ≡ length self.old }
         ensures found { OnOk result (found_at self.new router.0 ≡ Some (ways_out state.now packet router.0)) }
         ensures others { OnOk result ((other : ℕ) → other ≢ router.0 → found_at self.new other ≡ found_at self.old other) }
         ensures kept { (place : ℕ) (router : RouterId) → slice_get list.old.items place ≡ Some router
@@ -172,7 +197,6 @@ impl Found {
             (λ way. GoesTo (IsListedOrNone (length state.now.routers) list.new.items) way.outcome)
             (ways_out state.now packet router.0)) }
     {
-        let _routers = state.network().routers();
         let from = self.ways.len();
         push_ways(state, router, packet, tables, &mut self.ways, list)?;
         let to = self.ways.len();
@@ -190,11 +214,13 @@ impl Found {
         tables: &mut Option<FilterTables>,
         list: &mut Vec<RouterId>,
     ) -> Result<(), AllocError>
+        requires room { length state.now.routers ≤ length self.old }
         requires ways { AreWays state.now packet self.old }
         requires leads { LeadTo state.now packet
             (IsCoveredOrListed (length state.now.routers) list.old.items self.old) self.old }
         requires tables { ForSome tables.old (AreFilters state.now.routers) }
         ensures tables { ForSome tables.new (AreFilters state.now.routers) }
+        ensures room { length self.new ≡ length self.old }
         ensures ways { OnOk result (AreWays state.now packet self.new) }
         ensures leads { OnOk result (LeadTo state.now packet
             (IsCoveredOrListed (length state.now.routers) list.new.items self.new) self.new) }
@@ -223,10 +249,13 @@ impl Found {
         tables: &mut Option<FilterTables>,
         list: Vec<RouterId>,
     ) -> Result<(), AllocError>
+        requires room { length state.now.routers ≤ length self.old }
         requires found { IsFoundTo state.now packet self.old }
         requires tables { ForSome tables.old (AreFilters state.now.routers) }
         ensures tables { ForSome tables.new (AreFilters state.now.routers) }
         ensures found { OnOk result (IsFoundTo state.now packet self.new) }
+        ensures more { OnOk result ((other : ℕ) → covers self.old other ≡ true
+            → covers self.new other ≡ true) }
         ensures listed { OnOk result ((router : ℕ) → IsListed list.items router
             → IsCoveredOrNone (length state.now.routers) self.new router) }
     {
@@ -257,9 +286,13 @@ impl Found {
         requires tables { ForSome tables.old (AreFilters state.now.routers) }
         ensures tables { ForSome tables.new (AreFilters state.now.routers) }
         ensures found { OnOk result (IsFoundTo state.now packet self.new) }
+        ensures more { OnOk result ((other : ℕ) → covers self.old other ≡ true
+            → covers self.new other ≡ true) }
         ensures included { OnOk result
             (IsCoveredOrNone (length state.now.routers) self.new router.0) }
     {
+        let count = state.network().routers().len();
+        self.make_room(count)?;
         let mut list = Vec::new(alloc);
         list.push(router)?;
         self.find_all(state, packet, tables, list)

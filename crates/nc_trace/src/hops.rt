@@ -8,10 +8,10 @@ ghost use Rattle.nc_trace.specs.Views.{alternative_view, outcome_view};
 ghost use Rattle.nc_underlay.specs.Distances.{fewest_of, AreFewest};
 
 use crate::alternative::{Alternative, Outcome};
-use nc_types::{HOP_LIMIT, ROUTER_LIMIT, RouterId};
+use nc_types::{HOP_LIMIT, RouterId};
 
 /// Whether the number of a router is no greater than these hops.
-pub(crate) fn is_within(fewest: &[u8; ROUTER_LIMIT], router: RouterId, hops: u8) -> bool
+pub(crate) fn is_within(fewest: &[u8], router: RouterId, hops: u8) -> bool
     requires { hops ≤ HOP_LIMIT }
     ensures { result ≡ nat_le (fewest_of fewest.now router.0) hops }
 {
@@ -22,7 +22,7 @@ pub(crate) fn is_within(fewest: &[u8; ROUTER_LIMIT], router: RouterId, hops: u8)
 }
 
 /// Whether a packet arrives by a way over at most so many hops, the one by the way counted.
-pub(crate) fn leads_on(fewest: &[u8; ROUTER_LIMIT], outcome: Outcome, hops: u8) -> bool
+pub(crate) fn leads_on(fewest: &[u8], outcome: Outcome, hops: u8) -> bool
     requires { hops ≤ HOP_LIMIT }
     ensures { (over : ℕ → ℕ → ℕ → Bool) (addr : ℕ) → AreFewest (λ hops router. over hops router addr) fewest.now
         → result ≡ arrives_by (goes_on over addr hops) (outcome_view outcome) }

@@ -10,7 +10,8 @@
 //! [`FlowTo`] for one source and destination, for each router that was included in it and all routers to which ways
 //! lead from there, so that each further question of them is one look: of each router its ways, which lie one behind
 //! the other in one vector, and counts of hops. So each never holds more than the ways of [`nc_types::ROUTER_LIMIT`]
-//! routers; [`FlowTo`] has the tables of the network's access lists besides. Those two count hops by going through the
+//! routers, and nothing before a router is included, which is what makes its room; where memory runs out, none is
+//! included. [`FlowTo`] has the tables of the network's access lists besides. Those two count hops by going through the
 //! routers that were included, and the functions by levels of all routers, without memory; both by the same code for
 //! each kind of packet. [`alternatives`], [`TracedTo`] and [`FlowTo`] alone take memory, for their lists and tables.
 #![tactic(auto)]

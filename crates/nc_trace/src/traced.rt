@@ -1,22 +1,22 @@
 //! What is found of one address, from routers that are included.
 
-ghost use Rattle.std.specs.Prelude.{◌≡◌, ◌≤◌, ℕ, OnOk, map};
+ghost use Rattle.std.specs.Prelude.{◌≡◌, ◌≤◌, ℕ, OnErr, OnOk, map};
 ghost use Rattle.nc_types.specs.declared.TheConstants.{HOP_LIMIT};
 ghost use Rattle.nc_tables.specs.Forwarding.{alternatives, traces, all_trace, step_at};
 ghost use Rattle.nc_tables.specs.State.{StateView, IsState};
 ghost use Rattle.nc_trace.specs.Found.{IsFoundTo};
 ghost use Rattle.nc_trace.specs.Packets.{anywhere};
-ghost use Rattle.nc_trace.specs.Traced.{IsIncluded, IsTracedTo};
+ghost use Rattle.nc_trace.specs.Traced.{IncludesNone, IsIncluded, IsTracedTo};
 ghost use Rattle.nc_trace.specs.Views.{alternative_view};
 
 use crate::alternative::Alternative;
 use crate::counting::count_hops;
 use crate::found::Found;
 use crate::hops::{is_within, leads_on, outcome_in};
-use crate::levels::{NEVER, Question, asked_of};
+use crate::levels::{Question, asked_of};
 use crate::packet::{By, Packet};
 use nc_tables::Stable;
-use nc_types::{Addr, HOP_LIMIT, ROUTER_LIMIT, RouterId};
+use nc_types::{Addr, HOP_LIMIT, RouterId};
 use std::alloc::{AllocError, Global};
 use std::marker::Model;
 
@@ -27,8 +27,8 @@ use std::marker::Model;
 pub struct TracedTo {
     alloc: Global,
     found: Found,
-    some: [u8; ROUTER_LIMIT],
-    each: [u8; ROUTER_LIMIT],
+    some: Vec<u8>,
+    each: Vec<u8>,
 }
 
 impl Model for TracedTo {
@@ -36,31 +36,33 @@ impl Model for TracedTo {
 
     ghost Value = { Traced };
 
-    ghost view = { λ t. record { found = t.found; some = t.some; each = t.each } };
+    ghost view = { λ t. record { found = t.found; some = t.some.items; each = t.each.items } };
 }
 
 impl TracedTo {
     /// No router is included yet; so it is right for any address, in any state whose network is valid. Takes no
     /// memory; `alloc` is for what is included.
     pub fn new(alloc: Global) -> TracedTo
-        ensures { (s : StateView) (addr : ℕ) → IsState s → IsTracedTo s addr result }
+        ensures traced { (s : StateView) (addr : ℕ) → IsState s → IsTracedTo s addr result }
+        ensures none { IncludesNone result }
     {
         TracedTo {
             alloc,
             found: Found::new(alloc),
-            some: [NEVER; ROUTER_LIMIT],
-            each: [NEVER; ROUTER_LIMIT],
+            some: Vec::new(alloc),
+            each: Vec::new(alloc),
         }
     }
 
     /// Lets go of all routers; its room in memory is kept for another address.
     #[inline(never)]
     pub fn clear(&mut self)
-        ensures { (s : StateView) (addr : ℕ) → IsState s → IsTracedTo s addr self.new }
+        ensures traced { (s : StateView) (addr : ℕ) → IsState s → IsTracedTo s addr self.new }
+        ensures none { IncludesNone self.new }
     {
         self.found.clear();
-        self.some = [NEVER; ROUTER_LIMIT];
-        self.each = [NEVER; ROUTER_LIMIT];
+        self.some.clear();
+        self.each.clear();
     }
 
     /// Includes a router and all routers to which ways lead from it. Of those that weren't included before it finds
@@ -79,6 +81,9 @@ impl TracedTo {
         requires { IsTracedTo state.now addr.0 self.old }
         ensures traced { IsTracedTo state.now addr.0 self.new }
         ensures included { OnOk result (IsIncluded state.now self.new router.0) }
+        ensures kept { OnOk result ((other : ℕ) → IsIncluded state.now self.old other
+            → IsIncluded state.now self.new other) }
+        ensures none { OnErr result (IncludesNone self.new) }
     {
         if self.found.covers(router) {
             return Ok(());
@@ -98,21 +103,13 @@ impl TracedTo {
         requires { IsTracedTo state.now addr.0 self.old }
         ensures traced { IsTracedTo state.now addr.0 self.new }
         ensures included { OnOk result (IsIncluded state.now self.new router.0) }
+        ensures kept { OnOk result ((other : ℕ) → IsIncluded state.now self.old other
+            → IsIncluded state.now self.new other) }
+        ensures none { OnErr result (IncludesNone self.new) }
     {
         let _state = state.network();
-        let mut none = None;
-        let packet = Packet {
-            from: None,
-            to: addr,
-        };
-        match self
-            .found
-            .include(self.alloc, state, packet, &mut none, router)
-        {
-            Ok(()) => {
-                self.count(state, addr);
-                Ok(())
-            }
+        match self.find(state, addr, router) {
+            Ok(()) => Ok(()),
             Err(error) => {
                 self.clear();
                 Err(error)
@@ -120,22 +117,40 @@ impl TracedTo {
         }
     }
 
+    // Finds the ways of a router and of all to which they lead, and counts the hops from all that are included.
+    fn find(&mut self, state: &Stable, addr: Addr, router: RouterId) -> Result<(), AllocError>
+        requires { IsTracedTo state.now addr.0 self.old }
+        ensures traced { OnOk result (IsTracedTo state.now addr.0 self.new) }
+        ensures included { OnOk result (IsIncluded state.now self.new router.0) }
+        ensures kept { OnOk result ((other : ℕ) → IsIncluded state.now self.old other
+            → IsIncluded state.now self.new other) }
+    {
+        let mut none = None;
+        let packet = Packet {
+            from: None,
+            to: addr,
+        };
+        self.found
+            .include(self.alloc, state, packet, &mut none, router)?;
+        self.count(state, addr)?;
+        Ok(())
+    }
+
     // Counts the hops from all routers that are included.
-    fn count(&mut self, state: &Stable, addr: Addr)
+    fn count(&mut self, state: &Stable, addr: Addr) -> Result<(), AllocError>
         requires { IsFoundTo state.now (anywhere addr.0) self.old.found }
-        ensures traced { IsTracedTo state.now addr.0 self.new }
+        ensures traced { OnOk result (IsTracedTo state.now addr.0 self.new) }
         ensures found { self.new.found ≡ self.old.found }
     {
         let _state = state.network();
         let asked = asked_of(state, addr, By::SomeWay);
-        let some = count_hops(asked, &self.found);
+        count_hops(asked, &self.found, &mut self.some)?;
         let asked = Question {
             by: By::EachWay,
             ..asked
         };
-        let each = count_hops(asked, &self.found);
-        self.some = some;
-        self.each = each;
+        count_hops(asked, &self.found, &mut self.each)?;
+        Ok(())
     }
 
     /// The ways out of a router that is included, in order; none where there is no such router.

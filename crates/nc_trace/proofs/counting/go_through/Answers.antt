@@ -9,11 +9,6 @@ lower-requires-clause-this c =
     let last = c.in-Some.router.now in
     c.routers.invariant.these last.0 (is_here c.routers.left.now c.in-Some.before.now last c.in-Some.ensures.cases.0)
 
-pub lower-requires-clause-within : goal.lower-requires-clause-within
-lower-requires-clause-within c =
-    let last = c.in-Some.router.now in
-    c.routers-left.ensures.few last.0 (sym (c.routers-left.ensures.these last.0) ∙ c.routers.invariant.these last.0 (is_here c.routers.left.now c.in-Some.before.now last c.in-Some.ensures.cases.0))
-
 pub routers-preserved : goal.routers-preserved
 routers-preserved c =
     let asked = c.args.asked in

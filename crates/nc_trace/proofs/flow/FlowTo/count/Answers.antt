@@ -13,6 +13,6 @@ returns-clause-flow c =
     record {
       found = c.requires.found;
       none = λ router past. none_there s c.network-state.ensures.state router past c.args.to.0;
-      fewest = counted s asked.state.now (Filtered c.args.from) asked.by c.args.to.0 asked.addr.0 c.args.self.now.found c.count_hops-self.result is.state is.by (ap (λ (a : Addr). a.0) is.addr) c.count_hops-self.ensures;
+      fewest = counted s asked.state.now (Filtered c.args.from) asked.by c.args.to.0 asked.addr.0 c.args.self.now.found c.count_hops.new.fewest.items is.state is.by (ap (λ (a : Addr). a.0) is.addr) c.in_ok-count_hops.ensures;
       tables = c.requires.tables;
     }

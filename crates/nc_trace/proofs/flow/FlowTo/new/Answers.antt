@@ -1,13 +1,18 @@
+use Rattle.std.proofs.Common.{ap}
+use Rattle.std.specs.Option.{is_some}
 use Rattle.nc_trace.specs.declared.packet.By.TheVariants.{Filtered}
 use Rattle.nc_trace.specs.Packets.{between}
 use Rattle.nc_trace.proofs.Beyond.{none_there}
 use Rattle.nc_trace.proofs.Tracing.{never_fewest, none_found}
 use Rattle.nc_trace.proofs.flow.FlowTo.new.Goals as goal
 
-pub returns : goal.returns
-returns c s from to is = record {
+pub returns-clause-flow : goal.returns-clause-flow
+returns-clause-flow c s from to is = record {
   found = none_found s to c.new.result c.new.ensures (between from to);
   none = λ router past. none_there s is router past to;
-  fewest = never_fewest s to c.new.result c.new.ensures (Filtered (record { 0 = from })) 256;
+  fewest = never_fewest s to c.new.result c.new.ensures (Filtered (record { 0 = from })) c.new-2.result.items c.new-2.ensures.items;
   tables = λ tables e. absurd cc;
 }
+
+pub returns-clause-none : goal.returns-clause-none
+returns-clause-none c router = ap is_some (c.new.ensures router)

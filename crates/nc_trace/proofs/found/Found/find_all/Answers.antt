@@ -12,11 +12,13 @@ routers-init c =
     let count = length c.args.state.now.routers in
     let found = c.args.self.now in
     record {
+      room = c.requires.room;
       ways = c.requires.found.ways;
       tables = c.requires.tables;
       leads = λ router there k d lt. goes_more (IsCoveredOrNone count found) (IsCoveredOrListed count c.args.list.items found) (λ next is. inl is) (slice_index_or (ways_out c.args.state.now c.args.packet router) k d).outcome
           (leads_by c.args.state.now c.args.packet found c.requires.found.closed router there k d lt);
       done = λ place lt. absurd (omega (arith, lt));
+      more = λ other there. there;
       kept = λ place router e. e;
     }
 
@@ -46,6 +48,7 @@ routers-preserved c =
     let here : c.routers.place < length before = omega (arith, c.len.ensures, c.routers.list.ok.0, c.if-place-len.false) in
     let at : slice_get before c.routers.place ≡ Some c.index.result.now = slice_get-get_or before c.routers.place c.index.result.now here ∙ ap Some (sym c.index.ensures) in
     record {
+      room = omega (arith, c.find_next.ensures.room, c.routers.invariant.room);
       ways = done.ways;
       tables = c.find_next.ensures.tables;
       leads = done.leads;
@@ -55,5 +58,6 @@ routers-preserved c =
             let this : c.routers.place ≡ place = omega (arith, le, lt) in
             subst (IsDone count after c.find_next.new.self) this (record { router = c.index.result.now; at = c.find_next.ensures.kept c.routers.place c.index.result.now at; covered = done.done })
       ];
+      more = λ other there. done.more other (c.routers.invariant.more other there);
       kept = λ place router e. c.find_next.ensures.kept place router (c.routers.invariant.kept place router e);
     }

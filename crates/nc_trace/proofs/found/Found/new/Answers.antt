@@ -1,14 +1,9 @@
-use Rattle.std.proofs.Common.{sym, ◌∙◌}
-use Rattle.nc_trace.proofs.Finding.{none_found, none_listed, none_within}
-use Rattle.nc_trace.proofs.Listing.{none_few, not_one}
+use Rattle.nc_trace.proofs.Finding.{no_span, none_found}
+use Rattle.nc_trace.proofs.Listing.{none_kept}
 use Rattle.nc_trace.proofs.found.Found.new.Goals as goal
 
 pub invariant_of-result : goal.invariant_of-result
-invariant_of-result c = record {
-  within = none_within 256 c.new.result.items;
-  listed = λ router. none_listed 256 router ∙ sym (not_one c.new-2.result.items c.new-2.ensures.items router);
-  few = none_few c.new-2.result.items c.new-2.ensures.items;
-}
+invariant_of-result c = none_kept c.new.result.items c.new-2.result.items c.new-3.result.items (no_span c.new.result.items c.new.ensures.items) c.new-3.ensures.items
 
 pub returns : goal.returns
-returns c router = none_found 256 c.new.result.items router
+returns c router = none_found c.new.result.items c.new-2.result.items c.new.ensures.items router

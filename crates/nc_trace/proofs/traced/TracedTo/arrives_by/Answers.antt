@@ -1,4 +1,4 @@
-use Rattle.std.proofs.Common.{◌≤◌, List, [], slice_get, sym, ap, subst, ◌∙◌, arith}
+use Rattle.std.proofs.Common.{ℕ, ◌≤◌, List, [], slice_get, sym, ap, subst, ◌∙◌, arith}
 use Rattle.std.specs.Option.{option_map, unwrap_or}
 use Rattle.nc_types.specs.declared.TheConstants.{HOP_LIMIT}
 use Rattle.nc_tables.specs.Forwarding.{Alternative}
@@ -17,7 +17,9 @@ returns-in-Some c s addr is included =
     let few : c.args.hops ≤ HOP_LIMIT = omega (arith, c.if-hops-gt-HOP_LIMIT.false) in
     let ways = c.ways.ensures ∙ ap (λ (x : Traced). unwrap_or (found_at x.found router) []) c.self.view_is ∙ ways_told s SomeWay addr is.none t.found is.found router included in
     let there = c.in-Some.ensures ∙ ap (λ (ws : List Alternative). option_map (λ (way : Alternative). way.outcome) (slice_get ws c.args.place)) ways in
-    c.leads_on.ensures (counts s SomeWay addr is.none t.found is.found router included) addr (subst (λ (x : Traced). distances.AreFewest (λ hops next. counts s SomeWay addr is.none t.found is.found router included hops next addr) x.some) (sym c.self.view_is) is.some)
+    let over = λ (hops next : ℕ). counts s SomeWay addr is.none t.found is.found router included hops next addr in
+    c.leads_on.ensures (counts s SomeWay addr is.none t.found is.found router included) addr
+    (subst (distances.AreFewest over) (sym c.deref.ensures.value) (subst (λ (x : Traced). distances.AreFewest over x.some) (sym c.self.view_is) is.some))
     ∙ step_told s SomeWay addr is.none t.found is.found router included c.args.place c.args.hops few (outcome_view c.in-Some.outcome) there
 
 pub returns-in-None : goal.returns-in-None

@@ -1,4 +1,4 @@
 use Rattle.nc_trace.proofs.traced.TracedTo.include_new.Goals as goal
 
-pub returns-clause-traced : goal.returns-clause-traced
-returns-clause-traced c = c.clear.ensures c.args.state.now c.args.addr.0 c.network-state.ensures.state
+pub returns-in-Err-clause-traced : goal.returns-in-Err-clause-traced
+returns-in-Err-clause-traced c = c.clear.ensures.traced c.args.state.now c.args.addr.0 c.network-state.ensures.state

@@ -1,7 +1,7 @@
 use Rattle.std.proofs.Common.{◌≡◌, ◌+◌, false, cond}
 use Rattle.std.specs.List.{sum_by}
 use Rattle.nc_trace.specs.Counting.{AreBacked, AreLeast}
-use Rattle.nc_trace.proofs.counting.count_hops.Given as goal
+use Rattle.nc_trace.proofs.counting.lower_all.Given as goal
 
 abbrev pub invariant-times : goal.invariant-times
 invariant-times l = record {
