@@ -1,0 +1,244 @@
+"""What a crate shows to the crates above it, as the prover has it there: its public contracts, and the definitions that
+these name.
+
+A crate above is proved over the contracts of the crates below it and never over their bodies. So what is left out here
+can change below a crate without any effect on what the prover says of it: bodies, private functions, private fields
+with the views and invariants of their types, definitions that no public contract leads to, and comments.
+"""
+import functools
+import glob
+import os
+import re
+
+ROOT = os.path.dirname(os.path.dirname(os.path.realpath(__file__)))
+SKIPPED = re.compile(r"//[^\n]*|\"(?:\\.|[^\"\\])*\"|'(?:\\.[^']*|[^'\\\n])'", re.S)
+CLAUSE = re.compile(r"\b(?:requires|ensures)(?:\s+\w+)?\s*$")
+ATTRIBUTES = r"(?:#\s*!?\[[^\]]*\]\s*)*"
+FUNCTION = re.compile(ATTRIBUTES + r"(?:pub(?:\([^)]*\))?\s+)?(?:const\s+)?fn\b")
+TYPE = re.compile(ATTRIBUTES + r"pub (?:struct|enum) (\w+)")
+HIDDEN = re.compile(ATTRIBUTES + r"(?:pub\([^)]*\) )?(?:struct|enum) (\w+)")
+DEFINITIONS = re.compile(r"Rattle\.(nc_\w+)\.specs\.(\w+(?:\.\w+)*)")
+CONSTANT = re.compile(ATTRIBUTES + r"(?:pub\([^)]*\) )?const (\w+)")
+IMPORT = re.compile(r"ghost use Rattle\.nc_\w+\.specs\.[\w.]+?(?:\.\{([^}]*)\}| as (\w+))\s*;")
+
+
+@functools.cache
+def read(file):
+    """Returns the text of a file."""
+    with open(file, encoding="utf-8") as it:
+        return it.read()
+
+
+def blanked(text):
+    """Returns a text of the same length in which comments, and the braces inside strings and characters, are blank.
+
+    >>> blanked('a // {\\nb "{" c')
+    'a     \\nb "_" c'
+    """
+    def blank(found):
+        word = found.group()
+        return re.sub(r"[^\n]", " ", word) if word.startswith("//") else re.sub(r"[{}();]", "_", word)
+    return SKIPPED.sub(blank, text)
+
+
+def end_of(text, start):
+    """Returns where the item ends that starts at a place: behind its body, or behind its semicolon.
+
+    >>> end_of('fn a() ensures x { y } { z } fn b', 0)
+    28
+    >>> end_of('use a::{b}; use c;', 0)
+    11
+    """
+    depth, since, is_clause = 0, start, False
+    for at in range(start, len(text)):
+        letter = text[at]
+        if letter == "{" and depth == 0:
+            is_clause = bool(CLAUSE.search(text[since:at]))
+        depth += (letter in "{([") - (letter in "})]")
+        if letter == ";" and depth == 0:
+            return at + 1
+        if letter == "}" and depth == 0:
+            since = at + 1
+            if not is_clause and not text[since:].lstrip().startswith(";"):
+                return since
+    return len(text)
+
+
+def items_of(text):
+    """Returns the items of a text that is blanked, one after another.
+
+    >>> items_of('use a; pub fn b() { c } struct D;')
+    ['use a;', 'pub fn b() { c }', 'struct D;']
+    """
+    items, at = [], 0
+    while text[at:].strip():
+        at += len(text[at:]) - len(text[at:].lstrip())
+        end = end_of(text, at)
+        items.append(text[at:end])
+        at = end
+    return items
+
+
+def body_of(item):
+    """Returns where the last block of an item starts, and what is inside it."""
+    depth = 0
+    for at in range(len(item) - 1, -1, -1):
+        depth += (item[at] == "}") - (item[at] == "{")
+        if depth == 0 and item[at] == "{":
+            return at, item[at + 1:item.rindex("}")]
+    return len(item), ""
+
+
+def fields_of(item):
+    """Returns the fields of a struct.
+
+    >>> fields_of('pub struct Pair<T> { pub first: Vec<(T, T)>, second: T, }')
+    ['pub first: Vec<(T, T)>', 'second: T']
+    >>> fields_of('pub struct Id(pub u32);')
+    ['pub u32']
+    """
+    inside = item[re.search(r"[{(]", item).start() + 1:max(item.rfind("}"), item.rfind(")"))] if re.search(r"[{(]", item) else ""
+    fields, depth, since = [], 0, 0
+    for at, letter in enumerate(inside + ","):
+        depth += (letter in "<([{") - (letter in ">)]}")
+        if letter == "," and depth == 0:
+            fields.append(inside[since:at].strip())
+            since = at + 1
+    return [it for it in fields if it]
+
+
+def is_open(item):
+    """Whether all that a type has is public: it is an enum, or each field of the struct is.
+
+    >>> is_open('#[derive(Drop)] pub struct Id(pub u32);'), is_open('pub struct Path { count: u16, }')
+    (True, False)
+    """
+    plain = re.sub(ATTRIBUTES, "", item)
+    return plain.startswith("pub enum") or all(it.startswith("pub ") for it in fields_of(plain))
+
+
+def shown_type(item):
+    """Returns what is seen of a type: all of it, or where it has a private field no more than its name."""
+    return item if is_open(item) else item[:TYPE.match(item).end()]
+
+
+def shown_impl(item, opened):
+    """Returns what is seen of an impl: of a trait the signatures and what stands for the prover, else what is public.
+
+    >>> shown_impl('impl Model for A { ghost Value = { V }; ghost view = { v }; }', set())
+    'impl Model for A ghost Value = { V };'
+    >>> shown_impl('impl A { fn b(); }', set())
+    ''
+    """
+    start, inside = body_of(item)
+    head = item[:start]
+    rows = [it for it in items_of(inside) if not it.startswith("ghost use")]
+    model = re.search(r"\bModel for (\w+)", head)
+    if model and model.group(1) not in opened:
+        rows = [it for it in rows if it.startswith("ghost Value")]
+    elif " for " not in head:
+        rows = [it for it in rows if re.match(ATTRIBUTES + r"pub (?!\()", it)]
+    seen = " ".join(it[:body_of(it)[0]] if FUNCTION.match(it) else it for it in rows)
+    return head + seen if seen else ""
+
+
+def shown_item(item, opened):
+    """Returns what is seen above of an item.
+
+    >>> shown_item('pub fn a() ensures { b } { c }', set())
+    'pub fn a() ensures { b } '
+    >>> shown_item('fn a() { c }', set())
+    ''
+    """
+    if TYPE.match(item):
+        return shown_type(item)
+    if re.match(ATTRIBUTES + r"impl\b", item):
+        return shown_impl(item, opened)
+    if FUNCTION.match(item):
+        return item[:body_of(item)[0]] if re.match(ATTRIBUTES + r"pub (?!\()", item) else ""
+    return item if re.match(ATTRIBUTES + r"(?:pub (?!\()|macro_rules)", item) else ""
+
+
+def named_in(shown, imports):
+    """Returns the imports of which the shown text has a name."""
+    words = set(re.findall(r"[\w◌≡]+", shown))
+    found = []
+    for line in imports:
+        names, alias = IMPORT.match(line).groups()
+        if alias in words or any(it in words or "◌" in it for it in re.findall(r"[^\s,]+", names or "")):
+            found.append(line)
+    return found
+
+
+def constants_in(name, items, seen):
+    """Returns the private constants that the shown text or a definition of the crate names."""
+    found = []
+    for item in items:
+        constant = CONSTANT.match(item)
+        if constant and re.search(rf"\b{constant.group(1)}\b", seen + constants_named(name)):
+            found.append(" ".join(item.split()))
+    return found
+
+
+@functools.cache
+def constants_named(name):
+    """Returns the lines by which the definitions of a crate import constants of its code."""
+    texts = map(read, sorted(glob.glob(f"{ROOT}/crates/{name}/specs/**/*.antt", recursive=True)))
+    return "\n".join(line for text in texts for line in text.split("\n") if "TheConstants" in line)
+
+
+def without(hidden, items):
+    """Returns the items but those of types that only their crate knows.
+
+    >>> without({'A'}, ['struct A;', 'impl Model for A { }', 'pub struct B;', 'impl Model for B { }'])
+    ['pub struct B;', 'impl Model for B { }']
+    """
+    of_hidden = re.compile(ATTRIBUTES + rf"impl\b[^{{]*\bfor (?:{'|'.join(sorted(hidden)) or '!'})\b")
+    return [it for it in items if not HIDDEN.match(it) and not of_hidden.match(it)]
+
+
+def shown_in(name, items):
+    """Returns what is seen above of the items of a file, and of its imports what that names."""
+    opened = {TYPE.match(it).group(1) for it in items if TYPE.match(it) and is_open(it)}
+    seen = " ".join(" ".join(shown_item(it, opened) for it in items).split())
+    inside = [row for it in items if re.match(ATTRIBUTES + r"impl\b", it) for row in items_of(body_of(it)[1])]
+    imports = sorted({" ".join(it.split()) for it in items + inside if IMPORT.match(it)})
+    return [seen] * bool(seen) + constants_in(name, items, seen) + named_in(seen, imports)
+
+
+@functools.cache
+def shown(name):
+    """Returns what is seen above of the code of a crate."""
+    files = sorted(glob.glob(f"{ROOT}/crates/{name}/src/**/*.rt", recursive=True))
+    code = {file: items_of(blanked(read(file))) for file in files}
+    hidden = {HIDDEN.match(it).group(1) for items in code.values() for it in items if HIDDEN.match(it)}
+    parts = []
+    for file, items in code.items():
+        rows = shown_in(name, without(hidden, items))
+        parts += [os.path.relpath(file, ROOT), *rows] if rows else []
+    return "\n".join(parts)
+
+
+@functools.cache
+def definitions_in(text):
+    """Returns the files of definitions that a text imports."""
+    found = set()
+    for crate, path in DEFINITIONS.findall(text):
+        words = path.split(".")
+        for count in range(len(words), 0, -1):
+            file = f"{ROOT}/crates/{crate}/specs/{'/'.join(words[:count])}.antt"
+            if os.path.isfile(file):
+                found.add(file)
+                break
+    return frozenset(found)
+
+
+def reached(texts):
+    """Returns the files of definitions that texts import, with those that these stand on."""
+    left, found = [file for it in texts for file in definitions_in(it)], set()
+    while left:
+        file = left.pop()
+        if file not in found:
+            found.add(file)
+            left += definitions_in(read(file))
+    return sorted(found)
