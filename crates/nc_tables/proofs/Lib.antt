@@ -18,6 +18,8 @@ pub mod Ordered
 pub mod Owner
 mod ByLevels
 pub mod SamePath
+mod Remainders
+mod PieceBits
 pub mod SameTables
 pub mod NoRoutes
 pub mod Settled

@@ -1,4 +1,5 @@
 pub mod Order
+pub mod SystemBits
 pub mod Pieces
 pub mod Base
 pub mod Longest

@@ -6,24 +6,25 @@ use Rattle.std.specs.Global.{Global}
 use Rattle.nc_types.specs.declared.TheConstants.{PATH_LIMIT}
 use Rattle.nc_tables.specs.declared.path.TheConstants.{PIECE_LEN}
 use Rattle.nc_tables.specs.declared.path.Piece.{Piece, Piece', Held-Piece-rest, None', Some'}
+use Rattle.nc_tables.specs.SystemBits.{AreBitsOf}
 
 -- the numbers of a piece alone
 abbrev pub own_numbers : Piece → List ℕ
-own_numbers (Piece' numbers rest) = numbers
+own_numbers (Piece' numbers bits rest) = numbers
 
 abbrev mutual
   -- the numbers of a piece, and those behind it
   pub piece_numbers : Piece → List ℕ
-  piece_numbers (Piece' numbers rest) = numbers ++ numbers_behind rest
+  piece_numbers (Piece' numbers bits rest) = numbers ++ numbers_behind rest
 
   pub numbers_behind : Held-Piece-rest → List ℕ
   numbers_behind None' = []
   numbers_behind (Some' p piece) = piece_numbers piece
 
 abbrev mutual
-  -- a piece is full, and so are those behind it
+  -- a piece is full, and so are those behind it; it has the bits of its numbers and of all behind them
   pub IsPiece : Piece → Type 0
-  IsPiece (Piece' numbers rest) = (length numbers ≡ PIECE_LEN) × ArePiecesBehind rest
+  IsPiece (Piece' numbers bits rest) = (length numbers ≡ PIECE_LEN) × ArePiecesBehind rest × AreBitsOf (numbers ++ numbers_behind rest) bits
 
   pub ArePiecesBehind : Held-Piece-rest → Type 0
   ArePiecesBehind None' = Unit {0}

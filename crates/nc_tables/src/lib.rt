@@ -27,6 +27,7 @@ mod ribs;
 mod routes;
 mod sessions;
 mod stable;
+mod system_bits;
 
 pub use base::{BaseFrom, BaseRow, BaseTables};
 pub use bgp::{

@@ -3,8 +3,10 @@
 ghost use Rattle.std.specs.Prelude.{◌≡◌, ◌↔◌, ◌≤◌, ◌<◌, ◌+◌, ◌++◌, ◌==◌, ◌∷◌, [], true, false, IsTrue, IfOk, drop, length, slice_get};
 ghost use Rattle.std.specs.List.{list_any};
 ghost use Rattle.nc_types.specs.declared.TheConstants.{PATH_LIMIT};
-ghost use Rattle.nc_tables.specs.Pieces.{own_numbers, shared_numbers, ArePieces};
+ghost use Rattle.nc_tables.specs.Pieces.{own_numbers, piece_numbers, shared_numbers, IsPiece, ArePieces};
+ghost use Rattle.nc_tables.specs.SystemBits.{AreBitsOf};
 
+use crate::system_bits::SystemBits;
 use std::alloc::{AllocError, Global};
 use std::marker::Model;
 use std::rc::Rc;
@@ -19,10 +21,27 @@ const PIECE_LEN: usize = 5;
 #[derive(Drop)]
 struct Piece {
     numbers: [u32; PIECE_LEN],
+    // Those of its numbers and of all behind them.
+    bits: SystemBits,
     rest: Option<Rc<Piece>>,
 }
 
 impl Piece {
+    // The piece of these numbers before those that a path shares with others.
+    fn before(numbers: [u32; PIECE_LEN], rest: Option<Rc<Piece>>) -> Piece
+        requires full { length numbers ≡ PIECE_LEN }
+        requires pieces { ArePieces rest }
+        ensures numbers { piece_numbers result ≡ numbers ++ shared_numbers rest }
+        ensures piece { IsPiece result }
+    {
+        let bits = shared_bits(&rest).with_all(&numbers);
+        Piece {
+            numbers,
+            bits,
+            rest,
+        }
+    }
+
     // Whether it has the same numbers, those behind it aside.
     fn is_like(&self, other: &Piece) -> bool
         ensures { IsTrue result ↔ (own_numbers self.now ≡ own_numbers other.now) }
@@ -166,10 +185,7 @@ impl Path {
                 rest: self.rest,
             });
         }
-        let piece = Piece {
-            numbers: self.numbers,
-            rest: self.rest,
-        };
+        let piece = Piece::before(self.numbers, self.rest);
         Ok(Path {
             numbers: [number; PIECE_LEN],
             start: PIECE_LEN as u16 - 1,
@@ -187,13 +203,28 @@ fn own(numbers: &[u32; PIECE_LEN], start: u16) -> &[u32]
     &numbers[start as usize..]
 }
 
-// Whether a number is among those that a path shares with others.
+// The bits of the numbers that a path shares with others.
+fn shared_bits(rest: &Option<Rc<Piece>>) -> SystemBits
+    requires { ArePieces rest.now }
+    ensures { AreBitsOf (shared_numbers rest.now) result }
+{
+    match rest {
+        None => SystemBits::none(),
+        Some(piece) => piece.bits,
+    }
+}
+
+// Whether a number is among those that a path shares with others. Mostly the bits of the first
+// piece tell that it isn't.
 fn is_among(rest: &Option<Rc<Piece>>, number: u32) -> bool
     requires { ArePieces rest.now }
     ensures { result ≡ list_any (λ n. n == number) (shared_numbers rest.now) }
 {
     let mut at = rest;
     'pieces: while let Some(piece) = at {
+        if !piece.bits.has(number) {
+            return false;
+        }
         if piece.numbers.contains(&number) {
             return true;
         }

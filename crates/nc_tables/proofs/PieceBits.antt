@@ -1,0 +1,28 @@
+-- The bits of pieces.
+use Rattle.std.proofs.Common.{◌≡◌, ◌==◌, ◌++◌, ℕ, List, false, Option, None, Some, refl, sym, ◌∙◌, length}
+use Rattle.std.specs.Global.{Global}
+use Rattle.std.specs.List.{list_any}
+use Rattle.std.specs.declared.rc.Rc.{Rc}
+use Rattle.nc_tables.specs.declared.path.TheConstants.{PIECE_LEN}
+use Rattle.nc_tables.specs.declared.path.Piece.{Piece, Piece', None', Some', out-Piece, roll-Piece}
+use Rattle.nc_tables.specs.declared.system_bits.SystemBits.{SystemBits}
+use Rattle.nc_tables.specs.Pieces.{piece_numbers, shared_numbers, IsPiece, ArePieces}
+use Rattle.nc_tables.specs.SystemBits.{has_bit, AreBitsOf}
+use Rattle.nc_tables.proofs.Remainders.{none_alike}
+
+-- a piece has the bits of its numbers and of all behind them
+pub bits_on : (a : Piece) → IsPiece a → AreBitsOf (piece_numbers a) (out-Piece a).bits
+unfolding out-Piece denote.Hole.Carrier.out
+bits_on (Piece' numbers bits None') is = is.2
+bits_on (Piece' numbers bits (Some' p piece)) is = is.2
+
+-- a number whose bit isn't set is neither in a piece nor behind it
+pub absent : (a : Piece) (number : ℕ) → IsPiece a → has_bit (out-Piece a).bits number ≡ false → list_any (λ n. n == number) (piece_numbers a) ≡ false
+absent a number is unset = none_alike number (piece_numbers a) (sym (bits_on a is number) ∙ unset)
+
+-- full numbers before pieces are a piece, with the bits of all of them
+pub made : (numbers : List ℕ) (bits : SystemBits) (rest : Option (Rc Piece Global)) → length numbers ≡ PIECE_LEN → ArePieces rest
+    → AreBitsOf (numbers ++ shared_numbers rest) bits → IsPiece (roll-Piece (record { numbers = numbers; bits = bits; rest = rest }))
+unfolding roll-Piece denote.Hole.Carrier.roll
+made numbers bits None full pieces has = (full, tt, has)
+made numbers bits (Some piece) full pieces has = (full, pieces piece refl, has)
