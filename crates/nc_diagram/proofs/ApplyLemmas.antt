@@ -13,7 +13,7 @@ use Rattle.nc_diagram.specs.declared.apply.Focus.TheVariants.{Work, Done}
 use Rattle.nc_diagram.specs.Sets.{Members, has, fixing, below, Same, IsLowestFixed}
 use Rattle.nc_diagram.specs.Diagrams.{Diagrams, Belongs, meaning, level, IsReduced, IsNode, Adds, Means, IsCrowded}
 use Rattle.nc_diagram.specs.Places.{Makes}
-use Rattle.nc_diagram.specs.Operations.{combined, joint, BothBelong, ordered, pair_eq, IsCofactor, IsTop, IsAnswer, Opens}
+use Rattle.nc_diagram.specs.Operations.{combined, joint, BothBelong, BothNodes, ordered, pair_eq, IsCofactor, IsTop, IsAnswer, BeginsLow, BeginsHigh, Opens}
 use Rattle.nc_diagram.proofs.SetLemmas.{length-below, IsLowestFixed-itself, IsLowestFixed-more}
 use Rattle.nc_diagram.proofs.DiagramLemmas.{meaning-newest}
 use Rattle.nc_diagram.proofs.Canonicity.{level-fixed}
@@ -226,6 +226,59 @@ module _ (operator : Operator) (f : Members → Bool) (old now : Diagrams) where
       sym ((keeps p.right b.1).1 s) ∙ is.right_value s ∙ (keeps p.right b.1).1 (fixing (below v (has s v)) s) in
       (λ i. combined operator (l i) (r i))
 
+  -- what a waiting frame of a pair of nodes has
+  set_of : Keeps old.nodes now.nodes → (p : Pair) → BothBelong old.nodes p → BothNodes p → (v : ℕ) → IsTop now.nodes p v → IsSet operator old.nodes p v
+  set_of keeps p b two v top = record { belong = b; narrow = top.narrow; some = omega (arith, two.0); top = top_old keeps p b v top }
+
+  -- a pair of nodes is begun by its low side
+  opened_low : (frames frames' : List Frame) (p low : Pair) → IsUnderway operator f old now frames (Work p) → BothNodes p → BeginsLow now.nodes p frames frames' low → IsUnderway operator f old now frames' (Work low) × (work_left frames' (Work low) < work_left frames (Work p))
+  opened_low frames frames' p low u two o =
+      let keeps = Keeps-adds f old now u.adds in
+      let v = o.0 in
+      let high = o.1 in
+      let b = o.2 in
+      let split = o.4 in
+      let low_side = side_old keeps p u.belongs v false low split.low in
+      let high_side = side_old keeps p u.belongs v true high split.high in
+      let some : 0 < p.left + p.right = omega (arith, two.0) in
+      let is : IsFrame operator old.nodes now.nodes (Low p v high b) =
+      (set_of keeps p u.belongs two v split.top, record { belong = high_side.0; older = split.high.older; value = high_side.1 }) in (
+        record {
+          adds = u.adds;
+          reduced = u.reduced;
+          belongs = low_side.0;
+          waits = subst (λ fs. Waits operator old.nodes now.nodes f fs (joint operator old.nodes low)) (sym o.3) (Waits-push operator old.nodes now.nodes f frames (Low p v high b) (joint operator old.nodes low) u.waits is low_side.1);
+        },
+        omega (arith, ap (sum_by weight_of) o.3, sum_by-push frames (Low p v high b), work-falls (p.left + p.right) some, work-positive (p.left + p.right - 1), work-mono (low.left + low.right) (p.left + p.right - 1) (omega (arith, split.low.older))),
+      )
+
+  -- a pair of nodes is begun by its high side, since one of its references decides the low one
+  opened_high : (frames frames' : List Frame) (p high : Pair) → IsUnderway operator f old now frames (Work p) → BothNodes p → BeginsHigh operator now.nodes p frames frames' high → IsUnderway operator f old now frames' (Work high) × (work_left frames' (Work high) < work_left frames (Work p))
+  opened_high frames frames' p high u two o =
+      let keeps = Keeps-adds f old now u.adds in
+      let v = o.0 in
+      let low = o.1 in
+      let r = o.2 in
+      let b = o.3 in
+      let split = o.5 in
+      let decided = o.6 in
+      let low_side = side_old keeps p u.belongs v false low split.low in
+      let high_side = side_old keeps p u.belongs v true high split.high in
+      let both = both-ordered old.nodes low low_side.0 in
+      let belongs : Belongs old.nodes r = elim decided.one_of_both [ inl e ↦ omega (arith, both.0) | inr e ↦ omega (arith, both.1) ] in
+      let k = keeps r belongs in
+      let some : 0 < p.left + p.right = omega (arith, two.0) in
+      let is : IsFrame operator old.nodes now.nodes (High p v r b) =
+      (set_of keeps p u.belongs two v split.top, record { belongs = k.0; value = λ s. k.1 s ∙ decided.value old.nodes s ∙ joint-ordered operator old.nodes low s ∙ low_side.1 s }) in (
+        record {
+          adds = u.adds;
+          reduced = u.reduced;
+          belongs = high_side.0;
+          waits = subst (λ fs. Waits operator old.nodes now.nodes f fs (joint operator old.nodes high)) (sym o.4) (Waits-push operator old.nodes now.nodes f frames (High p v r b) (joint operator old.nodes high) u.waits is high_side.1);
+        },
+        omega (arith, ap (sum_by weight_of) o.4, sum_by-push frames (High p v r b), work-falls (p.left + p.right) some, work-positive (p.left + p.right - 1), work-mono (high.left + high.right) (p.left + p.right - 1) (omega (arith, split.high.older))),
+      )
+
   -- a pair is begun
   opened_ordered : (frames frames' : List Frame) (p : Pair) (focus : Focus) → IsUnderway operator f old now frames (Work p) → Opens operator now.nodes p frames frames' focus → IsUnderway operator f old now frames' focus × (work_left frames' focus < work_left frames (Work p))
   opened_ordered frames frames' p (Done r) u o =
@@ -246,26 +299,11 @@ module _ (operator : Operator) (f : Members → Bool) (old now : Diagrams) where
         },
         omega (arith, ap (sum_by weight_of) o.0, work-positive (p.left + p.right)),
       )
-  opened_ordered frames frames' p (Work low) u o =
-      let keeps = Keeps-adds f old now u.adds in
-      let v = o.1.0 in
-      let high = o.1.1 in
-      let b = o.1.2 in
-      let split = o.1.4 in
-      let low_side = side_old keeps p u.belongs v false low split.low in
-      let high_side = side_old keeps p u.belongs v true high split.high in
-      let some : 0 < p.left + p.right = omega (arith, o.0.0) in
-      let frame : Frame = Low p v high b in
-      let is : IsFrame operator old.nodes now.nodes (Low p v high b) =
-      (record { belong = u.belongs; narrow = split.top.narrow; some = some; top = top_old keeps p u.belongs v split.top }, record { belong = high_side.0; older = split.high.older; value = high_side.1 }) in (
-        record {
-          adds = u.adds;
-          reduced = u.reduced;
-          belongs = low_side.0;
-          waits = subst (λ fs. Waits operator old.nodes now.nodes f fs (joint operator old.nodes low)) (sym o.1.3) (Waits-push operator old.nodes now.nodes f frames (Low p v high b) (joint operator old.nodes low) u.waits is low_side.1);
-        },
-        omega (arith, ap (sum_by weight_of) o.1.3, sum_by-push frames (Low p v high b), work-falls (p.left + p.right) some, work-positive (p.left + p.right - 1), work-mono (low.left + low.right) (p.left + p.right - 1) (omega (arith, split.low.older))),
-      )
+  opened_ordered frames frames' p (Work next) u o =
+      elim o.1 [
+        | inl low ↦ opened_low frames frames' p next u o.0 low
+        | inr high ↦ opened_high frames frames' p next u o.0 high
+      ]
 
   pub opened : (frames frames' : List Frame) (p : Pair) (focus : Focus) → IsUnderway operator f old now frames (Work p) → Opens operator now.nodes (ordered p) frames frames' focus → IsUnderway operator f old now frames' focus × (work_left frames' focus < work_left frames (Work p))
   opened frames frames' p focus u o =

@@ -9,3 +9,4 @@ pub mod CounterLemmas
 pub mod AllButLemmas
 pub mod RecentLemmas
 pub mod PartLemmas
+pub mod IndexLemmas

@@ -1,22 +1,15 @@
--- What the shared set of nodes says of diagrams: its keys, the oldest first, are the nodes in reverse.
-use Rattle.std.proofs.Common.{◌≡◌, ◌≢◌, ℕ, zero, suc, ◌+◌, ◌-◌, ◌<◌, Bool, true, false, List, [], ◌∷◌, ◌++◌, length, reverse, take, drop, get_or, slice_get, position, Some, Contains, refl, sym, ap, subst, ◌∙◌, inl, inr, arith, if◌then◌else◌, length-append, ◌==◌, ◌&&◌}
-use Rattle.nc_diagram.proofs.Canonicity.{same_node}
-use Rattle.std.specs.List.{list_any}
-use Rattle.std.specs.Cmp.{IsEquivalence}
-use Rattle.std.proofs.lemmas.Bool.{cases_lt, cases_Bool, true≢false, and_parts, eqb-true}
+-- What the nodes that are held say of diagrams: the oldest first, they are the nodes in reverse.
+use Rattle.std.proofs.Common.{◌≡◌, ◌≢◌, ℕ, zero, suc, ◌+◌, ◌-◌, ◌<◌, Bool, true, false, List, [], ◌∷◌, ◌++◌, length, reverse, take, drop, get_or, slice_get, Some, Contains, refl, sym, ap, subst, ◌∙◌, inl, inr, arith, if◌then◌else◌, length-append}
+use Rattle.std.proofs.lemmas.Bool.{cases_lt}
 use Rattle.std.proofs.lemmas.List.{reverse-append, reverse-reverse, get_or_append_left, get_or-append_right, get_or-reverse, length-reverse, take-append-drop, drop_at, length-drop}
-use Rattle.std.proofs.lemmas.List.Quantifiers.{position-Some}
 use Rattle.std.proofs.lemmas.Option.{slice_get_within, get_or_from_slice_get, slice_get-get_or}
-use Rattle.std.proofs.lemmas.Cmp.{and_equiv, on_equiv, nat_eq_equiv}
-use Rattle.std.proofs.lemmas.Map.Views.{list_any-from_Contains}
-use Rattle.indexmap.specs.IndexSet.{insert_key}
 use Rattle.nc_diagram.specs.declared.node.Node.{Node}
 use Rattle.nc_diagram.specs.Sets.{Members, has}
 use Rattle.nc_diagram.specs.Diagrams.{Diagrams, Belongs, meaning, level, IsNode, IsReduced, IsStore}
 use Rattle.nc_diagram.specs.Places.{node_at, Makes}
-use Rattle.nc_diagram.proofs.DiagramLemmas.{meaning-newest, node_at-newest, node_at-keep, node_at-unique, IsNodeAt-found}
+use Rattle.nc_diagram.proofs.DiagramLemmas.{meaning-newest, node_at-newest, node_at-keep, IsNodeAt-found}
 
--- the key at place k is the node of the reference k + 2
+-- the node at index k is that of the reference k + 2
 node_at-reversed : (nodes : List Node) (k : ℕ) (n : Node) → slice_get (reverse nodes) k ≡ Some n → node_at nodes (k + 2) ≡ Some n
 node_at-reversed [] k n h = absurd (cc)
 node_at-reversed (m ∷ older) k n h =
@@ -79,77 +72,38 @@ Makes-same d v r q o b e =
       value = λ s. elim (has s v) as (λ c. meaning d.nodes r s ≡ (if c then meaning d.nodes q s else meaning d.nodes r s)) [ true ↦ ap (λ p. meaning d.nodes p s) e | false ↦ refl ];
     }
 
-module _ (eq : Node → Node → Bool) (laws : IsEquivalence eq) (same : (x y : Node) → eq x y ≡ true → x ≡ y) where
-  -- a key that is not found is not among the nodes
-  pub fresh-keys : (ks : List Node) (n : Node) → list_any (eq n) ks ≡ false → Contains (reverse ks) n → ⊥
-  fresh-keys ks n none c =
+-- a node that isn't held isn't among the nodes
+fresh-held : (ks : List Node) (n : Node) → (Contains ks n → ⊥) → Contains (reverse ks) n → ⊥
+fresh-held ks n none c =
+    let count : length (reverse ks) ≡ length ks = length-reverse ks in
+    let short : c.0 < length ks = omega (arith, c.1) in
+    let read : get_or ks (length ks - 1 - c.0) n ≡ n = sym (get_or-reverse ks c.0 n short) ∙ c.2 in
+    none (length ks - 1 - c.0, omega arith, read)
+
+-- a node that is added: the diagrams stay reduced, and its place is made
+module _ (ks : List Node) (limit : ℕ) (n : Node) (store : IsStore (record { nodes = reverse ks; limit = limit }))
+    (low_older : Belongs (reverse ks) n.low) (high_older : Belongs (reverse ks) n.high)
+    (low_later : n.variable < level (reverse ks) n.low) (high_later : n.variable < level (reverse ks) n.high) (ends_differ : n.low ≢ n.high)
+    (none : Contains ks n → ⊥) where
+  pub IsNode-unfound : IsNode (reverse ks) n
+  IsNode-unfound = record { low_older = low_older; high_older = high_older; low_later = low_later; high_later = high_later; ends_differ = ends_differ; fresh = fresh-held ks n none }
+
+  grown : (later : List Node) → later ≡ ks ++ n ∷ [] → n ∷ reverse ks ≡ reverse later
+  grown later e = sym (ap reverse e ∙ reverse-append ks (n ∷ []))
+
+  pub IsStore-added : (later : List Node) → later ≡ ks ++ n ∷ [] → length ks < limit → IsStore (record { nodes = reverse later; limit = limit })
+  unfolding IsReduced
+  IsStore-added later e room =
       let count : length (reverse ks) ≡ length ks = length-reverse ks in
-      let short : c.0 < length ks = omega (arith, c.1) in
-      let read : get_or ks (length ks - 1 - c.0) n ≡ n = sym (get_or-reverse ks c.0 n short) ∙ c.2 in
-      true≢false (sym (list_any-from_Contains laws n ks (length ks - 1 - c.0, omega arith, read)) ∙ none)
+      let one_more : IsStore (record { nodes = n ∷ reverse ks; limit = limit }) = record { reduced = (IsNode-unfound, store.reduced); within = omega arith; narrow = store.narrow } in
+      subst (λ ns. IsStore (record { nodes = ns; limit = limit })) (grown later e) one_more
 
-  -- the set after an insert: the diagrams stay reduced, and the place of the node is made
-  pub inserted-present : (ks later : List Node) (n : Node) → list_any (eq n) ks ≡ true → later ≡ insert_key eq ks n → later ≡ ks
-  inserted-present ks later n there e = e ∙ ap (λ b. if b then ks else ks ++ n ∷ []) there
-
-  pub inserted-new : (ks later : List Node) (n : Node) → list_any (eq n) ks ≡ false → later ≡ insert_key eq ks n → reverse later ≡ n ∷ reverse ks
-  inserted-new ks later n none e = ap reverse (e ∙ ap (λ b. if b then ks else ks ++ n ∷ []) none) ∙ reverse-append ks (n ∷ [])
-
-  module _ (ks later : List Node) (limit : ℕ) (n : Node) (store : IsStore (record { nodes = reverse ks; limit = limit }))
-      (low_older : Belongs (reverse ks) n.low) (high_older : Belongs (reverse ks) n.high)
-      (low_later : n.variable < level (reverse ks) n.low) (high_later : n.variable < level (reverse ks) n.high) (ends_differ : n.low ≢ n.high) where
-    -- a node that is not found may stand above the others
-    pub IsNode-unfound : list_any (eq n) ks ≡ false → IsNode (reverse ks) n
-    IsNode-unfound none = record { low_older = low_older; high_older = high_older; low_later = low_later; high_later = high_later; ends_differ = ends_differ; fresh = fresh-keys ks n none }
-
-    pub IsStore-inserted : length ks < limit → later ≡ insert_key eq ks n → IsStore (record { nodes = reverse later; limit = limit })
-    unfolding IsReduced
-    IsStore-inserted room e =
-        elim (cases_Bool (list_any (eq n) ks)) [
-          | inl there ↦ subst (λ l. IsStore (record { nodes = reverse l; limit = limit })) (sym (inserted-present ks later n there e)) store
-          | inr none ↦
-              (let count : length (reverse ks) ≡ length ks = length-reverse ks in
-              let one_more : IsStore (record { nodes = n ∷ reverse ks; limit = limit }) = record { reduced = (IsNode-unfound none, store.reduced); within = omega arith; narrow = store.narrow } in
-              subst (λ ns. IsStore (record { nodes = ns; limit = limit })) (sym (inserted-new ks later n none e)) one_more)
-        ]
-
-    pub Makes-inserted : later ≡ insert_key eq ks n → (k : ℕ) (m : Node) → slice_get later k ≡ Some m → eq n m ≡ true → Makes n.variable n.low n.high (record { nodes = reverse ks; limit = limit }) (record { nodes = reverse later; limit = limit }) (k + 2)
-    unfolding IsReduced
-    Makes-inserted e k m at alike =
-        let found : node_at (reverse later) (k + 2) ≡ Some n = node_at-keys later k m at ∙ ap Some (sym (same n m alike)) in
-        elim (cases_Bool (list_any (eq n) ks)) [
-          | inl there ↦
-              (let stays : reverse later ≡ reverse ks = ap reverse (inserted-present ks later n there e) in
-              subst (λ ns. Makes n.variable n.low n.high (record { nodes = reverse ks; limit = limit }) (record { nodes = ns; limit = limit }) (k + 2)) (sym stays)
-              (Makes-there (record { nodes = reverse ks; limit = limit }) n (k + 2) store.reduced (subst (λ ns. node_at ns (k + 2) ≡ Some n) stays found)))
-          | inr none ↦
-              (let grown : reverse later ≡ n ∷ reverse ks = inserted-new ks later n none e in
-              let node = IsNode-unfound none in
-              let place : k + 2 ≡ length (reverse ks) + 2 =
-              node_at-unique (n ∷ reverse ks) (node, store.reduced) (k + 2) (length (reverse ks) + 2) n (subst (λ ns. node_at ns (k + 2) ≡ Some n) grown found) (node_at-newest n (reverse ks)) in
-              subst (λ ns. Makes n.variable n.low n.high (record { nodes = reverse ks; limit = limit }) (record { nodes = ns; limit = limit }) (k + 2)) (sym grown)
-              (subst (λ r. Makes n.variable n.low n.high (record { nodes = reverse ks; limit = limit }) (record { nodes = n ∷ reverse ks; limit = limit }) r) (sym place)
-              (Makes-new (reverse ks) limit n store.reduced node)))
-        ]
-
-  -- the place that a look-up gives
-  pub node_at-position : (ks : List Node) (n : Node) (k : ℕ) → position (eq n) ks ≡ Some k → node_at (reverse ks) (k + 2) ≡ Some n
-  node_at-position ks n k found =
-      let h = position-Some (eq n) ks k n found in
-      node_at-keys ks k n (slice_get-get_or ks k n h.0 ∙ ap Some (sym (same n (get_or ks k n) h.1)))
-
--- the comparison of nodes, and its laws
-abbrev pub node_eq : Node → Node → Bool
-node_eq n m = (n.variable == m.variable) && ((n.low == m.low) && (n.high == m.high))
-
-pub node_laws : IsEquivalence node_eq
-node_laws = and_equiv (on_equiv (λ (n : Node). n.variable) nat_eq_equiv) (and_equiv (on_equiv (λ (n : Node). n.low) nat_eq_equiv) (on_equiv (λ (n : Node). n.high) nat_eq_equiv))
-
-pub node_same : (n m : Node) → node_eq n m ≡ true → n ≡ m
-node_same n m h =
-    let p = and_parts (n.variable == m.variable) ((n.low == m.low) && (n.high == m.high)) h in
-    let q = and_parts (n.low == m.low) (n.high == m.high) p.1 in
-    same_node n m (eqb-true n.variable m.variable p.0) (eqb-true n.low m.low q.0) (eqb-true n.high m.high q.1)
+  pub Makes-added : (later : List Node) → later ≡ ks ++ n ∷ [] → Makes n.variable n.low n.high (record { nodes = reverse ks; limit = limit }) (record { nodes = reverse later; limit = limit }) (length ks + 2)
+  Makes-added later e =
+      let made = Makes-new (reverse ks) limit n store.reduced IsNode-unfound in
+      let place : Makes n.variable n.low n.high (record { nodes = reverse ks; limit = limit }) (record { nodes = n ∷ reverse ks; limit = limit }) (length ks + 2) =
+      subst (λ k. Makes n.variable n.low n.high (record { nodes = reverse ks; limit = limit }) (record { nodes = n ∷ reverse ks; limit = limit }) (k + 2)) (length-reverse ks) made in
+      subst (λ ns. Makes n.variable n.low n.high (record { nodes = reverse ks; limit = limit }) (record { nodes = ns; limit = limit }) (length ks + 2)) (grown later e) place
 
 -- what is left where the last nodes are taken back
 pub reverse-take : (m : ℕ) (ks : List Node) → reverse (take m ks) ≡ drop (length ks - m) (reverse ks)

@@ -4,6 +4,7 @@ pub mod Places
 pub mod Splits
 pub mod Operations
 pub mod Counter
+pub mod Index
 pub mod Recent
 pub mod Search
 pub mod Table

@@ -6,7 +6,7 @@ use Rattle.nc_diagram.specs.declared.apply.Operator.TheVariants.{And, Or}
 use Rattle.nc_diagram.specs.declared.apply.Pair.{Pair}
 use Rattle.nc_diagram.specs.declared.apply.Cofactors.{Cofactors}
 use Rattle.nc_diagram.specs.declared.apply.Frame.{Frame}
-use Rattle.nc_diagram.specs.declared.apply.Frame.TheVariants.{Low}
+use Rattle.nc_diagram.specs.declared.apply.Frame.TheVariants.{Low, High}
 use Rattle.nc_diagram.specs.declared.apply.Focus.{Focus}
 use Rattle.nc_diagram.specs.declared.apply.Focus.TheVariants.{Work, Done}
 use Rattle.nc_diagram.specs.Sets.{Members, has, fixing, below, Same}
@@ -78,9 +78,21 @@ pub record IsAnswer (nodes : List Node) (operator : Operator) (p : Pair) (r : �
   pub belongs : Belongs nodes r
   pub value : Same (meaning nodes r) (joint operator nodes p)
 
--- how a pair is begun: its reference is known, from this operation or an earlier one, or its low side is worked out first while
--- a frame waits
+-- the low side is worked out first, while a frame waits for it
+abbrev pub BeginsLow : List Node → Pair → List Frame → List Frame → Pair → Type 0
+BeginsLow nodes p old new low =
+    (variable : ℕ) × (high : Pair) × (begun : ℕ) × (new ≡ old ++ Low p variable high begun ∷ []) × AreCofactors nodes p (record { variable = variable; low = low; high = high })
+
+-- one of its references decides the low side, and the high side is worked out, while a frame waits for it
+abbrev pub BeginsHigh : Operator → List Node → Pair → List Frame → List Frame → Pair → Type 0
+BeginsHigh operator nodes p old new high =
+    (variable : ℕ) × (low : Pair) × (r : ℕ) × (begun : ℕ) × (new ≡ old ++ High p variable r begun ∷ []) × AreCofactors nodes p (record { variable = variable; low = low; high = high }) × IsDecided operator (ordered low) r
+
+-- the side of a pair that is worked out first
+abbrev pub Begins : Operator → List Node → Pair → List Frame → List Frame → Pair → Type 0
+Begins operator nodes p old new next = BeginsLow nodes p old new next ⊎ BeginsHigh operator nodes p old new next
+
+-- how a pair is begun: its reference is known, from this operation or an earlier one, or one of its sides is worked out first
 abbrev pub Opens : Operator → List Node → Pair → List Frame → List Frame → Focus → Type 0
-Opens operator nodes p old new (Work low) =
-    BothNodes p × ((variable : ℕ) × (high : Pair) × (begun : ℕ) × (new ≡ old ++ Low p variable high begun ∷ []) × AreCofactors nodes p (record { variable = variable; low = low; high = high }))
+Opens operator nodes p old new (Work next) = BothNodes p × Begins operator nodes p old new next
 Opens operator nodes p old new (Done r) = (new ≡ old) × (IsDecided operator p r ⊎ IsAnswer nodes operator p r)

@@ -3,7 +3,7 @@
 ghost use Rattle.std.specs.Prelude.{◌≡◌, ◌≤◌, ◌==◌, if◌then◌else◌, IfOk, OnOk, OnErr, IsErrOf, MatchOption};
 ghost use Rattle.nc_diagram.specs.Sets.{both, either};
 ghost use Rattle.nc_diagram.specs.Diagrams.{Belongs, Means, Adds, IsCrowded, IsReduced, meaning};
-ghost use Rattle.nc_diagram.specs.Operations.{joint, BothBelong, BothNodes, ordered, IsDecided, AreCofactors, Opens, absorbing};
+ghost use Rattle.nc_diagram.specs.Operations.{joint, BothBelong, BothNodes, ordered, IsDecided, AreCofactors, Begins, Opens, absorbing};
 ghost use Rattle.nc_diagram.specs.Table.{AreRight};
 
 use crate::fault::StoreFault;
@@ -35,20 +35,20 @@ pub(crate) struct Cofactors {
 }
 
 /// What waits for a result: a pair whose low side is worked on, or one whose high side is. Each knows
-/// how many pairs were done when it was begun.
+/// how many pairs done were loose when it was begun.
 #[derive(Clone, Copy)]
 pub(crate) enum Frame {
     Low {
         pair: Pair,
         variable: u32,
         high: Pair,
-        begun: usize,
+        begun: u32,
     },
     High {
         pair: Pair,
         variable: u32,
         low: u32,
-        begun: usize,
+        begun: u32,
     },
 }
 
@@ -139,8 +139,42 @@ impl Store {
         }
     }
 
-    // Begins a pair: its reference where it is known, from this operation or an earlier one, else its
-    // low side, with a frame that waits for it.
+    // Begins a pair of nodes, with a frame that waits for one of its sides: for the high one where a
+    // constant decides the low one, or its two references are equal, else for the low one.
+    fn descend(
+        &self,
+        operator: Operator,
+        pair: Pair,
+        frames: &mut Vec<Frame>,
+    ) -> Result<Pair, AllocError>
+        requires nodes { BothNodes pair }
+        requires belong { BothBelong self.now.nodes pair }
+        ensures { IfOk result (Begins operator self.now.nodes pair
+            frames.old.items frames.new.items) }
+    {
+        let sides = self.cofactors(pair);
+        let variable = sides.variable;
+        let begun = self.loose;
+        if let Some(decided) = operator.decided(sides.low.ordered()) {
+            frames.push(Frame::High {
+                pair,
+                variable,
+                low: decided,
+                begun,
+            })?;
+            return Ok(sides.high);
+        }
+        frames.push(Frame::Low {
+            pair,
+            variable,
+            high: sides.high,
+            begun,
+        })?;
+        Ok(sides.low)
+    }
+
+    // Begins a pair: its reference where it is known, from this operation or an earlier one, else one
+    // of its sides, with a frame that waits for it.
     fn open(
         &mut self,
         operator: Operator,
@@ -165,14 +199,8 @@ impl Store {
         if let Some(place) = self.recall(operator, pair, home) {
             return Ok(Focus::Done(place));
         }
-        let sides = self.cofactors(pair);
-        frames.push(Frame::Low {
-            pair,
-            variable: sides.variable,
-            high: sides.high,
-            begun: known.done as usize,
-        })?;
-        Ok(Focus::Work(sides.low))
+        let next = self.descend(operator, pair, frames)?;
+        Ok(Focus::Work(next))
     }
 }
 
@@ -309,7 +337,7 @@ impl Store {
                             Err(fault) => return Err(fault),
                         };
                         known.note(pair, made)?;
-                        self.remember(operator, pair, made, begun, known.done as usize);
+                        self.remember(operator, pair, made, begun);
                         Focus::Done(made)
                     }
                 },

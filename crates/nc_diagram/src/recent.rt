@@ -1,4 +1,4 @@
-// The answers of recent operations that took much work, so that one that comes again needs none.
+// Some of the answers of recent operations, so that one that comes again needs little work.
 
 ghost use Rattle.std.specs.Prelude.{◌≡◌, ◌⊎◌, ℕ, [], Contains, IfSome};
 ghost use Rattle.nc_diagram.specs.declared.recent.Question.{Question};
@@ -13,8 +13,10 @@ use std::num::NonZeroUsize;
 /// How many answers are kept at most.
 const MOST: usize = 16_384;
 
-/// For how many pairs, at least, an answer is kept: what took fewer is worked out again as soon.
-pub(crate) const LEAST: usize = 64;
+/// For how many pairs, at least, an answer is kept: those done since it was begun, where those below
+/// another answer that was kept don't count. An entry takes memory and the time of several pairs, so there
+/// is one for 64 pairs at most; along a chain of nodes that is each 64th, and no more has to be done again.
+pub(crate) const LEAST: u32 = 64;
 
 /// How many marks there are for the pairs whose answers were kept.
 const MARKS: usize = 65_536;

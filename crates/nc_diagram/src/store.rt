@@ -10,9 +10,9 @@ ghost use Rattle.nc_diagram.specs.Table.{AreRight};
 use crate::apply::{Operator, Pair};
 use crate::fault::StoreFault;
 use crate::node::{Node, Ref};
+use crate::nodes::Nodes;
 use crate::recent::{LEAST, Marks, Question, Recent};
 use crate::table::Table;
-use indexmap::IndexSet;
 use std::alloc::Global;
 use std::marker::Model;
 use std::mem;
@@ -21,8 +21,10 @@ use std::mem;
 #[derive(Drop)]
 pub struct Store {
     pub(crate) alloc: Global,
-    pub(crate) nodes: IndexSet<Node>,
+    pub(crate) nodes: Nodes,
     pub(crate) limit: u32,
+    // How many pairs of the call under way are done that are below no answer that is kept.
+    pub(crate) loose: u32,
     recent: Recent,
     marks: Marks,
     conjunctions: Table,
@@ -36,10 +38,10 @@ impl Model for Store {
 
     ghost Value = { Diagrams };
 
-    ghost view = { λ s. record { nodes = reverse s.nodes.keys; limit = s.limit } };
+    ghost view = { λ s. record { nodes = reverse s.nodes; limit = s.limit } };
 
-    ghost invariant = { λ s. IsStore (record { nodes = reverse s.nodes.keys; limit = s.limit })
-        × AreKept (reverse s.nodes.keys) s.recent s.conjunctions.slots.items s.disjunctions.slots.items };
+    ghost invariant = { λ s. IsStore (record { nodes = reverse s.nodes; limit = s.limit })
+        × AreKept (reverse s.nodes) s.recent s.conjunctions.slots.items s.disjunctions.slots.items };
 }
 
 impl Store {
@@ -50,7 +52,7 @@ impl Store {
         ensures constants_alone { result.nodes ≡ [] }
         ensures limit { result.limit ≡ limit }
     {
-        let nodes = IndexSet::new(alloc);
+        let nodes = Nodes::new(alloc);
         let recent = Recent::new(alloc);
         let conjunctions = Table::new(alloc);
         let disjunctions = Table::new(alloc);
@@ -58,6 +60,7 @@ impl Store {
             alloc,
             nodes,
             limit,
+            loose: 0,
             recent,
             marks: Marks::new(alloc),
             conjunctions,
@@ -153,11 +156,12 @@ impl Store {
         self.nodes.truncate(mark as usize);
     }
 
-    // Takes the answers of an operator out, for a call of it.
+    // Takes the answers of an operator out, for a call of it. No pair is done yet.
     pub(crate) fn lend(&mut self, operator: Operator) -> Table
         ensures right { AreRight self.old.nodes operator result.slots.items }
         ensures unchanged { self.new ≡ self.old }
     {
+        self.loose = 0;
         let none = Table::new(self.alloc);
         match operator {
             Operator::And => mem::replace(&mut self.conjunctions, none),
@@ -176,7 +180,7 @@ impl Store {
         }
     }
 
-    // The result of an operation on a pair with this home for which much was done not long ago.
+    // The result of an operation on a pair with this home, where it was kept not long ago.
     pub(crate) fn recall(&mut self, operator: Operator, pair: Pair, home: usize) -> Option<u32>
         ensures answer { IfSome result (IsAnswer self.old.nodes operator pair) }
         ensures unchanged { self.new ≡ self.old }
@@ -187,20 +191,15 @@ impl Store {
         self.recent.find(Question { operator, pair })
     }
 
-    // Keeps the result of an operation on a pair, for when it comes again: where many pairs had to be
-    // done for it since it was begun.
-    pub(crate) fn remember(
-        &mut self,
-        operator: Operator,
-        pair: Pair,
-        place: u32,
-        begun: usize,
-        done: usize,
-    )
+    // Takes note of a pair that is done, whose result is then kept where many pairs would be done for
+    // it again. Those are the loose ones since it was begun: they aren't below a result that is kept.
+    pub(crate) fn remember(&mut self, operator: Operator, pair: Pair, place: u32, begun: u32)
         requires { IsAnswer self.old.nodes operator pair place }
         ensures { self.new ≡ self.old }
     {
-        if done.saturating_sub(begun) >= LEAST {
+        self.loose = self.loose.saturating_add(1);
+        if self.loose.saturating_sub(begun) >= LEAST {
+            self.loose = begun;
             self.marks.mark(pair);
             self.recent.note(Question { operator, pair }, place);
         }
@@ -219,7 +218,7 @@ impl Store {
         requires belongs { Belongs self.now.nodes place }
         ensures { IsNodeAt self.now.nodes place result }
     {
-        self.nodes[(place - 2) as usize]
+        self.nodes.at((place - 2) as usize)
     }
 
     // The reference that chooses between two older ones by a variable above both.
@@ -256,13 +255,14 @@ impl Store {
             × IsNode self.old.nodes node }
         ensures err { OnErr result (self.new ≡ self.old) }
     {
-        if self.nodes.len() < self.limit as usize {
-            let (place, _) = self.nodes.insert_full(node)?;
-            return Ok(place as u32 + 2);
+        if let Some(index) = self.nodes.index_of(node) {
+            return Ok(index as u32 + 2);
         }
-        let Some(place) = self.nodes.get_index_of(&node) else {
+        let count = self.nodes.len();
+        if count >= self.limit as usize {
             return Err(StoreFault::Full);
-        };
-        Ok(place as u32 + 2)
+        }
+        self.nodes.add(node)?;
+        Ok(count as u32 + 2)
     }
 }

@@ -6,7 +6,7 @@ use Rattle.nc_diagram.proofs.store.Store.new.Goals as goal
 pub invariant_of-result : goal.invariant_of-result
 unfolding IsReduced
 invariant_of-result c =
-    let nodes = reverse c.new-nodes.result.keys in (
-      rw c.new-nodes.ensures.empty (record { reduced = tt; within = omega arith; narrow = c.requires }),
+    let nodes = reverse c.new-nodes.result in (
+      rw c.new-nodes.ensures (record { reduced = tt; within = omega arith; narrow = c.requires }),
       AreKept-none nodes c.new-recent.result c.new-conjunctions.result.slots.items c.new-disjunctions.result.slots.items c.new-recent.ensures c.new-conjunctions.ensures c.new-disjunctions.ensures,
     )

@@ -9,8 +9,8 @@ returns-in-Some-find-clause-opens c =
     let nodes = c.args.self.now.nodes in
     (refl, inr (subst (λ p. IsAnswer nodes c.args.operator p c.in-Some-find.place) c.ordered-pair.ensures.pair (c.in-Some-find.ensures nodes c.args.operator c.requires.right)))
 
-pub cofactors-sides-requires-clause-belong : goal.cofactors-sides-requires-clause-belong
-cofactors-sides-requires-clause-belong c =
+pub descend-requires-clause-belong : goal.descend-requires-clause-belong
+descend-requires-clause-belong c =
     let nodes = c.args.self.now.nodes in
     subst (λ (d : Diagrams). BothBelong d.nodes c.ordered-pair.result) (sym c.recall.ensures.unchanged)
     (subst (BothBelong nodes) (sym c.ordered-pair.ensures.pair) (both-ordered nodes c.args.pair c.requires.belong))

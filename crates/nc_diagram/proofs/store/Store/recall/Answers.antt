@@ -16,4 +16,4 @@ invariant_of-self c = (
 pub returns-clause-answer : goal.returns-clause-answer
 returns-clause-answer c =
     subst (λ d. IfSome c.find.result (IsAnswer d.nodes c.args.operator c.args.pair)) c.self.view_is
-    (answer-found (reverse c.self.inside.nodes.keys) c.self.inside.recent c.args.operator c.args.pair c.find.result c.self.invariant.1.recent c.find.ensures.found)
+    (answer-found (reverse c.self.inside.nodes) c.self.inside.recent c.args.operator c.args.pair c.find.result c.self.invariant.1.recent c.find.ensures.found)

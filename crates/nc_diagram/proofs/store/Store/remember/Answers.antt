@@ -5,7 +5,7 @@ use Rattle.nc_diagram.proofs.store.Store.remember.Goals as goal
 
 pub invariant_of-self : goal.invariant_of-self
 invariant_of-self c =
-    let nodes = reverse c.self.inside.nodes.keys in (
+    let nodes = reverse c.self.inside.nodes in (
       c.self.invariant.0,
       record {
         recent = answers-noted nodes c.self.inside.recent c.note.new.self c.args.operator c.args.pair c.args.place c.self.invariant.1.recent

@@ -7,15 +7,15 @@ use Rattle.nc_diagram.proofs.store.Store.roll_back.Goals as goal
 use Rattle.nc_diagram.proofs.store.Store.roll_back.Goals.{After-truncate}
 
 -- the nodes that are left
-left : (c : After-truncate) → reverse c.truncate.new.self.keys ≡ drop (length (reverse c.self.inside.nodes.keys) - c.args.mark) (reverse c.self.inside.nodes.keys)
+left : (c : After-truncate) → reverse c.truncate.new.self ≡ drop (length (reverse c.self.inside.nodes) - c.args.mark) (reverse c.self.inside.nodes)
 left c =
-    let keys = c.self.inside.nodes.keys in
-    ap reverse c.truncate.ensures.keys ∙ reverse-take c.args.mark keys ∙ ap (λ k. drop (k - c.args.mark) (reverse keys)) (sym (length-reverse keys))
+    let keys = c.self.inside.nodes in
+    ap reverse c.truncate.ensures ∙ reverse-take c.args.mark keys ∙ ap (λ k. drop (k - c.args.mark) (reverse keys)) (sym (length-reverse keys))
 
 pub invariant_of-self : goal.invariant_of-self
 invariant_of-self c =
-    let nodes = reverse c.self.inside.nodes.keys in
-    let after = reverse c.truncate.new.self.keys in (
+    let nodes = reverse c.self.inside.nodes in
+    let after = reverse c.truncate.new.self in (
       subst (λ ns. IsStore (record { nodes = ns; limit = c.self.inside.limit })) (sym (left c))
           (IsStore-drop (length nodes - c.args.mark) nodes c.self.inside.limit c.self.invariant.0),
       AreKept-none after c.clear.new.self c.new.result.slots.items c.new-2.result.slots.items c.clear.ensures c.new.ensures c.new-2.ensures,
@@ -23,4 +23,4 @@ invariant_of-self c =
 
 pub returns-clause-nodes : goal.returns-clause-nodes
 returns-clause-nodes c =
-    subst (λ (d : Diagrams). reverse c.truncate.new.self.keys ≡ drop (length d.nodes - c.args.mark) d.nodes) c.self.view_is (left c)
+    subst (λ (d : Diagrams). reverse c.truncate.new.self ≡ drop (length d.nodes - c.args.mark) d.nodes) c.self.view_is (left c)

@@ -4,64 +4,62 @@ use Rattle.nc_diagram.specs.Diagrams.{Belongs, IsNode, level}
 use Rattle.nc_diagram.specs.Places.{Makes}
 use Rattle.nc_diagram.proofs.GrowthLemmas.{Keeps-makes}
 use Rattle.nc_diagram.proofs.RecentLemmas.{AreKept-more}
-use Rattle.nc_diagram.proofs.StoreLemmas.{IsStore-inserted, Makes-inserted, Makes-there, IsNode-unfound, node_at-position, node_eq, node_laws, node_same}
+use Rattle.nc_diagram.proofs.StoreLemmas.{IsStore-added, Makes-added, Makes-there, IsNode-unfound, node_at-keys}
 use Rattle.nc_diagram.proofs.store.Store.share.Goals as goal
 
-pub invariant_of-self-then-len-self : goal.invariant_of-self-then-len-self
-invariant_of-self-then-len-self c =
+pub returns-in-Some-clause-made : goal.returns-in-Some-clause-made
+returns-in-Some-clause-made c =
     let n = c.args.node in
-    let keys = c.self.inside.nodes.keys in
-    let next = c.insert_full.new.self.keys in
-    let low = subst (λ d. Belongs d.nodes n.low) (sym c.self.view_is) c.requires.low_older in
-    let high = subst (λ d. Belongs d.nodes n.high) (sym c.self.view_is) c.requires.high_older in
-    let low_later = subst (λ d. n.variable < level d.nodes n.low) (sym c.self.view_is) c.requires.low_later in
-    let high_later = subst (λ d. n.variable < level d.nodes n.high) (sym c.self.view_is) c.requires.high_later in
-    let stored = c.in_ok-place.ensures.stored in
-    let made = Makes-inserted node_eq node_laws node_same keys next c.self.inside.limit n c.self.invariant.0 low high low_later high_later c.requires.ends_differ
-    c.in_ok-place.ensures.keys c.in_ok-place.place stored.0 stored.1 stored.2 in (
-      IsStore-inserted node_eq node_laws node_same keys next c.self.inside.limit n c.self.invariant.0 low high low_later high_later c.requires.ends_differ
-          (omega (arith, c.len.ensures.len)) c.in_ok-place.ensures.keys,
-      AreKept-more (reverse keys) (reverse next) c.self.inside.recent c.self.inside.conjunctions.slots.items c.self.inside.disjunctions.slots.items
-          (Keeps-makes n.variable n.low n.high (record { nodes = reverse keys; limit = c.self.inside.limit }) (record { nodes = reverse next; limit = c.self.inside.limit }) (c.in_ok-place.place + 2) made)
-          c.self.invariant.1,
-    )
+    subst (λ d. Makes n.variable n.low n.high d d (c.in-Some.index + 2)) c.self.view_is
+    (Makes-there (record { nodes = reverse c.self.inside.nodes; limit = c.self.inside.limit }) n (c.in-Some.index + 2) c.self.invariant.0.reduced
+    (node_at-keys c.self.inside.nodes c.in-Some.index n c.in-Some.ensures.found))
 
-pub returns-then-len-self-clause-made : goal.returns-then-len-self-clause-made
-returns-then-len-self-clause-made c =
+pub returns-then-count-self-clause-full : goal.returns-then-count-self-clause-full
+returns-then-count-self-clause-full c = λ _.
     let n = c.args.node in
-    let stored = c.in_ok-place.ensures.stored in
-    subst (λ d. Makes n.variable n.low n.high d (record { nodes = reverse c.insert_full.new.self.keys; limit = c.self.inside.limit }) (c.in_ok-place.place + 2)) c.self.view_is
-    (Makes-inserted node_eq node_laws node_same c.self.inside.nodes.keys c.insert_full.new.self.keys c.self.inside.limit n c.self.invariant.0
-    (subst (λ d. Belongs d.nodes n.low) (sym c.self.view_is) c.requires.low_older)
-    (subst (λ d. Belongs d.nodes n.high) (sym c.self.view_is) c.requires.high_older)
-    (subst (λ d. n.variable < level d.nodes n.low) (sym c.self.view_is) c.requires.low_later)
-    (subst (λ d. n.variable < level d.nodes n.high) (sym c.self.view_is) c.requires.high_later)
-    c.requires.ends_differ
-    c.in_ok-place.ensures.keys c.in_ok-place.place stored.0 stored.1 stored.2)
-
-pub returns-in_default-clause-full : goal.returns-in_default-clause-full
-returns-in_default-clause-full c = λ _.
-    let n = c.args.node in
-    let keys = c.self.inside.nodes.keys in
-    let count = length-reverse keys in
-    let many : c.self.inside.limit ≤ length (reverse keys) = omega (arith, c.len.ensures.len) in (
+    let ks = c.self.inside.nodes in
+    let count = length-reverse ks in
+    let many : c.self.inside.limit ≤ length (reverse ks) = omega arith in (
       subst (λ d. d.limit ≤ length d.nodes) c.self.view_is many,
       subst (λ d. IsNode d.nodes n) c.self.view_is
-          (IsNode-unfound node_eq node_laws node_same keys keys c.self.inside.limit n c.self.invariant.0
+          (IsNode-unfound ks c.self.inside.limit n c.self.invariant.0
           (subst (λ d. Belongs d.nodes n.low) (sym c.self.view_is) c.requires.low_older)
           (subst (λ d. Belongs d.nodes n.high) (sym c.self.view_is) c.requires.high_older)
           (subst (λ d. n.variable < level d.nodes n.low) (sym c.self.view_is) c.requires.low_later)
           (subst (λ d. n.variable < level d.nodes n.high) (sym c.self.view_is) c.requires.high_later)
           c.requires.ends_differ
-          (sym c.in_default.ensures.found)),
+          c.in_default.ensures.none),
+    )
+
+pub invariant_of-self-2 : goal.invariant_of-self-2
+invariant_of-self-2 c =
+    let n = c.args.node in
+    let ks = c.self.inside.nodes in
+    let next = c.add.new.self in
+    let low = subst (λ d. Belongs d.nodes n.low) (sym c.self.view_is) c.requires.low_older in
+    let high = subst (λ d. Belongs d.nodes n.high) (sym c.self.view_is) c.requires.high_older in
+    let low_later = subst (λ d. n.variable < level d.nodes n.low) (sym c.self.view_is) c.requires.low_later in
+    let high_later = subst (λ d. n.variable < level d.nodes n.high) (sym c.self.view_is) c.requires.high_later in
+    let none = c.in_default.ensures.none in
+    let made = Makes-added ks c.self.inside.limit n c.self.invariant.0 low high low_later high_later c.requires.ends_differ none next c.in_ok-add.ensures.added in (
+      IsStore-added ks c.self.inside.limit n c.self.invariant.0 low high low_later high_later c.requires.ends_differ none next c.in_ok-add.ensures.added
+          (omega arith),
+      AreKept-more (reverse ks) (reverse next) c.self.inside.recent c.self.inside.conjunctions.slots.items c.self.inside.disjunctions.slots.items
+          (Keeps-makes n.variable n.low n.high (record { nodes = reverse ks; limit = c.self.inside.limit }) (record { nodes = reverse next; limit = c.self.inside.limit }) (length ks + 2) made)
+          c.self.invariant.1,
     )
 
 pub returns-clause-made : goal.returns-clause-made
 returns-clause-made c =
     let n = c.args.node in
-    subst (λ d. Makes n.variable n.low n.high d d (c.in-Some.place + 2)) c.self.view_is
-    (Makes-there (record { nodes = reverse c.self.inside.nodes.keys; limit = c.self.inside.limit }) n (c.in-Some.place + 2) c.self.invariant.0.reduced
-    (node_at-position node_eq node_laws node_same c.self.inside.nodes.keys n c.in-Some.place (sym c.in-Some.ensures.index)))
+    subst (λ k. Makes n.variable n.low n.high c.args.self.now (record { nodes = reverse c.add.new.self; limit = c.self.inside.limit }) (k + 2)) (sym c.len-count.ensures)
+    (subst (λ d. Makes n.variable n.low n.high d (record { nodes = reverse c.add.new.self; limit = c.self.inside.limit }) (length c.self.inside.nodes + 2)) c.self.view_is
+    (Makes-added c.self.inside.nodes c.self.inside.limit n c.self.invariant.0
+    (subst (λ d. Belongs d.nodes n.low) (sym c.self.view_is) c.requires.low_older)
+    (subst (λ d. Belongs d.nodes n.high) (sym c.self.view_is) c.requires.high_older)
+    (subst (λ d. n.variable < level d.nodes n.low) (sym c.self.view_is) c.requires.low_later)
+    (subst (λ d. n.variable < level d.nodes n.high) (sym c.self.view_is) c.requires.high_later)
+    c.requires.ends_differ c.in_default.ensures.none c.add.new.self c.in_ok-add.ensures.added))
 
 pub invariant_of-self : goal.invariant_of-self
-invariant_of-self c = rw c.in_err-place.ensures.err c.self.invariant
+invariant_of-self c = rw c.in_err-add.ensures.err c.self.invariant
