@@ -3,7 +3,9 @@ these name.
 
 A crate above is proved over the contracts of the crates below it and never over their bodies. So what is left out here
 can change below a crate without any effect on what the prover says of it: bodies, private functions, private fields
-with the views and invariants of their types, definitions that no public contract leads to, and comments.
+with the views and invariants of their types, definitions that no public contract leads to, and comments. Lemmas that
+a crate takes from the proofs below it aren't counted, nor definitions to which these alone lead: where one of them
+changes its statement, the proofs above tell.
 """
 import functools
 import glob
@@ -97,7 +99,8 @@ def fields_of(item):
     >>> fields_of('pub struct Id(pub u32);')
     ['pub u32']
     """
-    inside = item[re.search(r"[{(]", item).start() + 1:max(item.rfind("}"), item.rfind(")"))] if re.search(r"[{(]", item) else ""
+    start = re.search(r"[{(]|$", item).end()
+    inside = item[start:max(item.rfind("}"), item.rfind(")"))]
     fields, depth, since = [], 0, 0
     for at, letter in enumerate(inside + ","):
         depth += (letter in "<([{") - (letter in ">)]}")
@@ -159,9 +162,9 @@ def shown_item(item, opened):
     return item if re.match(ATTRIBUTES + r"(?:pub (?!\()|macro_rules)", item) else ""
 
 
-def named_in(shown, imports):
+def named_in(seen, imports):
     """Returns the imports of which the shown text has a name."""
-    words = set(re.findall(r"[\w◌≡]+", shown))
+    words = set(re.findall(r"[\w◌≡]+", seen))
     found = []
     for line in imports:
         names, alias = IMPORT.match(line).groups()
