@@ -118,7 +118,7 @@ fn rows_of(
         (λ rows. map bgp_row_view rows.items ≡ rows_by prefixes.now (choices_view choices)) }
     ensures valid { IfOk result (λ rows. AreBgpRows (map bgp_row_view rows.items)) }
 {
-    let mut rows = Vec::new(alloc);
+    let mut rows = Vec::with_capacity(alloc, prefixes.len())?;
     let mut left = choices.into_iter();
     'prefixes: for prefix in prefixes {
         let _len = prefix.len();
@@ -127,6 +127,7 @@ fn rows_of(
         };
         push_row(&mut rows, *prefix, chosen)?;
     }
+    rows.shrink_to_fit();
     Ok(rows)
 }
 

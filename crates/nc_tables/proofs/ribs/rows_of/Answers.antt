@@ -21,4 +21,4 @@ returns-clause-valid c =
     let left = map (λ (cs : Vec Chosen Global). cs.items) (into_iter_items c.prefixes.left) in
     let none : drop index ps ≡ [] = ap (λ (k : ℕ). drop k ps) all ∙ drop_all (length ps) ps (omega arith) in
     let is : map bgp_row_view c.prefixes.rows.items ≡ rows_by ps css = sym (append-nil (map bgp_row_view c.prefixes.rows.items)) ∙ sym (ap (λ (l : List Cidr). map bgp_row_view c.prefixes.rows.items ++ rows_by l left) none) ∙ c.prefixes.invariant.rows in
-    subst AreBgpRows (sym is) (rows_valid ps css c.requires.ordered c.requires.choices (λ k d lt. c.prefixes.invariant.valid k d (omega arith)))
+    subst (λ rows. AreBgpRows (map bgp_row_view rows)) (sym c.shrink_to_fit.ensures.items) (subst AreBgpRows (sym is) (rows_valid ps css c.requires.ordered c.requires.choices (λ k d lt. c.prefixes.invariant.valid k d (omega arith))))
