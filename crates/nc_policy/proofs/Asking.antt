@@ -55,11 +55,6 @@ has_own (x ∷ xs) (suc i) d lt = on (nat_eq (get_or xs i d) x) (has (get_or xs 
     on true b e = refl
     on false b e = e
 
--- one number more: the others stay
-pub stays : (b old new : Bool) → new ≡ cond b true old → old ≡ true → new ≡ true
-stays true old new is e = is
-stays false old new is e = is ∙ e
-
 -- ---- the clauses of a map, one behind the other
 
 -- a place is before the next one that is to be looked at
@@ -119,12 +114,12 @@ none_more {X} xs ys same before k x found =
           before k x (sym (slice_get_left xs (none ∷ []) k lt) ∙ all)
     ]
 
-set_same : {X : Type 0} (xs : List X) (m : ℕ) (x : X) → m < length xs → slice_get (set xs m x) m ≡ Some x
+pub set_same : {X : Type 0} (xs : List X) (m : ℕ) (x : X) → m < length xs → slice_get (set xs m x) m ≡ Some x
 set_same [] m x lt = absurd (omega arith)
 set_same (y ∷ ys) zero x lt = refl
 set_same (y ∷ ys) (suc m) x lt = set_same ys m x (omega arith)
 
-set_other : {X : Type 0} (xs : List X) (m k : ℕ) (x : X) → (k ≡ m → ⊥) → slice_get (set xs m x) k ≡ slice_get xs k
+pub set_other : {X : Type 0} (xs : List X) (m k : ℕ) (x : X) → (k ≡ m → ⊥) → slice_get (set xs m x) k ≡ slice_get xs k
 set_other [] m k x other = refl
 set_other (y ∷ ys) zero zero x other = absurd (other refl)
 set_other (y ∷ ys) zero (suc k) x other = refl

@@ -8,15 +8,15 @@ use Rattle.nc_policy.proofs.Deciding.{first_left, named_at}
 use Rattle.std.specs.List.{list_any}
 use Rattle.std.specs.Option.{option_map, option_map_or, ForSome}
 use Rattle.std.specs.Str.{bytes_eq}
-use Rattle.nc_types.specs.Cidr.{Cidr, same_prefix}
+use Rattle.nc_types.specs.Cidr.{Cidr}
 use Rattle.nc_types.specs.Config.{ClauseView, ConfigView, clause_view}
-use Rattle.nc_types.proofs.Sameness.{same_prefix_is}
 use Rattle.nc_tables.specs.declared.policy.Names.{Names}
 use Rattle.nc_tables.specs.declared.policy.Place.{Place}
 use Rattle.nc_tables.specs.Policy.{Placed, placed_from, least, met, prefix_place, community_place, names_of, is_matching, deciding}
 use Rattle.nc_tables.specs.declared.bgp.Route.{Route}
-use Rattle.nc_policy.specs.Views.{asked, candidate_view, map_names, IsCandidate}
-use Rattle.nc_policy.specs.Kept.{asks, kept_at, lists_prefixes, same_asking, AreKept, IsDecided, IsUnmet}
+use Rattle.nc_policy.specs.Views.{asked, candidate_view, IsCandidate}
+use Rattle.nc_policy.specs.Decisions.{decided_by}
+use Rattle.nc_policy.specs.Kept.{asks, kept_at, lists_prefixes, AreKept, IsDecided, IsUnmet}
 use Rattle.nc_policy.specs.declared.clauses.Candidate.{Candidate}
 use Rattle.nc_policy.specs.declared.kept.Asking.{Asking}
 use Rattle.nc_policy.specs.declared.kept.Decided.{Decided}
@@ -122,10 +122,6 @@ pub for_if : {T : Type 0} (P : T → Type 0) (o : Option T) → IfSome o P → F
 for_if P None is = λ x e. absurd (cc)
 for_if P (Some d) is = for_some P d is
 
--- what is to be kept of a candidate
-abbrev pub decided_by : Option Candidate → Option Decided
-decided_by found = option_map (λ k. record { place = k.place; names = k.names }) found
-
 pub is_decided : (c : ConfigView) (name : List ℕ) (r : Route) (found : Option Candidate) → option_map candidate_view found ≡ deciding c name r → IfSome found (IsCandidate c r) → IsDecided c name r (decided_by found)
 is_decided c name r None decides is = record { none = λ e. decides; within = λ x e. absurd (cc); decides = λ x e. absurd (cc); names = λ x e. absurd (cc) }
 is_decided c name r (Some found) decides is = record {
@@ -175,40 +171,9 @@ none_passes view test (x ∷ xs) e (suc j) y at = none_passes view test xs (on (
 
 -- ---- the table
 
-same_map : (a b : Asking) → same_asking a b ≡ true → a.map ≡ b.map
-same_map a b e = grind (arith, nat_tests)
-
--- one answer more
-pub kept_more : (c : ConfigView) (old new : List (Asking × Option Decided)) (a : Asking) (mine : List ℕ) (d : Option Decided) → slice_get (map_names c) a.map ≡ Some mine
-    → ((held : List ℕ) → IsUnmet c mine held → IsDecided c mine (asked a.prefix held) d)
-    → ((m : ℕ) (p : Cidr) → kept_at new m p ≡ cond (same_asking a (record { map = m; prefix = p })) (Some d) (kept_at old m p))
-    → AreKept c old → AreKept c new
-kept_more c old new a mine d own is more before = record { right = λ m name p e at found held unmet. on m name p e at held unmet (same_asking a (record { map = m; prefix = p })) refl (sym (more m p) ∙ found) }
-  where
-    on : (m : ℕ) (name : List ℕ) (p : Cidr) (e : Option Decided) → slice_get (map_names c) m ≡ Some name → (held : List ℕ) → IsUnmet c name held → (b : Bool) → same_asking a (record { map = m; prefix = p }) ≡ b
-        → cond b (Some d) (kept_at old m p) ≡ Some e → IsDecided c name (asked p held) e
-    on m name p e at held unmet false is_other found = before.right m name p e at found held unmet
-    on m name p e at held unmet true is_same found =
-        let one : Some mine ≡ Some name = sym own ∙ ap (slice_get (map_names c)) (same_map a (record { map = m; prefix = p }) is_same) ∙ at in
-        let same_name : mine ≡ name = cc in
-        let same_answer : d ≡ e = cc in
-        let same_one : a.prefix ≡ p = same_prefix_is a.prefix p (same_prefixes (nat_eq a.map m) (same_prefix a.prefix p) is_same) in
-        subst (λ (x : Option Decided). IsDecided c name (asked p held) x) same_answer
-        (subst (λ (n : List ℕ). IsUnmet c n held → IsDecided c n (asked p held) d) same_name (subst (λ (q : Cidr). IsUnmet c mine held → IsDecided c mine (asked q held) d) same_one (is held)) unmet)
-      where
-        same_prefixes : (a b : Bool) → (a && b) ≡ true → b ≡ true
-        same_prefixes true b e = e
-        same_prefixes false b e = absurd (cc)
-
 -- nothing is kept
 pub nothing_kept : (c : ConfigView) (kept : List (Asking × Option Decided)) → kept ≡ [] → AreKept c kept
 nothing_kept c kept e = record { right = λ m name p d at found held unmet. absurd (let none : None ≡ Some d = sym (ap (λ (ks : List (Asking × Option Decided)). kept_at ks m p) e) ∙ found in cc) }
-
--- what is kept is right
-pub kept_right : (c : ConfigView) (kept : List (Asking × Option Decided)) (m : ℕ) (name : List ℕ) (p : Cidr) (o : Option (Option Decided)) → AreKept c kept → slice_get (map_names c) m ≡ Some name
-    → o ≡ kept_at kept m p → (held : List ℕ) → IsUnmet c name held → IfSome o (IsDecided c name (asked p held))
-kept_right c kept m name p None are at found held unmet = tt
-kept_right c kept m name p (Some d) are at found held unmet = are.right m name p d at (sym found) held unmet
 
 -- the first of a name has it
 pub first_named : (names : List (List ℕ)) (name : List ℕ) (o : Option ℕ) (k : ℕ) → o ≡ position (bytes_eq name) names → o ≡ Some k → slice_get names k ≡ Some name

@@ -9,3 +9,6 @@ pub mod SpotOrder
 pub mod Keeping
 pub mod Asking
 pub mod Outside
+pub mod Sweeping
+pub mod Tabling
+pub mod Numbering

@@ -8,3 +8,5 @@ pub mod Kept
 pub mod Spans
 pub mod Guards
 pub mod Walks
+pub mod Best
+pub mod Decisions

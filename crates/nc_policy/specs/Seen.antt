@@ -15,6 +15,7 @@ use Rattle.nc_policy.specs.declared.spot_table.Placed.{Placed}
 use Rattle.nc_policy.specs.declared.index.ListIndex.{ListIndex}
 use Rattle.nc_policy.specs.declared.names.NameIndex.{NameIndex}
 use Rattle.nc_policy.specs.declared.router_index.RouterIndex.{RouterIndex}
+use Rattle.nc_policy.specs.Decisions.{kept_from}
 use Rattle.nc_policy.specs.Kept.{AskedTable}
 use Rattle.nc_policy.specs.declared.kept.Asked.{Asked}
 use Rattle.nc_policy.specs.declared.kept.Asking.{Asking}
@@ -63,10 +64,10 @@ IsPrefixIndex prefixes index = IsPrefixTable prefixes (prefix_table index)
 -- ---- what is kept of maps
 
 abbrev pub kept_table : Kept → List (Asking × Option Decided)
-kept_table x = x.decided.entries
+kept_table x = kept_from (prefix_table x.numbers.value) 0 x.asked.items
 
 abbrev pub asked_view : Asked → AskedTable
-asked_view x = record { numbers = x.numbers.keys; flat = x.flat }
+asked_view x = record { numbers = x.numbers; flat = x.flat }
 
 abbrev pub asked_table : Kept → List (Option AskedTable)
 asked_table x = map (option_map asked_view) x.asked.items

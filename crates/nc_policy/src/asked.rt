@@ -10,25 +10,26 @@ ghost use Rattle.nc_policy.specs.Kept.{IsApart, IsUnmet};
 ghost use Rattle.nc_policy.specs.Seen.{IsIndexed};
 ghost use Rattle.nc_policy.specs.Views.{map_names};
 
+use crate::numbers::Numbers;
 use crate::router_index::RouterIndex;
 use nc_community::Held;
 use nc_types::RouterConfig;
 use std::alloc::{AllocError, Global};
-use std::collections::HashSet;
 
 // Whether one of some communities is among numbers.
-fn has_one(numbers: &HashSet<u32>, communities: &[u32]) -> bool
-    ensures { result ≡ list_any (λ n. has n numbers.now.keys) communities.now }
+fn has_one(numbers: &Numbers, communities: &[u32]) -> bool
+    ensures { result ≡ list_any (λ n. has n numbers.now) communities.now }
 {
-    communities
-        .iter()
-        .any(|community| numbers.contains(community))
+    communities.iter().any(|community| numbers.has(*community))
 }
 
 /// Whether communities have none of some numbers. Takes no memory.
-pub(crate) fn is_apart(numbers: &HashSet<u32>, held: &Held) -> bool
-    ensures { result ≡ true → IsApart numbers.now.keys held.now }
+pub(crate) fn is_apart(numbers: &Numbers, held: &Held) -> bool
+    ensures { result ≡ true → IsApart numbers.now held.now }
 {
+    if numbers.is_empty() {
+        return true;
+    }
     let (first, added) = held.parts();
     !has_one(numbers, first) && !has_one(numbers, added)
 }
@@ -38,15 +39,15 @@ pub(crate) fn is_apart(numbers: &HashSet<u32>, held: &Held) -> bool
 fn add_clause(
     config: &RouterConfig,
     index: &RouterIndex,
-    numbers: &mut HashSet<u32>,
+    numbers: &mut Vec<u32>,
     place: usize,
 ) -> Result<bool, AllocError>
     requires indexed { IsIndexed (config_view config.now) index.now }
-    ensures kept { OnOk result ((n : ℕ) → has n numbers.old.keys ≡ true → has n numbers.new.keys ≡ true) }
+    ensures kept { OnOk result ((n : ℕ) → has n numbers.old.items ≡ true → has n numbers.new.items ≡ true) }
     ensures clause { IfOk result (λ known. known ≡ true → (k : ClauseView)
         → slice_get (config_view config.now).clauses place ≡ Some k
         → not (nat_eq (length k.community_lists) 0) ≡ true
-        → (held : List ℕ) → IsApart numbers.new.keys held
+        → (held : List ℕ) → IsApart numbers.new.items held
         → met (community_place (config_view config.now) held) k.community_lists ≡ None) }
 {
     let Some(clause) = config.clauses.get(place) else {
@@ -70,13 +71,13 @@ pub(crate) fn asked_by(
     index: &RouterIndex,
     name: &[u8],
     first: usize,
-) -> Result<Option<HashSet<u32>>, AllocError>
+) -> Result<Option<Numbers>, AllocError>
     requires indexed { IsIndexed (config_view config.now) index.now }
     requires first { Some first ≡ place_from name.now 0 (map_names (config_view config.now)) }
     ensures { IfOk result (λ asked. IfSome asked (λ numbers. (held : List ℕ)
-        → IsApart numbers.keys held → IsUnmet (config_view config.now) name.now held)) }
+        → IsApart numbers held → IsUnmet (config_view config.now) name.now held)) }
 {
-    let mut numbers = HashSet::new(alloc);
+    let mut numbers = Vec::new(alloc);
     let mut next = Some(first);
     'clauses: while let Some(place) = next {
         if !add_clause(config, index, &mut numbers, place)? {
@@ -84,5 +85,6 @@ pub(crate) fn asked_by(
         }
         next = index.maps.behind(place);
     }
+    let numbers = Numbers::of(numbers)?;
     Ok(Some(numbers))
 }

@@ -13,7 +13,7 @@ ghost use Rattle.nc_policy.specs.Kept.{IsDecided};
 ghost use Rattle.nc_policy.specs.Walks.{of_map, rest_of};
 ghost use Rattle.nc_policy.specs.Seen.{IsIndexed};
 
-use crate::kept::{Decided, candidate_of};
+use crate::kept::{Asking, Decided, candidate_of};
 use crate::lists::{community_place, prefix_place};
 use crate::router_index::RouterIndex;
 use nc_community::Held;
@@ -151,9 +151,9 @@ fn is_unheld(index: Option<&RouterIndex>, place: usize, held: &Held) -> bool
     }
 }
 
-// The better one of the clause at a place and the best one so far: the clause, where it has a lower
-// number and matches. Its lists are asked last.
-fn better<'a>(
+/// The better one of the clause at a place and the best one so far: the clause, where it has a lower
+/// number and matches. Its lists are asked last.
+pub(crate) fn better<'a>(
     config: &'a RouterConfig,
     index: Option<&RouterIndex>,
     prefix: Prefix,
@@ -244,7 +244,7 @@ fn decided(
 {
     let index = index?;
     let first = first?;
-    index.kept.get(first, prefix, held)
+    index.kept.get(Asking { map: first, prefix }, held)
 }
 
 // Whether a prefix lies outside of what the prefix lists of a clause permit, as far as the router's

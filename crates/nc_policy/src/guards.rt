@@ -13,7 +13,6 @@ use crate::names::NameIndex;
 use nc_community::Held;
 use nc_types::{CommunityEntry, Reference, RouterConfig};
 use std::alloc::{AllocError, Global};
-use std::collections::HashSet;
 
 // How many numbers a guard has at most.
 const GUARD_LIMIT: usize = 64;
@@ -49,17 +48,17 @@ impl Guard {
     }
 
     /// Adds its numbers to others, where it is sound, and tells whether it is.
-    pub(crate) fn add_to(&self, numbers: &mut HashSet<u32>) -> Result<bool, AllocError>
-        ensures kept { OnOk result ((n : ℕ) → has n numbers.old.keys ≡ true
-            → has n numbers.new.keys ≡ true) }
+    pub(crate) fn add_to(&self, numbers: &mut Vec<u32>) -> Result<bool, AllocError>
+        ensures kept { OnOk result ((n : ℕ) → has n numbers.old.items ≡ true
+            → has n numbers.new.items ≡ true) }
         ensures added { IfOk result (λ sound. sound ≡ true → (held : List ℕ)
-            → IsApart numbers.new.keys held → is_unheld self.now held ≡ true) }
+            → IsApart numbers.new.items held → is_unheld self.now held ≡ true) }
     {
         if !self.sound {
             return Ok(false);
         }
         'numbers: for number in &self.numbers {
-            numbers.insert(*number)?;
+            numbers.push(*number)?;
         }
         Ok(true)
     }

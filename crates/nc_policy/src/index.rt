@@ -2,7 +2,7 @@
 //! is asked at the prefixes around an address whose lengths entries have, and the lowest place of
 //! an entry that it has there is that of the entry which decides.
 
-ghost use Rattle.std.specs.Prelude.{◌≡◌, ◌<◌, ◌≤◌, ◌==◌, ◌&&◌, ℕ, All, List, Some};
+ghost use Rattle.std.specs.Prelude.{◌≡◌, ◌<◌, ◌≤◌, ◌==◌, ◌&&◌, ◌^◌, ℕ, All, List, Some, length};
 ghost use Rattle.std.specs.Prelude.{if◌then◌else◌, position, IfOk, None, OnOk};
 ghost use Rattle.std.specs.Option.{option_or};
 ghost use Rattle.nc_types.specs.Cidr.{Cidr, IsCidr};
@@ -80,25 +80,15 @@ fn put(items: &mut Vec<Placed>, entry: &ListEntry, place: u32) -> Result<(), All
     Ok(())
 }
 
-// The number of a place. Where it is none of 32 bits, it is refused as memory is.
-fn number(place: usize) -> Result<u32, AllocError>
-    ensures { IfOk result (λ number. number ≡ place) }
-{
-    match u32::try_from(place) {
-        Ok(number) => Ok(number),
-        Err(_) => Err(AllocError),
-    }
-}
-
 // The places of entries by their prefix and each of their lengths, from the first entry on.
 fn places_of(alloc: Global, entries: &[ListEntry]) -> Result<Vec<Placed>, AllocError>
+    requires { length entries.now < 2 ^ 32 }
     ensures { IfOk result (λ items. (q : Cidr) (n : ℕ) → n < 33
         → spot_in items.items q n ≡ position (is_at q n) entries.now) }
 {
     let mut items = Vec::with_capacity(alloc, entries.len())?;
     'entries: for (place, entry) in entries.iter().enumerate() {
-        let number = number(place)?;
-        put(&mut items, entry, number)?;
+        put(&mut items, entry, place as u32)?;
     }
     Ok(items)
 }
@@ -118,6 +108,7 @@ fn lengths_of(entries: &[ListEntry]) -> [bool; 33]
 impl ListIndex {
     /// The table of these entries. It takes no more memory than it needs.
     pub(crate) fn new(alloc: Global, entries: &[ListEntry]) -> Result<ListIndex, AllocError>
+        requires { length entries.now < 2 ^ 32 }
         ensures { IfOk result (IsIndexOf entries.now) }
     {
         let lengths = lengths_of(entries);

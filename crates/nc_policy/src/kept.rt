@@ -1,33 +1,39 @@
 //! Which clause of a map decides on a prefix, kept for routes whose communities meet no clause of the
 //! map that asks for some.
 
-ghost use Rattle.std.specs.Prelude.{◌≡◌, ◌&&◌, ℕ, List, map, [], true, nat_eq, IfSome, IfOk, None, OnOk, Some, if◌then◌else◌, slice_get};
+ghost use Rattle.std.specs.Prelude.{◌≡◌, ◌<◌, ◌≤◌, ◌^◌, ℕ, List, [], true, length, IfSome, IfOk, OnOk, Some, slice_get};
 ghost use Rattle.std.specs.List.{list_any};
 ghost use Rattle.std.specs.Option.{option_map};
-ghost use Rattle.nc_types.specs.Cidr.{Cidr, same_prefix};
+ghost use Rattle.nc_types.specs.Cidr.{Cidr};
 ghost use Rattle.nc_types.specs.Config.{ConfigView, clause_view, config_view};
 ghost use Rattle.nc_types.specs.WellFormed.{IsWellFormed};
 ghost use Rattle.nc_tables.specs.Policy.{deciding};
 ghost use Rattle.nc_tables.specs.declared.bgp.Route.{Route};
-ghost use Rattle.nc_policy.specs.Indexes.{place_from};
-ghost use Rattle.nc_policy.specs.Kept.{kept_at, lists_prefixes, AreAsked, AreKept, IsAskedOf, IsDecided, IsUnmet};
-ghost use Rattle.nc_policy.specs.Seen.{asked_table, asked_view, kept_table, IsIndexed};
+ghost use Rattle.nc_policy.specs.Best.{IsRising};
+ghost use Rattle.nc_policy.specs.Decisions.{decision_or, table_in, AreRight};
+ghost use Rattle.nc_policy.specs.Indexes.{place_from, placed_in, IsPrefixTable};
+ghost use Rattle.nc_policy.specs.Kept.{lists_prefixes, AreAsked, AreKept, IsAskedOf, IsDecided, IsUnmet};
+ghost use Rattle.nc_policy.specs.Seen.{asked_table, asked_view, kept_table, prefix_table, IsIndexed, IsPrefixIndex};
 ghost use Rattle.nc_policy.specs.Views.{asked, candidate_view, map_names, IsCandidate};
 
 use crate::asked::{asked_by, is_apart};
+use crate::best::best_of_each;
 use crate::clauses::{Candidate, scanned};
+use crate::decisions::{Decisions, decided_of};
+use crate::numbers::Numbers;
 use crate::router_index::RouterIndex;
+use crate::statements::PrefixIndex;
 use nc_community::Held;
 use nc_tables::Names;
 use nc_types::{Addr, Clause, Prefix, Reference, RouterConfig};
 use std::alloc::{AllocError, Global};
-use std::collections::{HashMap, HashSet};
+use std::rc::Rc;
 
 // How many decisions of a router's maps are kept at most.
 const KEPT_LIMIT: usize = 1 << 20;
 
 /// A map, by the place of its first clause, and a prefix.
-#[derive(Clone, Copy, PartialEq, Eq, Hash)]
+#[derive(Clone, Copy)]
 pub(crate) struct Asking {
     pub(crate) map: usize,
     pub(crate) prefix: Prefix,
@@ -40,30 +46,61 @@ pub(crate) struct Decided {
     pub(crate) names: Names,
 }
 
-/// Of what a map asks.
+/// What is known of a map.
 #[derive(Drop)]
 pub(crate) struct Asked {
     /// The numbers of which communities have to have one to meet a clause that asks for some.
-    pub(crate) numbers: HashSet<u32>,
+    pub(crate) numbers: Numbers,
     /// What a map that names no prefix list decides on every prefix, for routes whose communities meet
     /// no clause that asks for some.
     pub(crate) flat: Option<Option<Decided>>,
+    /// What another one decides on the network's prefixes, for the same routes.
+    pub(crate) table: Option<Decisions>,
 }
 
 /// What maps decide on prefixes, for routes whose communities meet no clause of the map that asks for
 /// some; `None` where no clause matches.
 #[derive(Drop)]
 pub(crate) struct Kept {
-    pub(crate) decided: HashMap<Asking, Option<Decided>>,
-    /// Of what maps ask, by the places of their first clauses; `None` where it isn't known.
+    /// The numbers of the network's prefixes, which the routers share.
+    pub(crate) numbers: Rc<PrefixIndex>,
+    /// What is known of maps, by the places of their first clauses; `None` where nothing is.
     pub(crate) asked: Vec<Option<Asked>>,
     /// Which maps were gone through, by the same places.
     done: Vec<bool>,
+    /// For how many prefixes of maps there are decisions.
+    count: usize,
+}
+
+// What a map decides on a prefix, if it is one of those that have a number.
+fn decision_on(numbers: &PrefixIndex, table: &Decisions, prefix: Prefix) -> Option<Option<Decided>>
+    ensures { IfSome result (λ d. option_map (decision_or table.now)
+        (placed_in (prefix_table numbers.now) prefix) ≡ Some d) }
+{
+    let number = numbers.place(prefix)?;
+    let decided = table.get(number)?;
+    Some(decided)
+}
+
+// For how many prefixes there are decisions of a map.
+fn count_in(asked: &Option<Asked>) -> usize {
+    let Some(asked) = asked else {
+        return 0;
+    };
+    match &asked.table {
+        Some(table) => table.len(),
+        None => 0,
+    }
 }
 
 impl Kept {
     /// Nothing is kept, but there is room for so many maps.
-    pub(crate) fn with_room(alloc: Global, count: usize) -> Result<Kept, AllocError>
+    pub(crate) fn with_room(
+        alloc: Global,
+        numbers: Rc<PrefixIndex>,
+        count: usize,
+    ) -> Result<Kept, AllocError>
+        ensures numbers { IfOk result (λ kept. kept.numbers.value ≡ numbers.value) }
         ensures kept { IfOk result (λ kept. kept_table kept ≡ []) }
         ensures asked { IfOk result (λ kept. (c : ConfigView) → AreAsked c (asked_table kept)) }
     {
@@ -73,19 +110,21 @@ impl Kept {
         }
         let done = vec![in alloc; false; count]?;
         Ok(Kept {
-            decided: HashMap::new(alloc),
+            numbers,
             asked,
             done,
+            count: 0,
         })
     }
 
     /// What is kept of a map and a prefix, for a route with these communities. Takes no memory.
-    pub(crate) fn get(&self, map: usize, prefix: Prefix, held: &Held) -> Option<Option<Decided>>
+    pub(crate) fn get(&self, asking: Asking, held: &Held) -> Option<Option<Decided>>
         ensures { (config : ConfigView) (name : List ℕ) → AreAsked config (asked_table self.now)
-            → AreKept config (kept_table self.now) → slice_get (map_names config) map ≡ Some name
-            → IfSome result (IsDecided config name (asked prefix held.now)) }
+            → AreKept config (kept_table self.now)
+            → slice_get (map_names config) asking.map ≡ Some name
+            → IfSome result (IsDecided config name (asked asking.prefix held.now)) }
     {
-        let Some(Some(asked)) = self.asked.get(map) else {
+        let Some(Some(asked)) = self.asked.get(asking.map) else {
             return None;
         };
         if !is_apart(&asked.numbers, held) {
@@ -94,44 +133,39 @@ impl Kept {
         if let Some(decided) = asked.flat {
             return Some(decided);
         }
-        self.decided_on(map, prefix)
-    }
-
-    // What is kept of a map and a prefix.
-    fn decided_on(&self, map: usize, prefix: Prefix) -> Option<Option<Decided>>
-        ensures { result ≡ kept_at (kept_table self.now) map prefix }
-    {
-        self.decided.get(&Asking { map, prefix }).copied()
+        let Some(table) = &asked.table else {
+            return None;
+        };
+        decision_on(self.numbers.as_ref(), table, asking.prefix)
     }
 
     // Notes that a map was gone through, and what was found.
     fn mark(&mut self, map: usize, asked: Option<Asked>)
-        ensures kept { kept_table self.new ≡ kept_table self.old }
+        ensures numbers { self.new.numbers.value ≡ self.old.numbers.value }
+        ensures kept { (config : ConfigView) (name : List ℕ) → AreKept config (kept_table self.old)
+            → slice_get (map_names config) map ≡ Some name
+            → IfSome (table_in asked) (AreRight config name (prefix_table self.old.numbers.value))
+            → AreKept config (kept_table self.new) }
         ensures asked { (config : ConfigView) (name : List ℕ) → AreAsked config (asked_table self.old)
             → slice_get (map_names config) map ≡ Some name
             → IfSome asked (λ a. IsAskedOf config name (asked_view a))
             → AreAsked config (asked_table self.new) }
     {
         if map < self.done.len() && map < self.asked.len() {
+            self.count = self.count.saturating_add(count_in(&asked));
             self.done[map] = true;
             self.asked[map] = asked;
         }
     }
 
-    // Keeps what a map decides on a prefix.
-    fn put(
-        &mut self,
-        map: usize,
-        prefix: Prefix,
-        decided: Option<Decided>,
-    ) -> Result<(), AllocError>
-        ensures put { OnOk result ((m : ℕ) (p : Cidr) → kept_at (kept_table self.new) m p
-            ≡ (if nat_eq map m && same_prefix prefix p then Some decided
-            else kept_at (kept_table self.old) m p)) }
-        ensures asked { asked_table self.new ≡ asked_table self.old }
+    // Whether a map whose first clause stands at this place is still to be gone through, for so many
+    // prefixes.
+    fn is_open(&self, map: usize, prefixes: usize) -> bool
+        ensures { result ≡ true → prefixes ≤ KEPT_LIMIT }
     {
-        self.decided.insert(Asking { map, prefix }, decided)?;
-        Ok(())
+        let room = KEPT_LIMIT - self.count.min(KEPT_LIMIT);
+        let done = self.done.get(map).copied().unwrap_or(true);
+        !done && prefixes <= room
     }
 }
 
@@ -151,17 +185,6 @@ pub(crate) fn candidate_of<'a>(
         place: decided.place,
         clause,
         names: decided.names,
-    })
-}
-
-// What is to be kept of a clause that decides.
-fn decided_of(candidate: Option<Candidate<'_>>) -> Option<Decided>
-    ensures { result ≡ option_map (λ k. record { place = k.place; names = k.names }) candidate.entry }
-{
-    let candidate = candidate?;
-    Some(Decided {
-        place: candidate.place,
-        names: candidate.names,
     })
 }
 
@@ -202,36 +225,67 @@ fn flat_of(
     Some(decided_of(found))
 }
 
-// Keeps what a map decides on these prefixes. Its first clause stands at this place.
-fn keep_map(
+// What a map decides on these prefixes, which are in order and have these numbers. Its first clause
+// stands at this place.
+fn decisions_of(
+    alloc: Global,
     config: &RouterConfig,
     index: &RouterIndex,
-    kept: &mut Kept,
     name: &[u8],
     first: usize,
     prefixes: &[Prefix],
-) -> Result<(), AllocError>
+) -> Result<Decisions, AllocError>
     requires indexed { IsIndexed (config_view config.now) index.now }
     requires formed { IsWellFormed (config_view config.now) }
     requires unmet { IsUnmet (config_view config.now) name.now [] }
     requires first { Some first ≡ place_from name.now 0 (map_names (config_view config.now)) }
-    requires kept { AreKept (config_view config.now) (kept_table kept.old) }
-    requires asked { AreAsked (config_view config.now) (asked_table kept.old) }
-    ensures kept { OnOk result (AreKept (config_view config.now) (kept_table kept.new)) }
-    ensures asked { OnOk result (AreAsked (config_view config.now) (asked_table kept.new)) }
+    requires rising { IsRising prefixes.now }
+    requires few { length prefixes.now < 2 ^ 32 }
+    ensures { IfOk result (λ table. (ps : List (Cidr × ℕ)) → IsPrefixTable prefixes.now ps
+        → AreRight (config_view config.now) name.now ps table) }
 {
-    'prefixes: for prefix in prefixes {
-        let found = scanned(
-            config,
-            Some(index),
-            name,
-            Some(first),
-            *prefix,
-            &Held::none(),
-        );
-        kept.put(first, *prefix, decided_of(found))?;
+    let best = best_of_each(alloc, config, index, name, first, prefixes)?;
+    let table = Decisions::of(alloc, &best)?;
+    Ok(table)
+}
+
+// What is known of a map, if it is known what communities it asks for. Its first clause stands at this
+// place.
+fn asked_of(
+    alloc: Global,
+    config: &RouterConfig,
+    index: &RouterIndex,
+    name: &[u8],
+    first: usize,
+    prefixes: &[Prefix],
+) -> Result<Option<Asked>, AllocError>
+    requires indexed { IsIndexed (config_view config.now) index.now }
+    requires formed { IsWellFormed (config_view config.now) }
+    requires first { Some first ≡ place_from name.now 0 (map_names (config_view config.now)) }
+    requires rising { IsRising prefixes.now }
+    requires few { length prefixes.now < 2 ^ 32 }
+    ensures asked { IfOk result (λ asked. IfSome asked
+        (λ a. IsAskedOf (config_view config.now) name.now (asked_view a))) }
+    ensures table { IfOk result (λ asked. (ps : List (Cidr × ℕ)) → IsPrefixTable prefixes.now ps
+        → IfSome (table_in asked) (AreRight (config_view config.now) name.now ps)) }
+{
+    let Some(numbers) = asked_by(alloc, config, index, name, first)? else {
+        return Ok(None);
+    };
+    let flat = flat_of(config, index, name, first);
+    if flat.is_some() {
+        return Ok(Some(Asked {
+            numbers,
+            flat,
+            table: None,
+        }));
     }
-    Ok(())
+    let table = decisions_of(alloc, config, index, name, first, prefixes)?;
+    Ok(Some(Asked {
+        numbers,
+        flat: None,
+        table: Some(table),
+    }))
 }
 
 // Keeps what the map of a neighbor statement decides on these prefixes, if there is one of which it is
@@ -246,8 +300,11 @@ fn keep_named(
 ) -> Result<(), AllocError>
     requires indexed { IsIndexed (config_view config.now) index.now }
     requires formed { IsWellFormed (config_view config.now) }
+    requires rising { IsRising prefixes.now }
+    requires numbers { IsPrefixIndex prefixes.now kept.old.numbers.value }
     requires kept { AreKept (config_view config.now) (kept_table kept.old) }
     requires asked { AreAsked (config_view config.now) (asked_table kept.old) }
+    ensures numbers { OnOk result (kept.new.numbers.value ≡ kept.old.numbers.value) }
     ensures kept { OnOk result (AreKept (config_view config.now) (kept_table kept.new)) }
     ensures asked { OnOk result (AreAsked (config_view config.now) (asked_table kept.new)) }
 {
@@ -258,36 +315,32 @@ fn keep_named(
     let Some(first) = index.maps.place(name) else {
         return Ok(());
     };
-    let room = KEPT_LIMIT - kept.decided.len().min(KEPT_LIMIT);
-    if kept.done.get(first).copied().unwrap_or(true) || prefixes.len() > room {
+    if !kept.is_open(first, prefixes.len()) {
         return Ok(());
     }
-    let Some(numbers) = asked_by(alloc, config, index, name, first)? else {
-        kept.mark(first, None);
-        return Ok(());
-    };
-    let flat = flat_of(config, index, name, first);
-    kept.mark(first, Some(Asked { numbers, flat }));
-    if flat.is_some() {
-        return Ok(());
-    }
-    keep_map(config, index, kept, name, first, prefixes)
+    let asked = asked_of(alloc, config, index, name, first, prefixes)?;
+    kept.mark(first, asked);
+    Ok(())
 }
 
 /// What the maps of a router's neighbor statements decide on these prefixes, for routes whose
-/// communities meet no clause of the map that asks for some.
+/// communities meet no clause of the map that asks for some. The prefixes are in order, and have these
+/// numbers.
 pub(crate) fn kept_of(
     alloc: Global,
     config: &RouterConfig,
     index: &RouterIndex,
     prefixes: &[Prefix],
+    numbers: Rc<PrefixIndex>,
 ) -> Result<Kept, AllocError>
     requires indexed { IsIndexed (config_view config.now) index.now }
     requires formed { IsWellFormed (config_view config.now) }
+    requires rising { IsRising prefixes.now }
+    requires numbers { IsPrefixIndex prefixes.now numbers.value }
     ensures kept { IfOk result (λ kept. AreKept (config_view config.now) (kept_table kept)) }
     ensures asked { IfOk result (λ kept. AreAsked (config_view config.now) (asked_table kept)) }
 {
-    let mut kept = Kept::with_room(alloc, config.clauses.len())?;
+    let mut kept = Kept::with_room(alloc, numbers, config.clauses.len())?;
     let Some(process) = &config.process else {
         return Ok(kept);
     };

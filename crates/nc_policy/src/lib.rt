@@ -11,14 +11,15 @@
 //!
 //! What the maps of neighbor statements decide on the prefixes of the network's networks and
 //! aggregates is worked out once and kept, for routes whose communities meet no clause of the map
-//! that asks for some. A table of the map says of which communities a route has to have one to meet
+//! that asks for some; a clause is asked only about the prefixes that lie between the addresses where
+//! its prefix lists permit. A table of the map says of which communities a route has to have one to meet
 //! such a clause: a route that has none of them is decided by two look-ups and one for each of its
 //! communities, however many clauses and lists there are. Of a map that names no prefix list one such
-//! decision is kept for all prefixes; of others what is kept takes memory for each of a router's maps
-//! in use times the prefixes, and for no more than 1,048,576 decisions of a router. What isn't kept is
-//! found by going over the clauses. [`pass`] tells the same without
-//! making the route, without a set of communities and without memory: which clause let it pass, and
-//! by which entries. The tables find the network and the aggregate of a prefix too.
+//! decision is kept for all prefixes; of others 4 bytes are kept for each of a router's maps in use and
+//! prefix, for no more than 1,048,576 of them on a router, and each decision once where prefixes that
+//! follow one another share it. What isn't kept is found by going over the clauses. [`pass`] tells the
+//! same without making the route, without a set of communities and without memory: which clause let it
+//! pass, and by which entries. The tables find the network and the aggregate of a prefix too.
 //!
 //! The crate stands on `nc_types` for the configuration of a router, on `nc_tables` for routes and
 //! for the definition of what a map makes of one, and on `nc_community` for sets of communities.
@@ -26,12 +27,15 @@
 #![tactic(auto)]
 
 mod asked;
+mod best;
 mod clauses;
+mod decisions;
 mod guards;
 mod index;
 mod kept;
 mod lists;
 mod names;
+mod numbers;
 mod passing;
 mod policies;
 mod route_map;

@@ -1,7 +1,7 @@
 //! The tables of all routers of a network, by which route maps, networks and aggregates are asked
 //! again and again.
 
-ghost use Rattle.std.specs.Prelude.{◌≡◌, ◌+◌, ◌<◌, ◌≤◌, List, length, IfOk, IfSome, Some, position, slice_get};
+ghost use Rattle.std.specs.Prelude.{◌≡◌, ◌+◌, ◌<◌, ◌≤◌, List, length, All, IfOk, IfSome, Some, position, slice_get};
 ghost use Rattle.std.specs.Option.{option_map};
 ghost use Rattle.nc_types.specs.Cidr.{same_prefix};
 ghost use Rattle.nc_types.specs.Config.{ConfigView};
@@ -9,8 +9,9 @@ ghost use Rattle.nc_types.specs.declared.TheConstants.{COMMUNITY_LIMIT, PATH_LIM
 ghost use Rattle.nc_tables.specs.Policy.{verdict};
 ghost use Rattle.nc_tables.specs.Rounds.{passed};
 ghost use Rattle.nc_tables.specs.declared.bgp.Route.{Route};
+ghost use Rattle.nc_policy.specs.Best.{IsRising};
 ghost use Rattle.nc_policy.specs.Indexes.{ArePolicies};
-ghost use Rattle.nc_policy.specs.Seen.{IsIndexed};
+ghost use Rattle.nc_policy.specs.Seen.{IsIndexed, IsPrefixIndex};
 ghost use Rattle.nc_policy.specs.Passing.{communities_by, passing_view, prepended_by};
 ghost use Rattle.nc_policy.specs.Statements.{aggregates_in, networks_in};
 ghost use Rattle.nc_policy.specs.Views.{verdict_view};
@@ -18,12 +19,13 @@ ghost use Rattle.nc_policy.specs.Views.{verdict_view};
 use crate::passing::{Passing, pass_map};
 use crate::route_map::{Verdict, judge};
 use crate::router_index::RouterIndex;
-use crate::statements::{aggregates_in, networks_in};
+use crate::statements::{PrefixIndex, aggregates_in, networks_in};
 use nc_community::Held;
 use nc_tables::Route;
 use nc_types::{Network, Prefix, Reference, RouterConfig, RouterId};
 use std::alloc::{AllocError, Global};
 use std::marker::Model;
+use std::rc::Rc;
 
 /// The tables of the maps and lists of a network's routers, and of their networks and aggregates.
 /// They are made once, and by them the clauses of a map are found one behind the other, a list by
@@ -46,9 +48,20 @@ impl Model for Policies {
     ghost view = { λ p. map router_tables p.routers.items };
 }
 
-// The prefixes of the networks and aggregates of routers, each once: no other prefix begins
+// Addresses have 32 bits.
+fn read_addresses(prefixes: &[Prefix])
+    ensures { All (λ p. p.base < 4294967296) prefixes.now }
+{
+    'prefixes: for prefix in prefixes {
+        let _addr = prefix.addr();
+    }
+}
+
+// The prefixes of the networks and aggregates of routers, in order, each once: no other prefix begins
 // anywhere.
-fn prefixes_in(alloc: Global, configs: &[RouterConfig]) -> Result<Vec<Prefix>, AllocError> {
+fn prefixes_in(alloc: Global, configs: &[RouterConfig]) -> Result<Vec<Prefix>, AllocError>
+    ensures { IfOk result (λ prefixes. IsRising prefixes.items) }
+{
     let mut prefixes = Vec::new(alloc);
     'routers: for config in configs {
         prefixes.extend(networks_in(config).iter().map(|network| network.prefix))?;
@@ -60,7 +73,17 @@ fn prefixes_in(alloc: Global, configs: &[RouterConfig]) -> Result<Vec<Prefix>, A
     }
     prefixes.sort()?;
     prefixes.dedup();
+    read_addresses(&prefixes);
     Ok(prefixes)
+}
+
+// The numbers of prefixes, which are their places.
+fn numbers_of(alloc: Global, prefixes: &[Prefix]) -> Result<Rc<PrefixIndex>, AllocError>
+    ensures { IfOk result (λ numbers. IsPrefixIndex prefixes.now numbers.value) }
+{
+    let table = PrefixIndex::numbered(alloc, prefixes)?;
+    let numbers = Rc::new(alloc, table)?;
+    Ok(numbers)
 }
 
 impl Policies {
@@ -74,9 +97,11 @@ impl Policies {
     {
         let configs = network.routers();
         let prefixes = prefixes_in(alloc, configs)?;
+        let numbers = numbers_of(alloc, &prefixes)?;
         let mut routers = Vec::with_capacity(alloc, configs.len())?;
         'routers: for config in configs {
-            routers.push(RouterIndex::new(alloc, config, &prefixes)?)?;
+            let tables = RouterIndex::new(alloc, config, &prefixes, numbers.clone()?)?;
+            routers.push(tables)?;
         }
         Ok(Policies { routers })
     }

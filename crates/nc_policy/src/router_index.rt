@@ -1,11 +1,12 @@
 //! The tables of one router: of its lists and maps, and of its networks and aggregates.
 
-ghost use Rattle.std.specs.Prelude.{map, IfOk, IfSome};
+ghost use Rattle.std.specs.Prelude.{◌<◌, ◌^◌, length, map, All, IfOk, IfSome};
 ghost use Rattle.std.specs.Option.{option_map};
 ghost use Rattle.nc_types.specs.Config.{config_view, list_view};
 ghost use Rattle.nc_types.specs.WellFormed.{IsWellFormed};
+ghost use Rattle.nc_policy.specs.Best.{IsRising};
 ghost use Rattle.nc_policy.specs.Indexes.{AreEntryTables};
-ghost use Rattle.nc_policy.specs.Seen.{entry_table, IsIndexed, IsIndexOf};
+ghost use Rattle.nc_policy.specs.Seen.{entry_table, IsIndexed, IsIndexOf, IsPrefixIndex};
 
 use crate::guards::{Guard, clause_guards};
 use crate::index::ListIndex;
@@ -15,6 +16,7 @@ use crate::spans::{Span, clause_spans};
 use crate::statements::{PrefixIndex, aggregates_in, networks_in};
 use nc_types::{Prefix, PrefixList, Reference, RouterConfig};
 use std::alloc::{AllocError, Global};
+use std::rc::Rc;
 
 /// The tables of a router's lists and maps: their places by name, and of each longer prefix list that
 /// a clause asks what it says; and those of its networks and aggregates, their places by prefix.
@@ -65,6 +67,7 @@ fn list_index(
     list: &PrefixList,
     is_asked: bool,
 ) -> Result<Option<ListIndex>, AllocError>
+    requires { length list.now.entries.items < 2 ^ 32 }
     ensures { IfOk result (λ index. IfSome index (IsIndexOf list.now.entries.items)) }
 {
     if !is_asked || list.entries.len() <= FEW_ENTRIES {
@@ -80,6 +83,7 @@ fn list_indexes(
     lists: &[PrefixList],
     asked: &[bool],
 ) -> Result<Vec<Option<ListIndex>>, AllocError>
+    requires { All (λ l. length l.entries.items < 2 ^ 32) lists.now }
     ensures { IfOk result (λ indexes.
         AreEntryTables (map list_view lists.now) (map (option_map entry_table) indexes.items)) }
 {
@@ -92,20 +96,27 @@ fn list_indexes(
 }
 
 impl RouterIndex {
-    // The tables of a router, with nothing kept of its maps.
-    fn bare(alloc: Global, config: &RouterConfig) -> Result<RouterIndex, AllocError>
+    // The tables of a router, with nothing kept of its maps. Its lists have no more entries than it has
+    // lines.
+    fn bare(
+        alloc: Global,
+        config: &RouterConfig,
+        numbers: Rc<PrefixIndex>,
+    ) -> Result<RouterIndex, AllocError>
+        requires { IsWellFormed (config_view config.now) }
         ensures { IfOk result (IsIndexed (config_view config.now)) }
     {
         let names = NameIndex::new(alloc, &config.lists)?;
         let community_names = NameIndex::new(alloc, &config.community_lists)?;
         let maps = NameIndex::new(alloc, &config.clauses)?;
         let asked = asked_lists(alloc, config, &names)?;
+        let _lines = config.line_count;
         let lists = list_indexes(alloc, &config.lists, &asked)?;
         let spans = clause_spans(alloc, config, &names)?;
         let guards = clause_guards(alloc, config, &community_names)?;
         let networks = PrefixIndex::new(alloc, networks_in(config))?;
         let aggregates = PrefixIndex::new(alloc, aggregates_in(config))?;
-        let kept = Kept::with_room(alloc, 0)?;
+        let kept = Kept::with_room(alloc, numbers, 0)?;
         Ok(RouterIndex {
             names,
             community_names,
@@ -119,17 +130,21 @@ impl RouterIndex {
         })
     }
 
-    /// The tables of a router. What its maps decide on these prefixes is kept.
+    /// The tables of a router. What its maps decide on these prefixes, which are in order and have these
+    /// numbers, is kept.
     pub(crate) fn new(
         alloc: Global,
         config: &RouterConfig,
         prefixes: &[Prefix],
+        numbers: Rc<PrefixIndex>,
     ) -> Result<RouterIndex, AllocError>
-        requires { IsWellFormed (config_view config.now) }
+        requires formed { IsWellFormed (config_view config.now) }
+        requires rising { IsRising prefixes.now }
+        requires numbers { IsPrefixIndex prefixes.now numbers.value }
         ensures { IfOk result (IsIndexed (config_view config.now)) }
     {
-        let mut tables = RouterIndex::bare(alloc, config)?;
-        tables.kept = kept_of(alloc, config, &tables, prefixes)?;
+        let mut tables = RouterIndex::bare(alloc, config, numbers.clone()?)?;
+        tables.kept = kept_of(alloc, config, &tables, prefixes, numbers)?;
         Ok(tables)
     }
 }

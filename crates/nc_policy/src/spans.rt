@@ -39,8 +39,8 @@ fn nowhere() -> Span
     }
 }
 
-// All addresses.
-fn everywhere() -> Span
+/// All addresses.
+pub(crate) fn everywhere() -> Span
     ensures { (addr : ℕ) → addr < 4294967296 → is_outside result addr ≡ false }
 {
     Span {

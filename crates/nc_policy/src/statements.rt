@@ -1,5 +1,5 @@
 //! Where the statement of a prefix stands among the networks or the aggregates of a process, by a
-//! table.
+//! table; and where a prefix stands among those of a network.
 
 ghost use Rattle.std.specs.Prelude.{◌≡◌, map, IfOk};
 ghost use Rattle.nc_types.specs.Cidr.{Cidr};
@@ -73,6 +73,19 @@ impl PrefixIndex {
         'items: while place > 0 {
             place -= 1;
             first.insert(items[place].prefix(), place)?;
+        }
+        Ok(PrefixIndex { first })
+    }
+
+    /// The table of these prefixes.
+    pub(crate) fn numbered(alloc: Global, prefixes: &[Prefix]) -> Result<PrefixIndex, AllocError>
+        ensures { IfOk result (IsPrefixIndex prefixes.now) }
+    {
+        let mut first = HashMap::new(alloc);
+        let mut place = prefixes.len();
+        'prefixes: while place > 0 {
+            place -= 1;
+            first.insert(prefixes[place], place)?;
         }
         Ok(PrefixIndex { first })
     }

@@ -48,7 +48,7 @@ clauses-preserved c =
     let own = at_some (λ (k : ℕ). slice_get names k ≡ Some name) c.clauses.next c.clauses.invariant.named place c.in-Some.is in
     let later = c.behind-next.result in
     let is : later ≡ place_from name (place + 1) names = c.behind-next.ensures names name c.requires.indexed.maps own in
-    let before : (held : List ℕ) → IsApart c.add_clause.new.numbers.keys held → IsApart c.clauses.numbers.keys held = λ held apart n e. apart n (c.in_ok-add_clause.ensures.kept n e) in
+    let before : (held : List ℕ) → IsApart c.add_clause.new.numbers.items held → IsApart c.clauses.numbers.items held = λ held apart n e. apart n (c.in_ok-add_clause.ensures.kept n e) in
     record {
       named = named_if name names (place + 1) later is;
       past = λ j k at asked past held apart. elim (cases_eq j place) [
@@ -76,4 +76,4 @@ clauses-smaller c =
     fewer (length c.args.config.now.clauses.items) place c.clauses.next later c.in-Some.is inside (at_some (λ (k : ℕ). place + 1 ≤ k) later (behind_if name names (place + 1) later is))
 
 pub returns : goal.returns
-returns c = λ held apart j k at asked. c.clauses.invariant.past j k at asked (ap (λ (o : Option ℕ). is_past o j) c.in_default.is) held apart
+returns c = λ held apart j k at asked. c.clauses.invariant.past j k at asked (ap (λ (o : Option ℕ). is_past o j) c.in_default.is) held (λ n e. apart n (c.in_ok-numbers.ensures n e))

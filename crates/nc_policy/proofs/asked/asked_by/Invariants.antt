@@ -13,7 +13,7 @@ abbrev pub invariant-clauses : goal.invariant-clauses
 invariant-clauses l = record {
   named : IfSome l.next (λ k. slice_get (map_names (config_view l.config)) k ≡ Some l.name);
   past :
-      (j : ℕ) (k : ClauseView) → slice_get (config_view l.config).clauses j ≡ Some k → asks l.name k ≡ true → is_past l.next j ≡ true → (held : List ℕ) → IsApart l.numbers.keys held
+      (j : ℕ) (k : ClauseView) → slice_get (config_view l.config).clauses j ≡ Some k → asks l.name k ≡ true → is_past l.next j ≡ true → (held : List ℕ) → IsApart l.numbers.items held
       → met (community_place (config_view l.config) held) k.community_lists ≡ None;
 }
 

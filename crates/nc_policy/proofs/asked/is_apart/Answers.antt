@@ -9,7 +9,7 @@ is_not false e = refl
 
 pub returns-then-not-has_one : goal.returns-then-not-has_one
 returns-then-not-has_one c = λ yes n own.
-    let numbers = c.args.numbers.now.keys in
+    let numbers = c.args.numbers.now in
     let parts = c.parts.result in
     let one = none_of numbers parts.0.now (sym c.has_one.ensures ∙ c.if-not-has_one.true) n own in
     let other = none_of numbers parts.1.now (sym c.has_one-then-not-has_one.ensures ∙ is_not c.has_one-then-not-has_one.result yes) n own in

@@ -1,4 +1,4 @@
-use Rattle.std.proofs.Common.{ℕ, ◌+◌, List, drop, Option, Some, None, cond, sym, ap, ◌∙◌}
+use Rattle.std.proofs.Common.{ℕ, ◌+◌, List, drop, Option, sym, ap, ◌∙◌}
 use Rattle.std.specs.List.{position_from}
 use Rattle.std.specs.Option.{option_or}
 use Rattle.std.proofs.lemmas.Iterator.Adapters.{position_from-zero}
@@ -21,7 +21,6 @@ entries-preserved c = λ q n few.
     let found = spot_in c.entries.items.items q n in
     let later = position_from (is_at q n) (place + 1) (drop (place + 1) entries) in
     ap (λ (o : Option ℕ). option_or o later) (c.in_ok-put.ensures q n few)
-    ∙ ap (λ (k : ℕ). option_or (option_or found (cond (is_at q n entry) (Some k) None)) later) c.in_ok-number.ensures
     ∙ one_entry_more q n entries place entry found c.index-entries-place.is c.entries-test.true
     ∙ c.entries.invariant q n few
 

@@ -1,4 +1,5 @@
-use Rattle.std.proofs.Common.{◌≡◌, ◌<◌, List, Option, Some, None, IfSome, length, map, refl, ap, sym, ◌∙◌, arith}
+use Rattle.std.proofs.Common.{◌≡◌, ◌<◌, ◌^◌, List, Option, Some, None, IfSome, length, map, refl, ap, sym, subst, ◌∙◌, arith}
+use Rattle.nc_types.specs.declared.config.PrefixList.{PrefixList}
 use Rattle.std.specs.Prelude.{slice_get}
 use Rattle.std.specs.Option.{option_map}
 use Rattle.std.proofs.lemmas.List.{length-map, length_push}
@@ -39,3 +40,10 @@ returns c =
       each = λ k p t at here. for_if (IsEntryTable p.entries) t
           (each_seen (λ (p : PrefixListView) (t : Option EntryTable). IfSome t (IsEntryTable p.entries)) (option_map entry_table) (map list_view c.args.lists.now) c.lists.indexes.items c.lists.invariant.each k p t at here);
     }
+
+pub list_index-requires : goal.list_index-requires
+list_index-requires c =
+    let lists = c.args.lists.now in
+    let place = c.lists.place in
+    let list = c.index-lists-place.result in
+    subst (λ (l : PrefixList). length l.entries.items < 2 ^ 32) (sym c.index-lists-place.is) (c.requires place list (omega arith))

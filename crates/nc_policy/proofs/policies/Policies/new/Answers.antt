@@ -16,13 +16,13 @@ routers-preserved c =
     let configs = c.routers-configs.result.now in
     let config = c.config-item.result in
     let old = c.routers.routers.items in
-    let table = c.in_ok-new.field-0 in
+    let table = c.in_ok-tables.tables in
     let within : c.routers.config-index < length configs = omega arith in
     let at : slice_get (map config_view configs) (length old) ≡ Some (config_view config) =
     ap (slice_get (map config_view configs)) c.routers.invariant.count ∙ seen_at config_view configs configs c.routers.config-index config refl within c.config-item.is in
     record {
       count = omega (arith, ap (length {A = RouterIndex}) c.in_ok-push.ensures.items, length_push old table);
-      each = pushed IsIndexed (map config_view configs) old c.push.new.self.items (config_view config) table c.in_ok-push.ensures.items at c.in_ok-new.ensures c.routers.invariant.each;
+      each = pushed IsIndexed (map config_view configs) old c.push.new.self.items (config_view config) table c.in_ok-push.ensures.items at c.in_ok-tables.ensures c.routers.invariant.each;
     }
 
 pub returns : goal.returns
@@ -34,8 +34,8 @@ returns c =
       each = each_seen AreTablesOf router_tables c.args.network.now c.routers.routers.items (subst (λ (cs : List ConfigView). (k : ℕ) (r : ConfigView) (x : RouterIndex) → slice_get cs k ≡ Some r → slice_get c.routers.routers.items k ≡ Some x → IsIndexed r x) c.routers-configs.ensures.routers c.routers.invariant.each);
     }
 
-pub new-requires : goal.new-requires
-new-requires c =
+pub new-requires-clause-formed : goal.new-requires-clause-formed
+new-requires-clause-formed c =
     let configs = c.routers-configs.result.now in
     let config = config_view c.config-item.result in
     let place = c.routers.config-index in

@@ -1,4 +1,5 @@
-use Rattle.std.proofs.Common.{List, map, subst}
+use Rattle.std.proofs.Common.{List, get_or, map, subst, arith}
+use Rattle.std.proofs.lemmas.List.{get_or_default}
 use Rattle.std.specs.Option.{option_map}
 use Rattle.nc_types.specs.Config.{PrefixListView, CommunityListView, ClauseView, list_view, community_list_view, clause_view, config_view}
 use Rattle.nc_types.specs.declared.config.NetworkStatement.{NetworkStatement}
@@ -6,8 +7,10 @@ use Rattle.nc_types.specs.declared.config.AggregateStatement.{AggregateStatement
 use Rattle.nc_types.specs.declared.config.PrefixList.{PrefixList}
 use Rattle.nc_policy.specs.Indexes.{AreEntryTables}
 use Rattle.nc_policy.specs.Seen.{entry_table, kept_table, IsPrefixIndex}
+use Rattle.nc_policy.proofs.Few.{few_of_list}
 use Rattle.nc_policy.proofs.Keeping.{nothing_kept}
 use Rattle.nc_policy.proofs.Naming.{names_seen}
+use Rattle.nc_policy.proofs.Permitting.{seen_at}
 use Rattle.nc_policy.proofs.router_index.RouterIndex.bare.Goals as goal
 
 pub returns : goal.returns
@@ -35,3 +38,10 @@ pub clause_guards-requires : goal.clause_guards-requires
 clause_guards-requires c =
     names_seen (λ (l : CommunityListView). l.name) community_list_view c.deref-2.result.now c.args.config.now.community_lists.items c.deref-2.ensures.value c.in_ok-community_names.community_names
     c.in_ok-community_names.ensures
+
+pub list_indexes-requires : goal.list_indexes-requires
+list_indexes-requires c = λ k d lt.
+    let config = c.args.config.now in
+    let lists = c.deref-4.result.now in
+    let at = seen_at list_view config.lists.items lists k (get_or lists k d) c.deref-4.ensures.value lt (get_or_default lists k d (get_or lists k d) lt) in
+    omega (arith, few_of_list config c.requires k (list_view (get_or lists k d)) at)
