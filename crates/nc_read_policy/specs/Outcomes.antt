@@ -34,11 +34,6 @@ abbrev pub IsCommunityEntry : Result (List ℕ × CommunityEntry) ConfigFault �
 IsCommunityEntry (Ok named) read = read ≡ Ok named
 IsCommunityEntry (Err fault) read = IsFault fault read
 
--- what was returned is what a line writes, or its fault
-abbrev pub IsStatement : Result ListEntry ConfigFault → Result ListEntry Fault → Type 0
-IsStatement (Ok entry) read = read ≡ Ok entry
-IsStatement (Err fault) read = IsFault fault read
-
 -- what was returned is what some lines write, or this fault, unless memory ran out
 abbrev pub AreStatements : Result (Vec ListEntry Global) ConfigFault → Result (List ListEntry) Fault → Type 0
 AreStatements (Ok entries) read = read ≡ Ok entries.items

@@ -53,6 +53,7 @@ pub(crate) fn cut_seq(text: &[u8]) -> Option<(u32, &[u8])>
 }
 
 // Whether the action is `permit`, and what follows it.
+#[inline(always)]
 fn cut_action(text: &[u8]) -> Option<(bool, &[u8])>
     ensures words { IfSome result (λ cut. words_of text.now
         ≡ action_word cut.0 ∷ words_of cut.1.now) }

@@ -101,6 +101,7 @@ fn cut_octet(text: &[u8], mark: u8) -> Option<(u32, &[u8])>
 }
 
 /// The length up to 32 at the front, and what is behind it.
+#[inline(always)]
 pub(crate) fn cut_len(text: &[u8]) -> Option<(u32, &[u8])>
     ensures read { IfSome result (λ cut. IsFrontNumber 32 text.now cut.0 cut.1.now) }
     ensures within { IfSome result (λ cut. cut.0 ≤ 32) }

@@ -1,14 +1,15 @@
 //! The prefix list that its statements make.
 
-ghost use Rattle.std.specs.Prelude.{◌≡◌, ◌<◌, ◌≤◌, All, length, IfSome};
+ghost use Rattle.std.specs.Prelude.{◌≡◌, ◌<◌, ◌≤◌, All, length, IfSome, option_and_then};
 ghost use Rattle.nc_lines.specs.Readings.{reading_of};
 ghost use Rattle.nc_lines.specs.Lines.{words_of};
 ghost use Rattle.nc_lines.specs.Parts.{numbered};
-ghost use Rattle.nc_read_policy.specs.Lists.{list_name_says, list_in, higher, statement_at};
+ghost use Rattle.nc_read_policy.specs.Entries.{any_entry};
+ghost use Rattle.nc_read_policy.specs.Lists.{list_name_says, list_in, higher, behind_name};
 ghost use Rattle.nc_read_policy.specs.Lists.{stated_from};
 ghost use Rattle.nc_lines.specs.Statements.{said_as};
 ghost use Rattle.nc_read_policy.specs.Heads.{IsHead};
-ghost use Rattle.nc_read_policy.specs.Outcomes.{IsStatement, AreStatements, AreEntries};
+ghost use Rattle.nc_read_policy.specs.Outcomes.{AreStatements, AreEntries};
 
 use crate::entries::any_entry;
 use crate::frequent::begins_entry;
@@ -43,28 +44,16 @@ pub fn read_list_name(rest: &[u8]) -> Reading<&[u8]>
     }
 }
 
-// The entry that a line writes, given how the first line of its list begins.
-fn read_entry(
-    line: u32,
-    highest: u32,
-    text: &[u8],
-    head: Option<&[u8]>,
-) -> Result<ListEntry, ConfigFault>
+// The entry that a line writes, given how the first line of its list begins; `None` where it is
+// faulty.
+fn read_entry(line: u32, highest: u32, text: &[u8], head: Option<&[u8]>) -> Option<ListEntry>
     requires { IfSome head (λ head. IsHead head.now) }
-    ensures { IsStatement result
-        (statement_at highest (record { line = line; text = text.now })) }
+    ensures { result
+        ≡ option_and_then (any_entry line highest) (behind_name (words_of text.now)) }
 {
-    let syntax = ConfigFault::Bad {
-        line,
-        cause: Cause::Syntax,
-    };
-    let Some(rest) = cut_behind(text, head) else {
-        return Err(syntax);
-    };
-    match any_entry(line, highest, rest) {
-        None => Err(syntax),
-        Some(entry) => Ok(entry),
-    }
+    let rest = cut_behind(text, head)?;
+    let entry = any_entry(line, highest, rest)?;
+    Some(entry)
 }
 
 // How the first line of a list begins.
@@ -94,7 +83,12 @@ fn read_entries(alloc: Global, lines: &Lines, block: &Block) -> Result<Vec<ListE
     let mut highest = 0;
     let head = first_head(lines, block);
     for line in &block.lines {
-        let entry = read_entry(*line, highest, lines.line(*line), head)?;
+        let Some(entry) = read_entry(*line, highest, lines.line(*line), head) else {
+            return Err(ConfigFault::Bad {
+                line: *line,
+                cause: Cause::Syntax,
+            });
+        };
         highest = higher(highest, entry.seq);
         entries.push(entry)?;
     }

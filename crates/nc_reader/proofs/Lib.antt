@@ -1,10 +1,12 @@
 pub mod GroupLemmas
 pub mod TopicLemmas
+pub mod AskedLemmas
 pub mod ProcessTopics
 pub mod PieceLemmas
 pub mod LineOrder
 pub mod Elements
 pub mod RoleLemmas
+pub mod KnownLemmas
 pub mod RouteKeys
 pub mod PushLemmas
 pub mod FaultLemmas
@@ -28,6 +30,7 @@ pub mod SeenLemmas
 pub mod GatherLemmas
 pub mod RouteLemmas
 pub mod OrderLemmas
+pub mod MarkLemmas
 pub mod ThingLemmas
 pub mod PlacedLemmas
 pub mod LowestFaults

@@ -11,11 +11,11 @@ use Rattle.nc_reader.specs.Roles.{header_role}
 use Rattle.nc_reader.specs.Steps.{Kind, Banner, Idle, Member, Heads, banner_fault, kind_of}
 
 -- what a line is, by whether it is indented and by its words
-abbrev kind_by : List ℕ → List (List ℕ) → Bool → List (List ℕ) → Kind
+abbrev pub kind_by : List ℕ → List (List ℕ) → Bool → List (List ℕ) → Kind
 kind_by line later gap words =
     cond (not gap && first_is_banner words) (Banner (leaves_open line) (banner_fault line later)) (cond (is_idle words) Idle (cond gap (Member (group_says words)) (Heads (header_role words))))
 
-by_words : (line : List ℕ) (later : List (List ℕ)) → kind_of false line later ≡ kind_by line later (is_indented line) (words_of line)
+pub by_words : (line : List ℕ) (later : List (List ℕ)) → kind_of false line later ≡ kind_by line later (is_indented line) (words_of line)
 unfolding kind_of
 by_words line later = refl
 

@@ -7,6 +7,7 @@ pub mod Steps
 pub mod Gathering
 pub mod Firsts
 pub mod Readings
+pub mod Asked
 pub mod Parts
 pub mod Whole
 pub mod Arranging

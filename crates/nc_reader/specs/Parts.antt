@@ -137,3 +137,7 @@ slots_of count pieces = map (λ line. find (λ e. first_line e == line) pieces) 
 -- how many of some lines are above one
 abbrev pub count_above : ℕ → List ℕ → ℕ
 count_above line firsts = count_by (λ first. nat_lt first line) firsts
+
+-- how many of some lines are each of so many lines, from 0 on
+abbrev pub marks_of : ℕ → List ℕ → List ℕ
+marks_of count firsts = map (λ line. count_by (λ first. first == line) firsts) (range_with_len 0 count)

@@ -91,8 +91,10 @@ struct Draft {
     in_banner: bool,
     // The place of the topic in whose block an indented line would stand.
     block: Option<usize>,
-    // The place of the last topic that a statement was on, 0 before the first.
+    // The place of the last topic that a statement was on, 0 before the first, and where the topic
+    // of the next one is likely.
     last: usize,
+    likely: usize,
 }
 
 impl Draft {
@@ -108,6 +110,7 @@ impl Draft {
             in_banner: false,
             block: None,
             last: 0,
+            likely: 0,
         }
     }
 
@@ -127,16 +130,28 @@ impl Draft {
         ensures place { IfOk result (λ place. place
             ≡ position_or_len (same_topic (topic_of subject.entry)) (sketch self.old).topics) }
     {
-        let last = self.last;
+        let (last, likely) = (self.last, self.likely);
         let place = put(
             alloc,
             &mut self.topics,
             &mut self.blocks,
             last,
+            likely,
             subject,
             line,
         )?;
         Ok(place)
+    }
+
+    // Notes the place of the topic that a statement was on. Where it is the one behind that of the
+    // statement before, the next one is likely too.
+    fn note(&mut self, place: usize)
+        ensures { sketch self.new ≡ sketch self.old }
+    {
+        let next = place.saturating_add(1);
+        let follows = place == self.last.saturating_add(1);
+        self.likely = if follows { next } else { place };
+        self.last = place;
     }
 
     // An indented line in the block at a place, which would apply a list to an interface.
@@ -200,7 +215,7 @@ impl Draft {
             }
             Header::Speaks(subject) => {
                 let place = self.put(alloc, line, subject)?;
-                self.last = place;
+                self.note(place);
                 self.block = if has_block(subject) {
                     Some(place)
                 } else {

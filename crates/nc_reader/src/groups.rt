@@ -1,7 +1,7 @@
 //! The lines that speak of each topic.
 
 ghost use Rattle.std.specs.Prelude.{◌≡◌, ◌<◌, ◌∷◌, ◌++◌, [], true, not, length, vec_len};
-ghost use Rattle.std.specs.Prelude.{OnOk, IfOk};
+ghost use Rattle.std.specs.Prelude.{OnOk, IfOk, IfSome};
 ghost use Rattle.std.specs.List.{list_any, position_or_len};
 ghost use Rattle.nc_lines.specs.Groups.{with_key};
 ghost use Rattle.nc_reader.specs.Readings.{lines_in, topic_of};
@@ -56,12 +56,49 @@ fn is_at(topics: &IndexSet<Topic>, place: usize, subject: Subject<'_>) -> bool
     }
 }
 
-// Adds a topic where it is new, and tells its place and whether it is. The place that was told last
-// is looked at first, since statements on one thing mostly stand together.
+// The place of a topic, looked up by the words of its statement. Only the statements of a list each
+// name it; of another topic that has a name one statement does, which is mostly the first.
+fn looked_up(topics: &IndexSet<Topic>, subject: Subject<'_>) -> Option<usize>
+    ensures { IfSome result (IsAt (topic_of subject.entry) topics.now.keys) }
+{
+    match subject {
+        Subject::List(_) => topics.get_index_of(subject),
+        Subject::Communities(_) => topics.get_index_of(subject),
+        _ => None,
+    }
+}
+
+// The place of a topic. The likely place is looked at first, then the other one of the place that
+// was told last and the one behind it: statements on one thing mostly stand together, and things
+// whose statements take turns stand one behind another.
+fn known_place(
+    topics: &IndexSet<Topic>,
+    last: usize,
+    likely: usize,
+    subject: Subject<'_>,
+) -> Option<usize>
+    ensures { IfSome result (IsAt (topic_of subject.entry) topics.now.keys) }
+{
+    if is_at(topics, likely, subject) {
+        return Some(likely);
+    }
+    let other = if likely == last {
+        last.saturating_add(1)
+    } else {
+        last
+    };
+    if is_at(topics, other, subject) {
+        return Some(other);
+    }
+    looked_up(topics, subject)
+}
+
+// Adds a topic where it is new, and tells its place and whether it is.
 fn enter(
     alloc: Global,
     topics: &mut IndexSet<Topic>,
     last: usize,
+    likely: usize,
     subject: Subject<'_>,
 ) -> Result<(usize, bool), AllocError>
     ensures topics { OnOk result (topics.new.keys
@@ -71,8 +108,8 @@ fn enter(
     ensures new { IfOk result (λ r. r.1
         ≡ not (list_any (same_topic (topic_of subject.entry)) topics.old.keys)) }
 {
-    if is_at(topics, last, subject) {
-        return Ok((last, false));
+    if let Some(place) = known_place(topics, last, likely, subject) {
+        return Ok((place, false));
     }
     let topic = Topic::new(alloc, subject)?;
     let entered = topics.insert_full(topic)?;
@@ -80,12 +117,14 @@ fn enter(
 }
 
 /// Adds a line to the block of a topic, which is made where the topic has none, and tells the
-/// topic's place. A place that was told before, or 0, makes it faster where it is the topic's.
+/// topic's place. The place that was told last and a likely one make it faster where they are the
+/// topic's.
 pub(crate) fn put(
     alloc: Global,
     topics: &mut IndexSet<Topic>,
     blocks: &mut Vec<Block>,
     last: usize,
+    likely: usize,
     subject: Subject<'_>,
     line: u32,
 ) -> Result<usize, AllocError>
@@ -97,7 +136,7 @@ pub(crate) fn put(
     ensures place { IfOk result (λ place. place
         ≡ position_or_len (same_topic (topic_of subject.entry)) topics.old.keys) }
 {
-    let (place, is_new) = enter(alloc, topics, last, subject)?;
+    let (place, is_new) = enter(alloc, topics, last, likely, subject)?;
     if is_new {
         begin(alloc, blocks, line)?;
     } else {

@@ -76,9 +76,9 @@ fn behind_hostname(rest: &[u8]) -> Header<'_>
     }
 }
 
-// What is behind `interface`: its name.
+/// What is behind `interface`: its name.
 #[tactic(auto, unfolding(crate::specs::Roles::is_unsupported, crate::specs::Roles::read_role))]
-fn behind_interface(rest: &[u8]) -> Header<'_>
+pub(crate) fn behind_interface(rest: &[u8]) -> Header<'_>
     ensures { role_of_header result ≡ header_role (codes "interface" ∷ words_of rest.now) }
 {
     match cut_word(rest) {
@@ -135,8 +135,8 @@ fn behind_no(rest: &[u8]) -> Header<'_>
     Header::Passed
 }
 
-// What is behind `ip prefix-list`: an entry of a list.
-fn prefix_list(rest: &[u8]) -> Header<'_>
+/// What is behind `ip prefix-list`: an entry of a list.
+pub(crate) fn prefix_list(rest: &[u8]) -> Header<'_>
     ensures { role_of_header result ≡ said_role topics.List (list_name_says (words_of rest.now)) }
 {
     match read_list_name(rest) {

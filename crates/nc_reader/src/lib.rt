@@ -13,6 +13,7 @@
 //! configuration is well formed is a law in [`laws`].
 #![tactic(auto)]
 
+mod asked;
 mod communities;
 mod config;
 mod faults;
@@ -20,6 +21,7 @@ mod first;
 mod gather;
 mod groups;
 mod header;
+mod known;
 pub mod laws;
 mod odd;
 mod order;

@@ -40,6 +40,16 @@ pub(crate) fn first_in(lines: &[u32]) -> u32
     }
 }
 
+// These lines, with room for one where there is none: mostly it stays the only one.
+fn with_room(alloc: Global, lines: Vec<u32>) -> Result<Vec<u32>, AllocError>
+    ensures { IfOk result (λ roomy. roomy.items ≡ lines.items) }
+{
+    if lines.is_empty() {
+        return Ok(Vec::with_capacity(alloc, 1)?);
+    }
+    Ok(lines)
+}
+
 /// Lines alone, of a thing that gets the place of its element later.
 impl Piece for Vec<u32> {
     type Thing = u32;
@@ -151,11 +161,11 @@ impl Piece for EntryLines {
         }
     }
 
-    fn split(self, _alloc: Global, place: u32) -> Result<(ListEntry, Vec<u32>), AllocError> {
+    fn split(self, alloc: Global, place: u32) -> Result<(ListEntry, Vec<u32>), AllocError> {
         let EntryLines { mut entry, earlier } = self;
-        let mut lines = earlier;
-        lines.push(entry.line)?;
         entry.element = place;
+        let mut lines = with_room(alloc, earlier)?;
+        lines.push(entry.line)?;
         Ok((entry, lines))
     }
 }

@@ -9,6 +9,7 @@ ghost use Rattle.nc_reader.specs.Readings.{kind_of_role};
 ghost use Rattle.nc_reader.specs.Steps.{Idle, Member, banner_fault, kind_of};
 
 use crate::header::{Header, read_header};
+use crate::known::known_header;
 use nc_lines::Lines;
 use nc_lines::banner::{has_mark, leaves_open};
 use nc_lines::cut::{cut_word, first_byte, is_indented};
@@ -116,6 +117,9 @@ pub(crate) fn read_role(lines: &Lines, number: u32, in_banner: bool) -> Role<'_>
     }
     if is_plain(line) {
         return Role::Member(None);
+    }
+    if let Some(header) = known_header(line) {
+        return Role::Heads(header);
     }
     if is_indented(line) {
         return match first_byte(line) {

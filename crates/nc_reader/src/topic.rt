@@ -30,8 +30,9 @@ pub(crate) enum Topic {
     Group(Text, bool),
 }
 
-/// A topic as a statement writes it.
-#[derive(Clone, Copy)]
+/// A topic as a statement writes it. Its variants stand in the order of those of [`Topic`], so that
+/// both are hashed alike, and a topic is looked up by the words of a statement.
+#[derive(Clone, Copy, PartialEq, Eq, Hash)]
 pub(crate) enum Subject<'a> {
     Interface(&'a [u8]),
     Statics,
@@ -81,18 +82,19 @@ impl Topic {
     }
 
     /// Whether it is the topic of a statement.
+    #[inline(always)]
     pub(crate) fn is(&self, subject: Subject<'_>) -> bool
-        ensures { result ≡ same_topic self.now (topic_of subject.entry) }
+        ensures { result ≡ same_topic (topic_of subject.entry) self.now }
     {
-        match (self, subject) {
-            (Topic::Interface(own), Subject::Interface(name)) => own.bytes() == name,
-            (Topic::Statics, Subject::Statics) => true,
-            (Topic::Process(own), Subject::Process(asn)) => *own == asn,
-            (Topic::Clause(own, m), Subject::Clause(map, n)) => own.bytes() == map && *m == n,
-            (Topic::List(own), Subject::List(name)) => own.bytes() == name,
-            (Topic::Communities(own), Subject::Communities(name)) => own.bytes() == name,
-            (Topic::Filters, Subject::Filters) => true,
-            (Topic::Group(own, i), Subject::Group(name, j)) => own.bytes() == name && *i == j,
+        match (subject, self) {
+            (Subject::Interface(name), Topic::Interface(own)) => name == own.bytes(),
+            (Subject::Statics, Topic::Statics) => true,
+            (Subject::Process(asn), Topic::Process(own)) => asn == *own,
+            (Subject::Clause(map, n), Topic::Clause(own, m)) => map == own.bytes() && n == *m,
+            (Subject::List(name), Topic::List(own)) => name == own.bytes(),
+            (Subject::Communities(name), Topic::Communities(own)) => name == own.bytes(),
+            (Subject::Filters, Topic::Filters) => true,
+            (Subject::Group(name, j), Topic::Group(own, i)) => name == own.bytes() && j == *i,
             _ => false,
         }
     }
