@@ -26,7 +26,7 @@ use Rattle.nc_engine.specs.Engine.{Infers, InfersAll, asked_for}
 use Rattle.nc_engine.specs.Work.{IsWork, SameNetwork, Takes, Replies, Counted, test_view, tests_of, kept_of}
 use Rattle.nc_engine.proofs.Working.{asked-more}
 
-module _ (old new : Work) (facts : List Fact) (before after : List ℕ) (network : SameNetwork old new) where
+module _ (old new : Work) (facts : List Fact) (before after : List ℕ) (network : SameNetwork old new) (store : new.store ≡ old.store) where
   -- the state of the network
   abbrev pub at : StateView
   at = state_of old.rules
@@ -39,6 +39,7 @@ module _ (old new : Work) (facts : List Fact) (before after : List ℕ) (network
     text = text;
     network = network;
     infers = subst (λ (b : Bool). Infers at (tests_of old) (if b then facts else []) (asked_of old.rules) (asked_of new.rules)) (sym is) infers;
+    draws = inl store;
   }
 
   module _ (room : length old.tests.items < most_tests) (some : 0 < length facts)

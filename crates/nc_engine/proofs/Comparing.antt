@@ -14,6 +14,7 @@ use Rattle.nc_rules.specs.Rules.{flow_of}
 use Rattle.nc_rules.specs.Seen.{state_of, asked_of}
 use Rattle.nc_engine.specs.declared.work.Work.{Work}
 use Rattle.nc_engine.specs.Questions.{IsGreatestApart, no_of}
+use Rattle.nc_engine.specs.Engine.{DrawsFor}
 use Rattle.nc_engine.specs.Session.{KeptTest, test_in, with_pair}
 use Rattle.nc_engine.specs.Work.{HaveNodes, SameNetwork, Compared, test_view, tests_of, kept_of}
 use Rattle.nc_engine.proofs.Carrying.{Hold}
@@ -57,13 +58,15 @@ option-weaker P Q R S none some None is = none is
 option-weaker P Q R S none some (Some x) is = some x is
 
 -- the answer that the first test doesn't imply the second
-pub compared-no : (old new : Work) → SameNetwork old new → asked_of new.rules ≡ asked_of old.rules → (i j m n : ℕ) → kept_of new ≡ with_pair (kept_of old) i j → (missing listed : List ℕ) → IsStrictlyIncreasing missing
+pub compared-no : (old new : Work) → SameNetwork old new → asked_of new.rules ≡ asked_of old.rules → (i j m n : ℕ)
+    → DrawsFor (state_of old.rules) ((test_in (tests_of old) i).facts ∷ (test_in (tests_of old) j).facts ∷ []) old.store new.store → kept_of new ≡ with_pair (kept_of old) i j → (missing listed : List ℕ) → IsStrictlyIncreasing missing
     → IsGreatestApart (flow_of (state_of old.rules)) (test_in (tests_of old) i).facts (test_in (tests_of old) j).facts (all_but missing) → listed ≡ missing
     → (routers : List ConfigView) → routers ≡ (state_of old.rules).routers → (before after : List ℕ) → after ≡ before ++ no_of routers m n listed → Compared old new i j m n before after
-compared-no old new network asked i j m n kept missing listed ascend most list routers net before after text = record {
+compared-no old new network asked i j m n draws kept missing listed ascend most list routers net before after text = record {
   reply = no_of (state_of old.rules).routers m n missing;
   answer = inl (inr (record { missing = missing; ascend = ascend; greatest = most; text = refl }), kept);
   text = text ∙ ap (λ (cs : List ConfigView). before ++ no_of cs m n listed) net ∙ ap (λ (l : List ℕ). before ++ no_of (state_of old.rules).routers m n l) list;
   network = network;
   infers = asked;
+  draws = inr draws;
 }

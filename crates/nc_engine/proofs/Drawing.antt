@@ -4,18 +4,25 @@ use Rattle.std.specs.Prelude.{slice_get}
 use Rattle.std.proofs.Math.ListN.{set}
 use Rattle.std.proofs.lemmas.Option.{slice_get_read, slice_get_within, get_or_from_slice_get}
 use Rattle.std.proofs.lemmas.List.Elements.{All-nil, All-cons, All-head, All-tail, All-weaker, All-get_or}
-use Rattle.nc_graph.specs.Nodes.{Nodes, AreNodesOf}
+use Rattle.nc_graph.specs.Flow.{IsFlow}
+use Rattle.nc_graph.specs.Nodes.{Nodes, IsGraph, AreNodesOf}
 use Rattle.nc_graph.specs.declared.node.NodeId.{NodeId}
 use Rattle.nc_graph.proofs.NodeLemmas.{slice_get-left}
+use Rattle.nc_graph.proofs.NodeLaws.{carried-node}
+use Rattle.nc_diagram.specs.Sets.{has}
+use Rattle.nc_diagram.specs.Diagrams.{Means}
+use Rattle.nc_formula.specs.Parts.{carrying}
 use Rattle.nc_formula.specs.Formulas.{IsKnown, StillKnown, known}
 use Rattle.nc_fact.specs.declared.fact.Fact.{Fact}
+use Rattle.nc_rules.specs.Rules.{flow_of}
+use Rattle.nc_rules.specs.Seen.{state_of}
 use Rattle.nc_report.specs.Views.{FileView}
 use Rattle.nc_engine.specs.declared.work.KeptTest.{KeptTest as Made}
 use Rattle.nc_engine.specs.declared.work.Work.{Work}
 use Rattle.nc_engine.specs.Session.{KeptTest, test_in}
 use Rattle.nc_command.specs.declared.command.Command.TheVariants.{Test, Forget, Implies, Cut, Suite, Dead, Show, Lcov, Json, Quit}
 use Rattle.nc_command.specs.Command.{Line, Passed, TooLong, Unread, Asks}
-use Rattle.nc_engine.specs.Engine.{Progress, IsDrawn, HasDrawn, HasDrawnFor, IsRefusal}
+use Rattle.nc_engine.specs.Engine.{Progress, IsDrawn, HasDrawn, HasDrawnFor, HasReferences, IsRefusal}
 use Rattle.nc_engine.specs.Work.{IsWork, IsDrawnAt, IsDrawnFor, IsDrawnOrRefused, HaveNodes, drawn_in, test_view, progress_of}
 
 -- a comparison makes those of both tests
@@ -87,6 +94,14 @@ drawn-has (g ∷ facts) (Some r ∷ formulas) (suc i) f at is =
     let rest = drawn-has facts formulas i f at is in
     (suc rest.0, omega (arith, rest.1), rest.2)
 
+-- what holds of each fact whose node has a formula holds of all that have one
+drawn-all : (P : Fact → Type 0) (facts : List Fact) (formulas : List (Option ℕ)) → ((i : ℕ) (f : Fact) → slice_get facts i ≡ Some f → IsKnown formulas i → P f) → All P (drawn_in facts formulas)
+unfolding drawn_in
+drawn-all P [] formulas each = All-nil P
+drawn-all P (g ∷ facts) [] each = All-nil P
+drawn-all P (g ∷ facts) (None ∷ formulas) each = drawn-all P facts formulas (λ i f at is. each (suc i) f at is)
+drawn-all P (g ∷ facts) (Some r ∷ formulas) each = All-cons P g (drawn_in facts formulas) (each zero g refl (r, refl)) (drawn-all P facts formulas (λ i f at is. each (suc i) f at is))
+
 facts-drawn : (n : Nodes Fact) (formulas : List (Option ℕ)) (ids : List NodeId) (fs : List Fact) → AreNodesOf n ids fs → All (λ p. IsKnown formulas p.0) ids → All (Contains (drawn_in n.facts formulas)) fs
 facts-drawn n formulas [] [] are all = All-nil (Contains (drawn_in n.facts formulas))
 facts-drawn n formulas [] (f ∷ fs) are all = absurd cc
@@ -114,6 +129,13 @@ module _ (files : List FileView) (w : Work) (work : IsWork w) where
   drawn-there place d =
       subst (λ (t : KeptTest). All (Contains (drawn_in w.graph.facts w.formulas)) t.facts) (seen w.tests.items place d.test d.at)
       (facts-drawn w.graph w.formulas d.test.nodes.items d.test.facts.items (nodes-there w.graph w.tests.items place d.test d.at work.nodes) d.known)
+
+  -- of each fact of which an engine has a diagram there is a reference
+  pub has-references : IsFlow (flow_of (state_of w.rules)) → IsGraph w.graph → HasReferences (progress_of files w)
+  has-references law graph = drawn-all (λ fact. (r : ℕ) × Means w.store r (carrying (flow_of (state_of w.rules)) fact)) w.graph.facts w.formulas
+      (λ i f at is.
+      let d = work.drawn.formulas.each i is.0 is.1 in
+      (is.0, record { belongs = d.belongs; means = λ set. d.means set ∙ carried-node (flow_of (state_of w.rules)) law w.graph graph work.marked.mirrors (has set) i f at }))
 
   -- an engine has the diagrams of the tests of each question that was answered
   pub has-drawn : HasDrawn (progress_of files w)

@@ -1,5 +1,5 @@
 -- What is left where a test is forgotten.
-use Rattle.std.proofs.Common.{◌≡◌, ℕ, zero, suc, ◌-◌, ◌<◌, ◌≤◌, Bool, true, false, if◌then◌else◌, List, [], ◌∷◌, ◌++◌, length, map, get_or, Option, Some, None, refl, sym, ap, ◌∙◌, subst, arith, append_assoc}
+use Rattle.std.proofs.Common.{◌≡◌, ℕ, zero, suc, ◌-◌, ◌<◌, ◌≤◌, Bool, true, false, if◌then◌else◌, List, [], ◌∷◌, ◌++◌, length, map, get_or, Option, Some, None, inl, refl, sym, ap, ◌∙◌, subst, arith, append_assoc}
 use Rattle.std.proofs.Math.ListN.{set}
 use Rattle.std.proofs.Math.Seq.{map-set_same}
 use Rattle.std.proofs.lemmas.List.{map-set, get_or-map, get_or_past}
@@ -97,14 +97,15 @@ marked-fewer s tests left n old new marked same ids are kept = record {
 }
 
 -- the reply where the test at a place was forgotten
-pub forgotten : (old new : Work) → SameNetwork old new → (place number : ℕ) → live_place (tests_of old) number ≡ Some place → kept_of new ≡ without_test (kept_of old) place → asked_of new.rules ≡ asked_of old.rules
+pub forgotten : (old new : Work) → SameNetwork old new → (place number : ℕ) → live_place (tests_of old) number ≡ Some place → kept_of new ≡ without_test (kept_of old) place → asked_of new.rules ≡ asked_of old.rules → new.store ≡ old.store
     → (before mid after : List ℕ) → mid ≡ before ++ forgot_of number → Reported new mid after → Forgotten old new number before after
-forgotten old new network place number at kept asked before mid after first rest = record {
+forgotten old new network place number at kept asked store before mid after first rest = record {
   reply = forgot_of number ++ rest.reply;
   answer = subst (λ (o : Option ℕ). Forgets (state_of old.rules) old.listed o (kept_of old) number (forgot_of number ++ rest.reply) (kept_of new)) (sym at) (kept, reported);
   text = rest.text ∙ ap (λ (l : List ℕ). l ++ rest.reply) first ∙ append_assoc before (forgot_of number) rest.reply;
   network = network;
   infers = asked;
+  draws = inl store;
 }
   where
     reported : IsReported (state_of old.rules) old.listed (tests_of new) (forgot_of number) (forgot_of number ++ rest.reply)

@@ -12,6 +12,7 @@ mod Bounded
 mod Fewer
 mod Comparing
 mod Drawing
+mod Gaining
 pub mod Cutting
 mod Crowding
 mod Cuttable

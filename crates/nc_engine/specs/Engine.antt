@@ -1,12 +1,14 @@
--- What an engine has, how it answers a line, and how many facts it infers for it.
-use Rattle.std.specs.Prelude.{◌≡◌, ◌⊎◌, ℕ, ◌+◌, ◌-◌, ◌≤◌, Bool, true, false, nat_lt, List, [], ◌∷◌, ◌++◌, length, All, Contains, Option, Some, if◌then◌else◌, codes}
+-- What an engine has, how it answers a line, how many facts it infers for it, and what it draws.
+use Rattle.std.specs.Prelude.{◌≡◌, ◌⊎◌, ℕ, ◌+◌, ◌-◌, ◌≤◌, Bool, true, false, nat_lt, List, [], ◌∷◌, ◌++◌, length, All, Contains, Option, Some, None, if◌then◌else◌, codes}
 use Rattle.nc_graph.specs.Flow.{raised}
 use Rattle.nc_graph.specs.Closure.{IsClosure, ReachesMoreThan}
+use Rattle.nc_diagram.specs.Diagrams.{Diagrams, Means}
+use Rattle.nc_formula.specs.Parts.{carrying, Gains, IsBaseOfTest}
 use Rattle.nc_tables.specs.State.{StateView}
 use Rattle.nc_rules.specs.Rules.{flow_of}
 use Rattle.nc_fact.specs.declared.fact.Fact.{Fact}
 use Rattle.nc_fact.specs.Tested.{tested_facts}
-use Rattle.nc_command.specs.declared.command.Command.TheVariants.{Test, Cut, Dead}
+use Rattle.nc_command.specs.declared.command.Command.TheVariants.{Test, Implies, Cut, Dead}
 use Rattle.nc_command.specs.Command.{Line, Asks, command_of}
 use Rattle.nc_report.specs.Texts.{line_of}
 use Rattle.nc_engine.specs.Limits.{most_tests, most_facts}
@@ -16,17 +18,20 @@ use Rattle.nc_engine.specs.File.{LoadedView}
 use Rattle.nc_engine.specs.Session.{KeptTest, State, no_tests, test_in, live_place, Step, asked_in, ends}
 
 -- an engine that isn't spent: its network, what is kept of the session, how many facts were inferred, of which of them it has
--- diagrams, and whether it was told which elements are dead
+-- diagrams, all that was drawn, and whether it was told which elements are dead
 pub record Progress : Type 0 where
   pub loaded : LoadedView
   pub session : State
   pub asked : ℕ
   pub drawn : List Fact
+  pub diagrams : Diagrams
   pub dead_known : Bool
 
--- an engine that begins: no test was accepted, no fact was inferred, there is no diagram, and nothing was told
+-- an engine that begins: no test was accepted, no fact was inferred, nothing was drawn, for which there is room of so many
+-- parts, and nothing was told
 abbrev pub begin_at : LoadedView → Progress
-begin_at n = record { loaded = n; session = no_tests; asked = 0; drawn = []; dead_known = false }
+begin_at n =
+    record { loaded = n; session = no_tests; asked = 0; drawn = []; diagrams = record { nodes = []; limit = 1048576 }; dead_known = false }
 
 -- whether it was told, behind a line
 abbrev pub dead_known_behind : Line → Bool → Bool
@@ -40,6 +45,10 @@ IsDrawn p place = All (Contains p.drawn) (test_in p.session.tests place).facts
 -- it has those of both tests of each question that was answered
 abbrev pub HasDrawn : Progress → Type 0
 HasDrawn p = All (λ q. IsDrawn p q.0 × IsDrawn p q.1) p.session.pairs
+
+-- of each fact of which it has a diagram, some reference means the sets of elements that carry it
+abbrev pub HasReferences : Progress → Type 0
+HasReferences p = All (λ fact. (r : ℕ) × Means p.diagrams r (carrying (flow_of p.loaded.state) fact)) p.drawn
 
 -- the reply is a refusal
 abbrev pub IsRefusal : List ℕ → List ℕ → Type 0
@@ -84,13 +93,30 @@ module _ (s : StateView) (tests : List KeptTest) where
   InfersFor (Asks Dead) false before now = InfersApart before now
   InfersFor line dead_known before now = Infers (asked_for line) before now
 
--- a line is answered: the reply goes to the end of the bytes; the network stays
+-- the facts of the test at a place, where there is a place
+abbrev pub facts_at : List KeptTest → Option ℕ → List (List Fact)
+facts_at tests None = []
+facts_at tests (Some place) = (test_in tests place).facts ∷ []
+
+-- the live tests about which a line asks by their diagrams, each by its facts: those of a question, and that of a cut
+abbrev pub asked_about : List KeptTest → Line → List (List Fact)
+asked_about tests (Asks (Implies first second)) = facts_at tests (live_place tests first) ++ facts_at tests (live_place tests second)
+asked_about tests (Asks (Cut number names)) = facts_at tests (live_place tests number)
+asked_about tests line = []
+
+-- nothing that was drawn is lost, and what was added are parts of these tests alone, each given by its facts
+abbrev pub DrawsFor : StateView → List (List Fact) → Diagrams → Diagrams → Type 0
+DrawsFor s tests old new = Gains (λ base. (facts : List Fact) × Contains tests facts × IsBaseOfTest (flow_of s) facts base) old new
+
+-- a line is answered: the reply goes to the end of the bytes, and parts of the tests that it asks about are drawn; the network
+-- stays
 pub record Answered (old new : Progress) (line before after : List ℕ) : Type 0 where
   pub reply : List ℕ
   pub step : Step old.loaded old.session line reply new.session
   pub text : after ≡ before ++ reply
   pub loaded : new.loaded ≡ old.loaded
   pub infers : InfersFor old.loaded.state old.session.tests (command_of line) old.dead_known old.asked new.asked
+  pub draws : DrawsFor old.loaded.state (asked_about old.session.tests (command_of line)) old.diagrams new.diagrams
   pub dead_known : new.dead_known ≡ dead_known_behind (command_of line) old.dead_known
 
 -- the same of engines of which neither is spent

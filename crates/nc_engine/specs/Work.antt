@@ -18,18 +18,18 @@ use Rattle.nc_fact.specs.Roots.{roots}
 use Rattle.nc_fact.specs.Tested.{tested_facts}
 use Rattle.nc_rules.specs.Rules.{flow_of}
 use Rattle.nc_rules.specs.Seen.{state_of, asked_of}
-use Rattle.nc_command.specs.declared.command.Command.TheVariants.{Test, Dead}
+use Rattle.nc_command.specs.declared.command.Command.TheVariants.{Test, Implies, Cut, Dead}
 use Rattle.nc_command.specs.Command.{Asks, text_of}
 use Rattle.nc_engine.specs.Limits.{most_tests, most_facts, most_parts}
 use Rattle.nc_engine.specs.declared.work.Work.{Work}
 use Rattle.nc_engine.specs.declared.work.KeptTest.{KeptTest as Made}
-use Rattle.nc_engine.specs.Session.{KeptTest, State, with_test, posed_in, live_place, asked_in, live_in, router_of, has_line, IsCrowded, IsReply, Counts, Tests, Lined, Named, Forgets, Questions, Compares, Cuts, CutsNamed, Tells, Shows, TellsSuite, TellsDead}
+use Rattle.nc_engine.specs.Session.{KeptTest, State, with_test, posed_in, test_in, live_place, asked_in, live_in, router_of, has_line, IsCrowded, IsReply, Counts, Tests, Lined, Named, Forgets, Questions, Compares, Cuts, CutsNamed, Tells, Shows, TellsSuite, TellsDead}
 use Rattle.nc_report.specs.Texts.{Sheet, line_of}
 use Rattle.nc_report.specs.Sheets.{sheets_from}
 use Rattle.nc_report.specs.Views.{FileView}
 use Rattle.nc_engine.specs.File.{LoadedView}
 use Rattle.nc_engine.specs.Cuts.{unknown_among}
-use Rattle.nc_engine.specs.Engine.{Progress, Infers, InfersFor, IsRefusal, asked_for}
+use Rattle.nc_engine.specs.Engine.{Progress, Infers, InfersFor, IsRefusal, DrawsFor, asked_for, asked_about}
 use Rattle.nc_engine.specs.DeadElements.{AreDead, dead_of}
 use Rattle.nc_engine.specs.declared.dead_elements.DeadElements.{DeadElements}
 use Rattle.nc_engine.specs.declared.dead_elements.DeadElements.TheVariants.{Known, TooMany}
@@ -66,7 +66,14 @@ drawn_in (f ∷ facts) (Some r ∷ formulas) = f ∷ drawn_in facts formulas
 -- what an engine of these files has with it
 abbrev pub progress_of : List FileView → Work → Progress
 progress_of files w =
-    record { loaded = loaded_of files w; session = kept_of w; asked = asked_of w.rules; drawn = drawn_in w.graph.facts w.formulas; dead_known = is_some w.dead }
+    record {
+      loaded = loaded_of files w;
+      session = kept_of w;
+      asked = asked_of w.rules;
+      drawn = drawn_in w.graph.facts w.formulas;
+      diagrams = w.store;
+      dead_known = is_some w.dead;
+    }
 
 -- the graph is the closure of the facts of all tests, as the rules have them, and the marks are those of the live ones' nodes
 pub record IsMarked (s : StateView) (tests : List KeptTest) (graph : Nodes Fact) (marks : Kept) : Type 0 where
@@ -134,56 +141,64 @@ pub record Appended (replies : List ℕ → Type 0) (before after : List ℕ) : 
 abbrev pub Replies : Work → List ℕ → List ℕ → Type 0
 Replies w before after = Appended (IsReply (state_of w.rules) w.listed (tests_of w)) before after
 
--- what is answered to a line; so many facts are inferred for those asked for
-pub record Turned (old new : Work) (answers : List ℕ → State → Type 0) (asked : List Fact) (before after : List ℕ) : Type 0 where
+-- nothing was drawn, or parts of these tests alone
+abbrev pub Draws : Work → Work → List (List Fact) → Type 0
+Draws old new tests = (new.store ≡ old.store) ⊎ DrawsFor (state_of old.rules) tests old.store new.store
+
+-- what is answered to a line; so many facts are inferred for those asked for, and parts of the tests asked about are drawn
+pub record Turned (old new : Work) (answers : List ℕ → State → Type 0) (asked : List Fact) (about : List (List Fact)) (before after : List ℕ) : Type 0 where
   pub reply : List ℕ
   pub answer : answers reply (kept_of new)
   pub text : after ≡ before ++ reply
   pub network : SameNetwork old new
   pub infers : Infers (state_of old.rules) (tests_of old) asked (asked_of old.rules) (asked_of new.rules)
+  pub draws : Draws old new about
 
 abbrev pub Counted : Work → Work → List Fact → List ℕ → List ℕ → Type 0
 Counted old new facts before after =
     Turned old new (Counts (state_of old.rules) old.listed (nat_lt (length (tests_of old)) most_tests) (kept_of old) facts)
-    (if nat_lt (length (tests_of old)) most_tests then facts else []) before after
+    (if nat_lt (length (tests_of old)) most_tests then facts else []) [] before after
 
 -- the same of a test, where its router and its line are there; where its router is; and of any
 abbrev pub Told : Work → Work → TestCommand → List ℕ → List ℕ → Type 0
 Told old new test before after =
     Turned old new (Tests (state_of old.rules) old.listed (kept_of old) (tested_facts (state_of old.rules) test) (text_of test))
-    (asked_for (state_of old.rules) (tests_of old) (Asks (Test test))) before after
+    (asked_for (state_of old.rules) (tests_of old) (Asks (Test test))) [] before after
 
 abbrev pub TestedAt : Work → Work → ℕ → TestCommand → List ℕ → List ℕ → Type 0
 TestedAt old new router test before after =
     Turned old new (Lined (state_of old.rules) old.listed (has_line (state_of old.rules) router test) (kept_of old) test)
-    (asked_for (state_of old.rules) (tests_of old) (Asks (Test test))) before after
+    (asked_for (state_of old.rules) (tests_of old) (Asks (Test test))) [] before after
 
 abbrev pub Tested : Work → Work → TestCommand → List ℕ → List ℕ → Type 0
 Tested old new test before after =
     Turned old new (Named (state_of old.rules) old.listed (router_named (state_of old.rules).routers (router_of test)) (kept_of old) test)
-    (asked_for (state_of old.rules) (tests_of old) (Asks (Test test))) before after
+    (asked_for (state_of old.rules) (tests_of old) (Asks (Test test))) [] before after
 
 -- what is answered where a test is forgotten, and to a question by the places of two tests and by their numbers
 abbrev pub Forgotten : Work → Work → ℕ → List ℕ → List ℕ → Type 0
 Forgotten old new number before after =
-    Turned old new (Forgets (state_of old.rules) old.listed (live_place (tests_of old) number) (kept_of old) number) [] before after
+    Turned old new (Forgets (state_of old.rules) old.listed (live_place (tests_of old) number) (kept_of old) number) [] [] before after
 
 abbrev pub Compared : Work → Work → ℕ → ℕ → ℕ → ℕ → List ℕ → List ℕ → Type 0
 Compared old new first second m n before after =
-    Turned old new (Compares (state_of old.rules) (kept_of old) first second m n) [] before after
+    Turned old new (Compares (state_of old.rules) (kept_of old) first second m n) []
+    ((test_in (tests_of old) first).facts ∷ (test_in (tests_of old) second).facts ∷ []) before after
 
 abbrev pub Questioned : Work → Work → ℕ → ℕ → List ℕ → List ℕ → Type 0
 Questioned old new m n before after =
-    Turned old new (Questions (state_of old.rules) (live_place (tests_of old) m) (live_place (tests_of old) n) (kept_of old) m n) [] before after
+    Turned old new (Questions (state_of old.rules) (live_place (tests_of old) m) (live_place (tests_of old) n) (kept_of old) m n) []
+    (asked_about (tests_of old) (Asks (Implies m n))) before after
 
 -- what is answered to a cut by the place of its test, and by the number and the names
 abbrev pub CutAt : Work → Work → ℕ → ℕ → List (List ℕ) → List ℕ → List ℕ → Type 0
-CutAt old new place n names before after = Turned old new (Cuts (state_of old.rules) (kept_of old) place n names) [] before after
+CutAt old new place n names before after =
+    Turned old new (Cuts (state_of old.rules) (kept_of old) place n names) [] ((test_in (tests_of old) place).facts ∷ []) before after
 
 abbrev pub CutAsked : Work → Work → ℕ → List (List ℕ) → List ℕ → List ℕ → Type 0
 CutAsked old new n names before after =
     Turned old new (CutsNamed (state_of old.rules) (unknown_among (state_of old.rules).routers names) (live_place (tests_of old) n) (kept_of old) n names) []
-    before after
+    (asked_about (tests_of old) (Asks (Cut n names))) before after
 
 -- the formulas of all nodes of the test of a number are known where it is live, or the reply was a refusal
 abbrev pub IsDrawnOrRefused : Work → ℕ → List ℕ → List ℕ → Type 0
@@ -201,13 +216,14 @@ abbrev pub known_text : List ConfigView → DeadElements → List ℕ
 known_text routers (Known ids) = dead_of routers (map (λ e. e.0) ids.items)
 known_text routers TooMany = line_of (codes "refused limit facts")
 
--- the dead elements are told, behind which they are known
+-- the dead elements are told, behind which they are known; nothing is drawn
 pub record DeadTold (old new : Work) (before after : List ℕ) : Type 0 where
   pub reply : List ℕ
   pub answer : TellsDead (state_of old.rules) (kept_of old) reply (kept_of new)
   pub text : after ≡ before ++ reply
   pub state : state_of new.rules ≡ state_of old.rules
   pub listed : new.listed ≡ old.listed
+  pub store : new.store ≡ old.store
   pub infers : InfersFor (state_of old.rules) (tests_of old) (Asks Dead) (is_some old.dead) (asked_of old.rules) (asked_of new.rules)
   pub known : is_some new.dead ≡ true
 

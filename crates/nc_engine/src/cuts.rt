@@ -11,7 +11,7 @@ ghost use Rattle.nc_marks.specs.Kept.{kept_nodes, strong_at};
 ghost use Rattle.nc_rules.specs.Rules.{flow_of};
 ghost use Rattle.nc_rules.specs.Seen.{state_of, asked_of};
 ghost use Rattle.nc_engine.specs.Cuts.{IsLeastCut, IsUncut, is_kept, least_of, may_be_cut, none_of, unknown_among};
-ghost use Rattle.nc_engine.specs.Engine.{IsRefusal};
+ghost use Rattle.nc_engine.specs.Engine.{DrawsFor, IsRefusal};
 ghost use Rattle.nc_engine.specs.Session.{IsCrowded, test_in};
 ghost use Rattle.nc_engine.specs.Work.{IsWork, IsDrawnAt, IsDrawnOrRefused, SameNetwork, CutAt, CutAsked, kept_of, tests_of};
 
@@ -138,6 +138,8 @@ impl Work {
         ensures network { SameNetwork self.old self.new }
         ensures asked { asked_of self.new.rules ≡ asked_of self.old.rules }
         ensures kept { kept_of self.new ≡ kept_of self.old }
+        ensures draws { DrawsFor (state_of self.old.rules)
+            ((test_in (tests_of self.old) place).facts ∷ []) self.old.store self.new.store }
         ensures means { IfOk result (λ r. Means self.new.store r
             (carrying_each (flow_of (state_of self.old.rules))
             (test_in (tests_of self.old) place).facts)) }

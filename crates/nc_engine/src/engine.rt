@@ -5,7 +5,7 @@ ghost use Rattle.std.specs.Option.{ForSome};
 ghost use Rattle.nc_command.specs.Command.{command_of};
 ghost use Rattle.nc_report.specs.Views.{file_view};
 ghost use Rattle.nc_engine.specs.File.{AreFilesOf};
-ghost use Rattle.nc_engine.specs.Engine.{HasDrawn, HasDrawnFor, Turns, begin_at, flow_behind};
+ghost use Rattle.nc_engine.specs.Engine.{HasDrawn, HasDrawnFor, HasReferences, Turns, begin_at, flow_behind};
 
 use crate::work::Work;
 use nc_report::LoadedFile;
@@ -115,8 +115,9 @@ impl Engine {
         ensures flow { IfOk result (λ flow. flow ≡ flow_behind (command_of line.now)) }
 
         // It has the diagrams of both tests of each question that was answered, and those of the test of a
-        // cut that is told.
+        // cut that is told. Each fact that counts as drawn has a reference there, which means what carries it.
         ensures drawn { OnOk result (ForSome self.new HasDrawn) }
+        ensures references { OnOk result (ForSome self.new HasReferences) }
         ensures drawn_for { OnOk result (ForSome self.new
             (λ p. HasDrawnFor p (command_of line.now) out.old.items out.new.items)) }
         ensures spent { OnErr result ((self.new ≡ None) × (out.new.items ≡ out.old.items)) }
@@ -129,6 +130,7 @@ impl Engine {
             spend(&mut self.work);
             return Err(AllocError);
         };
+        work.references_are_kept();
         let Ok(()) = hand_on(&mut self.reply, out) else {
             spend(&mut self.work);
             return Err(AllocError);

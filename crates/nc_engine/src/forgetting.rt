@@ -78,6 +78,7 @@ impl Work {
         ensures network { SameNetwork self.old self.new }
         ensures asked { asked_of self.new.rules ≡ asked_of self.old.rules }
         ensures kept { OnOk result (kept_of self.new ≡ without_test (kept_of self.old) place) }
+        ensures store { self.new.store ≡ self.old.store }
     {
         self.tests[place].live = false;
         let live = live_nodes(alloc, &self.tests)?;

@@ -4,9 +4,9 @@
 //! `nc_report` for the marks and their texts, on `nc_formula`, `nc_diagram` and `nc_cut` for what is asked of sets of
 //! elements, on `nc_suite` for suites and dead elements, and on `nc_command` for the lines. The contract of
 //! [`Engine::answer`] promises that each line gets the reply that the definitions of `specs/` give, that what is kept of
-//! the session moves by one step of theirs, and how many facts are inferred for it. The definitions are public: `Marks`,
-//! `Questions`, `Cuts`, `Suites`, `DeadElements` and `Session`, in the order to read them; `Engine` says what an engine
-//! has and infers.
+//! the session moves by one step of theirs, how many facts are inferred for it, and of which tests parts are drawn for
+//! it. The definitions are public: `Marks`, `Questions`, `Cuts`, `Suites`, `DeadElements` and `Session`, in the order to
+//! read them; `Engine` says what an engine has, infers and draws.
 #![tactic(auto)]
 
 mod cuts;

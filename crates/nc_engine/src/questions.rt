@@ -1,12 +1,13 @@
 //! Questions about two tests: whether each set of elements that carries the one carries the other.
 
-ghost use Rattle.std.specs.Prelude.{◌≡◌, ◌++◌, ◌<◌, [], length, slice_get, slice_index_or, IfOk, OnOk, IsErrOf, MatchOption};
+ghost use Rattle.std.specs.Prelude.{◌≡◌, ◌++◌, ◌∷◌, ◌<◌, [], length, slice_get, slice_index_or, IfOk, OnOk, IsErrOf, MatchOption};
 ghost use Rattle.std.specs.List.{flat_map};
 ghost use Rattle.std.specs.Option.{option_map_or};
 ghost use Rattle.std.specs.List.Sorted.{IsStrictlyIncreasing};
 ghost use Rattle.nc_diagram.specs.Sets.{all_but};
 ghost use Rattle.nc_rules.specs.Rules.{flow_of};
 ghost use Rattle.nc_rules.specs.Seen.{state_of, asked_of};
+ghost use Rattle.nc_engine.specs.Engine.{DrawsFor};
 ghost use Rattle.nc_engine.specs.Questions.{IsImplied, IsGreatestApart, element_text, question_of, yes_of, no_of};
 ghost use Rattle.nc_engine.specs.Session.{IsCrowded, test_in, with_pair};
 ghost use Rattle.nc_engine.specs.Work.{IsWork, IsDrawnFor, SameNetwork, Compared, Questioned, kept_of, tests_of};
@@ -133,6 +134,9 @@ impl Work {
         ensures network { SameNetwork self.old self.new }
         ensures asked { asked_of self.new.rules ≡ asked_of self.old.rules }
         ensures kept { kept_of self.new ≡ kept_of self.old }
+        ensures draws { DrawsFor (state_of self.old.rules)
+            ((test_in (tests_of self.old) first).facts
+            ∷ (test_in (tests_of self.old) second).facts ∷ []) self.old.store self.new.store }
         ensures answers { IfOk result (λ o. MatchOption o
             (IsImplied (flow_of (state_of self.old.rules))
             (test_in (tests_of self.old) first).facts (test_in (tests_of self.old) second).facts)
@@ -169,6 +173,7 @@ impl Work {
         ensures network { SameNetwork self.old self.new }
         ensures asked { asked_of self.new.rules ≡ asked_of self.old.rules }
         ensures kept { OnOk result (kept_of self.new ≡ with_pair (kept_of self.old) first second) }
+        ensures store { self.new.store ≡ self.old.store }
     {
         drawn_with_a_question::<Fact>();
         self.pairs.push((first, second))?;

@@ -55,6 +55,7 @@ impl Work {
         ensures network { SameNetwork self.old self.new }
         ensures asked { asked_of self.new.rules ≡ asked_of self.old.rules }
         ensures kept { kept_of self.new ≡ kept_of self.old }
+        ensures store { self.new.store ≡ self.old.store }
     {
         let tests = self.tests.len();
         make_room(&mut self.refused, tests)?;
@@ -71,6 +72,7 @@ impl Work {
         ensures network { SameNetwork self.old self.new }
         ensures asked { asked_of self.new.rules ≡ asked_of self.old.rules }
         ensures kept { kept_of self.new ≡ kept_of self.old }
+        ensures store { self.new.store ≡ self.old.store }
     {
         if are_known(&self.formulas, &self.tests[place].nodes) {
             return Ok(());

@@ -143,6 +143,7 @@ impl Work {
         ensures network { SameNetwork self.old self.new }
         ensures kept { kept_of self.new ≡ kept_of self.old }
         ensures asked { asked_of self.new.rules ≡ asked_of self.old.rules }
+        ensures store { self.new.store ≡ self.old.store }
     {
         let facts = self.rules.facts_of(test)?;
         Ok(facts)

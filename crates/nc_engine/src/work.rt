@@ -13,7 +13,7 @@ ghost use Rattle.nc_rules.specs.Seen.{state_of, asked_of};
 ghost use Rattle.nc_engine.specs.Limits.{most_tests, most_facts};
 ghost use Rattle.nc_engine.specs.Session.{live_in};
 ghost use Rattle.nc_report.specs.Views.{FileView};
-ghost use Rattle.nc_engine.specs.Engine.{begin_at};
+ghost use Rattle.nc_engine.specs.Engine.{HasReferences, begin_at};
 ghost use Rattle.nc_engine.specs.Marks.{IsReport};
 ghost use Rattle.nc_engine.specs.Work.{IsWork, SameNetwork, Takes, Appended, progress_of, tests_of};
 
@@ -140,6 +140,7 @@ impl Work {
         ensures work { OnOk result (IsWork self.new) }
         ensures network { SameNetwork self.old self.new }
         ensures taken { IfOk result (λ fits. Takes fits self.old self.new facts.items) }
+        ensures store { self.new.store ≡ self.old.store }
     {
         let nodes = match ask(&mut self.rules, &mut self.graph, &facts) {
             Ok(nodes) => nodes,
@@ -169,6 +170,15 @@ impl Work {
     {
         rules_make_a_flow();
         marks_of_nodes_are_of_facts::<Fact>();
+        let _facts = self.graph.len();
+    }
+
+    /// Does nothing: the store has a reference of each fact of which there is a diagram.
+    pub(crate) fn references_are_kept(&self)
+        requires { IsWork self.now }
+        ensures { (files : List FileView) → HasReferences (progress_of files self.now) }
+    {
+        rules_make_a_flow();
         let _facts = self.graph.len();
     }
 

@@ -4,7 +4,7 @@ use Rattle.nc_report.specs.Views.{file_view}
 use Rattle.nc_report.specs.declared.file.LoadedFile.{LoadedFile}
 use Rattle.nc_engine.specs.Work.{progress_of}
 use Rattle.nc_command.specs.Command.{command_of}
-use Rattle.nc_engine.specs.Engine.{Progress, HasDrawn, HasDrawnFor}
+use Rattle.nc_engine.specs.Engine.{Progress, HasDrawn, HasDrawnFor, HasReferences}
 use Rattle.nc_engine.proofs.Drawing.{has-drawn, drawn-behind}
 use Rattle.nc_engine.proofs.engine.Engine.answer.Goals as goal
 
@@ -14,7 +14,13 @@ returns-clause-drawn c = λ x is.
     let files = map file_view c.self.inside.files.items in
     subst HasDrawn (same_Some (progress_of files c.answer.new.self) x is) (has-drawn files c.answer.new.self c.in-Ok.ensures.work)
 
--- and so is that of a cut that is told
+-- and there are references of all that is
+pub returns-clause-references : goal.returns-clause-references
+returns-clause-references c = λ x is.
+    let files = map file_view c.self.inside.files.items in
+    subst HasReferences (same_Some (progress_of files c.answer.new.self) x is) (c.references_are_kept.ensures files)
+
+-- and so is the test of a cut that is told drawn
 pub returns-clause-drawn_for : goal.returns-clause-drawn_for
 returns-clause-drawn_for c = λ x is.
     let files = map file_view c.self.inside.files.items in

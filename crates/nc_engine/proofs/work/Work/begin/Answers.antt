@@ -37,5 +37,6 @@ returns-clause-progress c = λ files i. record {
   session = record { tests = map test_view (c.new-4.ensures.items i); pairs = c.new-5.ensures.items i };
   asked = c.new-rules.ensures.asked i;
   drawn = drawn_in (c.new-3.ensures.empty i).facts c.new-7.result;
+  diagrams = record { nodes = c.new-6.ensures.constants_alone i; limit = c.new-6.ensures.limit i };
   dead_known = false;
 }

@@ -14,6 +14,7 @@ use Rattle.nc_engine.proofs.Carrying.{implied, greatest}
 use Rattle.nc_engine.proofs.Comparing.{posed-at, ids-at, nodes-hold, option-weaker}
 use Rattle.nc_engine.proofs.Drawing.{answered-still, drawn-at}
 use Rattle.nc_engine.proofs.Crowding.{crowded-both}
+use Rattle.nc_engine.proofs.Gaining.{draws-both}
 use Rattle.nc_engine.proofs.work.Work.compare.Goals as goal
 
 pub compare-requires-clause-first : goal.compare-requires-clause-first
@@ -55,6 +56,18 @@ returns-clause-work c =
       dead = was.dead;
       crowded = was.crowded;
     }
+
+pub returns-clause-draws : goal.returns-clause-draws
+returns-clause-draws c =
+    let w = c.args.self.now in
+    let s = state_of w.rules in
+    let flow = c.rules_make_a_flow.ensures s c.requires.work.state in
+    let left = (test_in (tests_of w) c.args.first).facts in
+    let right = (test_in (tests_of w) c.args.second).facts in
+    let first = ids-at w.graph w.tests.items c.args.first c.index.result.now c.deref.result.now c.requires.first c.index.ensures c.deref.ensures.value c.requires.work.nodes in
+    let second = ids-at w.graph w.tests.items c.args.second c.index-2.result.now c.deref-2.result.now c.requires.second c.index-2.ensures c.deref-2.ensures.value c.requires.work.nodes in
+    draws-both s flow w.graph c.len-facts.ensures.graph c.requires.work.marked.mirrors w.store c.compare.new.store left right
+    c.deref.result.now c.deref-2.result.now first second c.compare.ensures.gains
 
 pub returns-clause-answers : goal.returns-clause-answers
 returns-clause-answers c =

@@ -7,6 +7,7 @@ use Rattle.nc_rules.specs.Seen.{state_of}
 use Rattle.nc_engine.specs.Cuts.{unknown_among}
 use Rattle.nc_engine.specs.Session.{Cuts, CutsNamed, live_place}
 use Rattle.nc_engine.specs.Work.{kept_of, tests_of}
+use Rattle.nc_engine.proofs.Gaining.{draws-cut}
 use Rattle.nc_engine.proofs.work.Work.cut.Goals as goal
 
 pub returns-in-Some-clause-drawn : goal.returns-in-Some-clause-drawn
@@ -35,4 +36,5 @@ returns-clause-cut c =
       text = told.text;
       network = told.network;
       infers = told.infers;
+      draws = draws-cut w new number names place at told.draws;
     }

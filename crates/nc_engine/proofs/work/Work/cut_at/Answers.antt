@@ -28,6 +28,7 @@ returns-in_default-clause-cut c =
       text = c.in_ok-push_none.ensures;
       network = drawn.network;
       infers = drawn.asked;
+      draws = inr drawn.draws;
     }
 
 pub returns-then-is_refused-clause-drawn : goal.returns-then-is_refused-clause-drawn

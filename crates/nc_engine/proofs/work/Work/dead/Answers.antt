@@ -45,6 +45,7 @@ returns-clause-told c =
       text = c.in_ok-push_known.ensures ∙ ap (λ (cs : List ConfigView). c.args.out.now.items ++ known_text cs known) net;
       state = c.known_dead.ensures.state;
       listed = refl;
+      store = refl;
       infers = subst (λ (known : Bool). InfersFor s (tests_of old) (Asks Dead) known (asked_of old.rules) (asked_of c.known_dead.new.rules)) (ap is_some c.take.ensures.value) (c.in_ok-known.ensures.infers (tests_of old));
       known = refl;
     }

@@ -9,6 +9,7 @@ use Rattle.nc_engine.specs.Session.{test_in, posed_in}
 use Rattle.nc_engine.specs.Work.{kept_of, test_view, tests_of}
 use Rattle.nc_engine.proofs.Comparing.{posed-at, ids-at}
 use Rattle.nc_engine.proofs.Drawing.{answered-still, test-drawn}
+use Rattle.nc_engine.proofs.Gaining.{draws-test}
 use Rattle.nc_engine.proofs.work.Work.draw.Goals as goal
 
 pub of_each-requires-clause-valid : goal.of_each-requires-clause-valid
@@ -40,6 +41,15 @@ returns-clause-work c =
       dead = was.dead;
       crowded = was.crowded;
     }
+
+pub returns-clause-draws : goal.returns-clause-draws
+returns-clause-draws c =
+    let w = c.args.self.now in
+    let s = state_of w.rules in
+    let flow = c.rules_make_a_flow.ensures s c.requires.work.state in
+    let facts = (test_in (tests_of w) c.args.place).facts in
+    let nodes = ids-at w.graph w.tests.items c.args.place c.index.result.now c.deref.result.now c.requires.place c.index.ensures c.deref.ensures.value c.requires.work.nodes in
+    draws-test s flow w.graph c.len-facts.ensures.graph c.requires.work.marked.mirrors w.store c.of_each.new.store facts c.deref.result.now nodes c.of_each.ensures.gains
 
 pub returns-clause-means : goal.returns-clause-means
 returns-clause-means c =

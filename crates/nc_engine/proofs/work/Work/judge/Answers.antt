@@ -27,4 +27,5 @@ returns-clause-told c =
       text = counted.text;
       network = counted.network;
       infers = subst (λ (fs : List Fact). Infers s (tests_of old) (if nat_lt (length (tests_of old)) most_tests then fs else []) (asked_of old.rules) (asked_of new.rules)) c.requires.facts counted.infers;
+      draws = counted.draws;
     }

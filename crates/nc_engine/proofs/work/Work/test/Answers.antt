@@ -1,4 +1,4 @@
-use Rattle.std.proofs.Common.{◌≡◌, ℕ, List, ◌++◌, None, refl, sym, ap, ◌∙◌, subst}
+use Rattle.std.proofs.Common.{◌≡◌, ℕ, List, ◌++◌, None, inl, refl, sym, ap, ◌∙◌, subst}
 use Rattle.std.specs.Option.{option_map}
 use Rattle.nc_types.specs.Network.{router_named}
 use Rattle.nc_fact.specs.declared.fact.Fact.{Fact}
@@ -23,6 +23,7 @@ returns-in_default-clause-tests c =
       text = c.in_ok-push_unknown.ensures ∙ ap (λ (word : List ℕ). c.args.out.now.items ++ line_of (unknown_of word)) (c.bytes.ensures ∙ c.router_of-name.ensures);
       network = record { state = refl; listed = refl; dead = refl };
       infers = subst (λ (fs : List Fact). Infers s tests fs (asked_of old.rules) (asked_of old.rules)) (sym (none-asked s tests test (none-named s test none))) refl;
+      draws = inl refl;
     }
 
 pub returns-clause-tests : goal.returns-clause-tests
@@ -36,4 +37,5 @@ returns-clause-tests c =
       text = at.text;
       network = at.network;
       infers = at.infers;
+      draws = at.draws;
     }

@@ -1,4 +1,4 @@
-use Rattle.std.proofs.Common.{◌≡◌, List, false, codes, refl, sym, ◌∙◌, subst}
+use Rattle.std.proofs.Common.{◌≡◌, List, false, codes, inl, refl, sym, ◌∙◌, subst}
 use Rattle.nc_fact.specs.declared.fact.Fact.{Fact}
 use Rattle.nc_rules.specs.Seen.{state_of, asked_of}
 use Rattle.nc_engine.specs.Session.{State, has_line}
@@ -24,6 +24,7 @@ returns-then-not-has_line-clause-tested c =
       text = c.in_ok-push_line.ensures;
       network = record { state = refl; listed = refl; dead = refl };
       infers = subst (λ (fs : List Fact). Infers s tests fs (asked_of old.rules) (asked_of old.rules)) (sym (none-asked s tests test (none-lined s router test c.requires.router none))) refl;
+      draws = inl refl;
     }
 
 pub returns-clause-tested : goal.returns-clause-tested
@@ -31,11 +32,12 @@ returns-clause-tested c =
     let old = c.args.self.now in
     let s = state_of old.rules in
     let kept = c.facts.ensures in
-    let told = told_before old c.facts.new.self c.judge.new.self c.args.test.now c.args.out.now.items c.judge.new.out.items kept.network kept.kept kept.asked c.in_ok-judge.ensures.told in
+    let told = told_before old c.facts.new.self c.judge.new.self c.args.test.now c.args.out.now.items c.judge.new.out.items kept.network kept.kept kept.asked kept.store c.in_ok-judge.ensures.told in
     record {
       reply = told.reply;
       answer = lined s old.listed c.args.router.0 c.args.test.now (kept_of old) (kept_of c.judge.new.self) told.reply (sym c.has_line.ensures ∙ c.if-not-has_line.false) told.answer;
       text = told.text;
       network = told.network;
       infers = told.infers;
+      draws = told.draws;
     }

@@ -1,4 +1,4 @@
-use Rattle.std.proofs.Common.{inr, refl, ap, ◌∙◌}
+use Rattle.std.proofs.Common.{[], ◌∷◌, inl, inr, refl, sym, ap, ◌∙◌, subst}
 use Rattle.std.specs.Prelude.{codes}
 use Rattle.nc_tables.specs.State.{StateView}
 use Rattle.std.specs.List.Sorted.{IsStrictlyIncreasing}
@@ -6,6 +6,7 @@ use Rattle.std.proofs.lemmas.Option.{MatchOption-at_some}
 use Rattle.nc_diagram.specs.Sets.{all_but}
 use Rattle.nc_rules.specs.Rules.{flow_of}
 use Rattle.nc_rules.specs.Seen.{state_of}
+use Rattle.nc_engine.specs.Engine.{DrawsFor}
 use Rattle.nc_engine.specs.Questions.{IsImplied, IsGreatestApart}
 use Rattle.nc_engine.specs.Session.{State, IsCrowded, test_in, with_pair}
 use Rattle.nc_engine.specs.Work.{kept_of, tests_of}
@@ -30,6 +31,7 @@ returns-in-Ok-Some-clause-compared c =
     let answer : IsStrictlyIncreasing missing × IsGreatestApart g left right (all_but missing) = MatchOption-at_some (IsImplied g left right) (λ missing. IsStrictlyIncreasing missing.items × IsGreatestApart g left right (all_but missing.items))
     c.in-Ok-Some.missing c.in-Ok-Some.field-0-is c.in-Ok-Some.ensures.answers in
     compared-no old c.note-in-Ok-Some.new.self (record { state = state; listed = noted.network.listed ∙ compared.network.listed; dead = noted.network.dead ∙ compared.network.dead }) (noted.asked ∙ compared.asked) i j c.args.first c.args.second
+    (subst (DrawsFor (state_of old.rules) (left ∷ right ∷ []) old.store) (sym noted.store) compared.draws)
     (c.in_ok-note-in-Ok-Some.ensures.kept ∙ ap (λ (kept : State). with_pair kept i j) compared.kept) missing c.deref.result.now answer.0 answer.1 c.deref.ensures.value
     c.network-network.result.now (c.network-network.ensures.network ∙ ap (λ (s : StateView). s.routers) (c.state.ensures ∙ state)) c.args.out.now.items c.push_no.new.out.items c.in_ok-push_no-in-Ok-Some.ensures
 
@@ -47,4 +49,5 @@ returns-then-is_refused-clause-compared c =
       text = c.in_ok-push_line.ensures;
       network = record { state = refl; listed = refl; dead = refl };
       infers = refl;
+      draws = inl refl;
     }
