@@ -10,3 +10,5 @@ pub mod Beside
 pub mod Outranked
 pub mod Preferred
 pub mod PeerFirst
+pub mod Standing
+pub mod Holding

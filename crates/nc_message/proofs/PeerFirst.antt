@@ -89,10 +89,6 @@ module _ (routers : List ConfigView) (tables : List (List BaseRow)) (sessions : 
   pub none_learnt_alone : None ≡ link_at routers sessions router place → None ≡ entry_at routers tables sessions table router place prefix
   none_learnt_alone e = ap learnt_by e ∙ learnt_is
 
-  pub none_learnt_by_peer : None ≡ best_over table prefix (session_by sessions router place) → None ≡ entry_at routers tables sessions table router place prefix
-  unfolding accepted_at
-  none_learnt_by_peer silent = ap (λ (o : Option Message). option_map (learnt_from place) (option_and_then (accepted_of tables router) o)) (none_sent silent)
-
   pub none_learnt_silent : (k : Link) → Some k ≡ link_at routers sessions router place → None ≡ best_at table k.session.peer.0 prefix → None ≡ entry_at routers tables sessions table router place prefix
   none_learnt_silent k e silent =
       ap (λ (o : Option Chosen). option_map (learnt_from place) (option_and_then (accepted_of tables router) (option_and_then (message_of k) o))) silent ∙ ap learnt_by e ∙ learnt_is

@@ -1,5 +1,5 @@
 -- What is known of the sender of each session of a network before any message.
-use Rattle.std.specs.Prelude.{◌≡◌, ℕ, nat_lt, List, length, Option, IfSome, Some, option_and_then, slice_get}
+use Rattle.std.specs.Prelude.{◌≡◌, ℕ, nat_lt, true, List, length, Option, IfSome, Some, is_some, option_and_then, slice_get}
 use Rattle.nc_types.specs.Config.{ConfigView}
 use Rattle.nc_tables.specs.declared.base.BaseRow.{BaseRow}
 use Rattle.nc_tables.specs.declared.bgp.SessionRow.{SessionRow}
@@ -7,6 +7,7 @@ use Rattle.nc_tables.specs.Base.{is_own}
 use Rattle.nc_tables.specs.Reach.{hits}
 use Rattle.nc_tables.specs.Rounds.{Link, link_at}
 use Rattle.nc_tables.specs.Sessions.{router_id}
+use Rattle.nc_sessions.specs.Statements.{statements_of}
 use Rattle.nc_sessions.specs.Views.{link_view}
 use Rattle.nc_message.specs.declared.adjacencies.Adjacency.{Adjacency}
 use Rattle.nc_message.specs.declared.adjacencies.Sender.{Sender}
@@ -30,9 +31,18 @@ IsSenderAt routers tables sessions router place o = (k : Link) → link_at route
 abbrev pub AreSenders : List ConfigView → List (List BaseRow) → List (List SessionRow) → ℕ → List (Option Sender) → Type 0
 AreSenders routers tables sessions router row = (place : ℕ) (o : Option Sender) → slice_get row place ≡ Some o → IsSenderAt routers tables sessions router place o
 
+-- one for each, and something is known exactly where the statement has a session
+pub record AreOfSessions (routers : List ConfigView) (sessions : List (List SessionRow)) (router : ℕ) (row : List (Option Sender)) : Type 0 where
+  pub count : length row ≡ length (statements_of routers router)
+  pub known : (place : ℕ) (o : Option Sender) → slice_get row place ≡ Some o → is_some o ≡ is_some (link_at routers sessions router place)
+
 -- what a table has for the neighbor statement at a place of a router
 abbrev pub sender_in : List (List (Option Sender)) → ℕ → ℕ → Option Sender
 sender_in table router place = option_and_then (λ row. option_and_then (λ o. o) (slice_get row place)) (slice_get table router)
+
+-- it has something of the sender of each session
+abbrev pub HasEachSender : List ConfigView → List (List SessionRow) → List (List (Option Sender)) → Type 0
+HasEachSender routers sessions table = (router place : ℕ) (k : Link) → link_at routers sessions router place ≡ Some k → is_some (sender_in table router place) ≡ true
 
 -- what a table tells of senders is so
 abbrev pub AreAdjacencies : List ConfigView → List (List BaseRow) → List (List SessionRow) → List (List (Option Sender)) → Type 0

@@ -10,7 +10,9 @@ use Rattle.nc_policy.specs.declared.passing.Passing.{Passing}
 use Rattle.nc_sessions.specs.Views.{link_view}
 use Rattle.nc_message.specs.Adjacencies.{IsSender}
 use Rattle.nc_message.specs.declared.messages.Advertisement.{Advertisement}
+use Rattle.nc_message.specs.declared.messages.AdvertisedRoute.{AdvertisedRoute}
 use Rattle.nc_message.specs.declared.accepting.AcceptedRoute.{AcceptedRoute}
+use Rattle.nc_message.specs.declared.accepting.LearntRoute.{LearntRoute}
 
 -- what the sender's map made of the best candidate
 abbrev pub out_view : Link → Chosen → Passing → Passed
@@ -26,6 +28,17 @@ message_view s = message_by (link_view s.link) s.best.now s.out
 -- what the receiver's map made of the message
 abbrev pub accepted_view : AcceptedRoute → Accepted
 accepted_view t = record { message = message_view t.sent; into = passing_view (message_view t.sent).route t.into }
+
+-- the same where the ends of the session stand elsewhere
+abbrev pub advertised : AdvertisedRoute → Advertisement
+advertised s = record { link = s.link.now; sender = s.sender; best = s.best; out = s.out }
+
+abbrev pub learnt_as : LearntRoute → AcceptedRoute
+learnt_as t = record { sent = advertised t.sent; into = t.into }
+
+-- what the receiver's map, as it let the route pass, made of a message
+abbrev pub accepted_by : Advertisement → Passing → Accepted
+accepted_by s into = record { message = message_view s; into = passing_view (message_view s).route into }
 
 -- the path of the route that is sent is within the limit, and so are its communities
 pub record IsAdvertised (s : Advertisement) : Type 0 where

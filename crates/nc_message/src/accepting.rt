@@ -1,6 +1,7 @@
 //! What is accepted of a message.
 
-ghost use Rattle.std.specs.Prelude.{◌≡◌, ◌==◌, ◌&&◌, ◌<◌, not, nat_lt, IfSome, length};
+ghost use Rattle.std.specs.Prelude.{◌≡◌, ◌==◌, ◌&&◌, ◌<◌, ◌≤◌, false, not, nat_lt, IfSome, length};
+ghost use Rattle.nc_types.specs.declared.TheConstants.{COMMUNITY_LIMIT, PATH_LIMIT};
 ghost use Rattle.std.specs.List.{list_any};
 ghost use Rattle.std.specs.Option.{option_and_then, option_map};
 ghost use Rattle.nc_tables.specs.Base.{is_own};
@@ -10,11 +11,14 @@ ghost use Rattle.nc_tables.specs.Rounds.{accepted_at, accepted_of, is_looped, me
 ghost use Rattle.nc_sessions.specs.Views.{link_view};
 ghost use Rattle.nc_message.specs.Inputs.{AreRoutingInputs, IsBetween};
 ghost use Rattle.nc_message.specs.Adjacencies.{IsAdjacency};
-ghost use Rattle.nc_message.specs.Views.{message_view, accepted_view, IsKnown, IsAdvertised, IsAccepted};
+ghost use Rattle.nc_message.specs.Views.{advertised, accepted_by, message_view, accepted_view};
+ghost use Rattle.nc_message.specs.Views.{IsKnown, IsAdvertised, IsAccepted};
 
 use crate::adjacencies::Adjacency;
 use crate::inputs::RoutingInputs;
-use crate::messages::{Advertisement, carried, message_at, message_of, sent_length};
+use crate::messages::{
+    AdvertisedRoute, Advertisement, carried, message_at, message_of, sent_length,
+};
 use crate::rows::is_own;
 use nc_policy::Passing;
 use nc_sessions::Link;
@@ -27,6 +31,13 @@ use nc_underlay::has_hit;
 pub struct AcceptedRoute<'a> {
     pub sent: Advertisement<'a>,
     pub into: Passing<'a>,
+}
+
+/// The same with the ends of the session where they stand.
+#[derive(Clone, Copy)]
+pub(crate) struct LearntRoute<'a> {
+    pub(crate) sent: AdvertisedRoute<'a>,
+    pub(crate) into: Passing<'a>,
 }
 
 // Whether a number is among others.
@@ -44,18 +55,26 @@ fn has_own_sender(link: &Link) -> bool
     !link.session.internal && link.sender.process.asn == link.receiver.process.asn
 }
 
-// Whether the path of a message holds the receiver's own system (RFC 4271, 9.1.2).
-fn is_looped(sent: &Advertisement) -> bool
-    ensures { result ≡ is_looped (message_view sent.now) }
+/// Whether the path of a peer's candidate holds the receiver's own system. What is sent of it holds
+/// it too, and isn't accepted (RFC 4271, 9.1.2): no map is asked about it.
+pub(crate) fn holds_receiver(link: &Link, best: &Chosen) -> bool
+    ensures { result ≡ list_any (λ n. n == link.now.receiver.process.now.asn) best.now.route.path }
 {
-    let own = sent.link.receiver.process.asn;
-    if has_own_sender(&sent.link) {
+    best.route.path.contains(link.receiver.process.asn)
+}
+
+// Whether the path of a message holds the receiver's own system, that of the peer's candidate doesn't.
+fn is_looped(sent: &AdvertisedRoute) -> bool
+    requires { list_any (λ n. n == sent.now.link.now.receiver.process.now.asn)
+        sent.now.best.now.route.path ≡ false }
+    ensures { result ≡ is_looped (message_view (advertised sent.now)) }
+{
+    let link = sent.link;
+    let own = link.receiver.process.asn;
+    if has_own_sender(link) {
         return true;
     }
-    if has(sent.out.prepended(), own) {
-        return true;
-    }
-    sent.best.route.path.contains(own)
+    has(sent.out.prepended(), own)
 }
 
 // Whether a candidate was learnt.
@@ -70,7 +89,19 @@ fn is_learnt(from: BgpFrom) -> bool
 pub fn next_hop(sent: &Advertisement) -> Addr
     ensures { result ≡ (message_view sent.now).route.next_hop }
 {
-    let link = &sent.link;
+    hop_of(&AdvertisedRoute {
+        link: &sent.link,
+        sender: sent.sender,
+        best: sent.best,
+        out: sent.out,
+    })
+}
+
+/// The same of a message with the ends of the session where they stand.
+pub(crate) fn hop_of(sent: &AdvertisedRoute) -> Addr
+    ensures { result ≡ (message_view (advertised sent.now)).route.next_hop }
+{
+    let link = sent.link;
     let is_kept = link.session.internal
         && !link.sender.statement.self_hop
         && is_learnt(sent.best.from);
@@ -83,29 +114,69 @@ pub fn next_hop(sent: &Advertisement) -> Addr
 
 // Whether an address is that of one of the receiver's own interfaces that are up. Of the address
 // from which the sender starts it may be known.
-fn is_own_hop(inputs: &RoutingInputs, router: RouterId, sent: &Advertisement, hop: Addr) -> bool
-    requires between { IsBetween inputs.now.network.now router.0 (link_view sent.now.link) }
-    requires known { IsKnown inputs.now.base.now router.0 sent.now }
-    ensures { result ≡ is_own (link_view sent.now.link).receiver.config.interfaces hop.0 }
+fn is_own_hop(inputs: &RoutingInputs, router: RouterId, sent: &AdvertisedRoute, hop: Addr) -> bool
+    requires between { IsBetween inputs.now.network.now router.0 (link_view sent.now.link.now) }
+    requires known { IsKnown inputs.now.base.now router.0 (advertised sent.now) }
+    ensures { result ≡ is_own (link_view sent.now.link.now).receiver.config.interfaces hop.0 }
 {
     match sent.sender {
         Some(sender) if hop == sent.link.source => sender.is_own,
-        _ => is_own(inputs.network, router, &sent.link, hop),
+        _ => is_own(inputs.network, router, sent.link, hop),
     }
 }
 
 // Whether the receiver's base table leads to an address. Of that from which the sender starts it
 // may be known.
-fn is_resolved(inputs: &RoutingInputs, router: RouterId, sent: &Advertisement, hop: Addr) -> bool
+fn is_resolved(inputs: &RoutingInputs, router: RouterId, sent: &AdvertisedRoute, hop: Addr) -> bool
     requires inputs { AreRoutingInputs inputs.now }
-    requires between { IsBetween inputs.now.network.now router.0 (link_view sent.now.link) }
-    requires known { IsKnown inputs.now.base.now router.0 sent.now }
+    requires between { IsBetween inputs.now.network.now router.0 (link_view sent.now.link.now) }
+    requires known { IsKnown inputs.now.base.now router.0 (advertised sent.now) }
     ensures { result ≡ nat_lt 0 (length (hits inputs.now.base.now router.0 hop.0)) }
 {
     match sent.sender {
         Some(sender) if hop == sent.link.source => sender.is_reached,
         _ => has_hit(inputs.network, inputs.base, router, hop),
     }
+}
+
+/// How a message to a router passes its neighbor statement, where the message is accepted.
+pub(crate) fn passed_into<'a>(
+    inputs: &RoutingInputs<'a>,
+    router: RouterId,
+    sent: &AdvertisedRoute<'_>,
+) -> Option<Passing<'a>>
+    requires inputs { AreRoutingInputs inputs.now }
+    requires between { IsBetween inputs.now.network.now router.0 (link_view sent.now.link.now) }
+    requires known { IsKnown inputs.now.base.now router.0 (advertised sent.now) }
+    requires feasible { IsAdvertised (advertised sent.now) }
+    requires other { list_any (λ n. n == sent.now.link.now.receiver.process.now.asn)
+        sent.now.best.now.route.path ≡ false }
+    ensures accepted { option_map (accepted_by (advertised sent.now)) result
+        ≡ accepted_of inputs.now.base.now router.0 (message_view (advertised sent.now)) }
+    ensures short { IfSome result (λ p.
+        length (accepted_by (advertised sent.now) p).into.route.path ≤ PATH_LIMIT) }
+    ensures few { IfSome result (λ p.
+        length (accepted_by (advertised sent.now) p).into.route.communities ≤ COMMUNITY_LIMIT) }
+{
+    let hop = hop_of(sent);
+    if is_looped(sent) || is_own_hop(inputs, router, sent, hop) {
+        return None;
+    }
+    if !is_resolved(inputs, router, sent, hop) {
+        return None;
+    }
+    let link = sent.link;
+    let map = &link.receiver.statement.map_in;
+    let Some(_reference) = map else {
+        return Some(Passing::Unchanged);
+    };
+    let prefix = sent.best.route.prefix;
+    let count = sent_length(link.session.internal, sent.best, &sent.out);
+    let held = carried(sent);
+    let into = inputs
+        .policies
+        .pass(inputs.network, router, map, prefix, count, &held)?;
+    Some(into)
 }
 
 // What is accepted of a message to a router.
@@ -124,20 +195,16 @@ fn accepted_of<'a>(
     ensures known { IfSome result (λ t. IsKnown inputs.now.base.now router.0 t.sent) }
     ensures taken { IfSome result IsAccepted }
 {
-    let hop = next_hop(&sent);
-    if is_looped(&sent) || is_own_hop(inputs, router, &sent, hop) {
+    if holds_receiver(&sent.link, sent.best) {
         return None;
     }
-    if !is_resolved(inputs, router, &sent, hop) {
-        return None;
-    }
-    let prefix = sent.best.route.prefix;
-    let count = sent_length(sent.link.session.internal, sent.best, &sent.out);
-    let map = &sent.link.receiver.statement.map_in;
-    let held = carried(&sent);
-    let into = inputs
-        .policies
-        .pass(inputs.network, router, map, prefix, count, &held)?;
+    let parts = AdvertisedRoute {
+        link: &sent.link,
+        sender: sent.sender,
+        best: sent.best,
+        out: sent.out,
+    };
+    let into = passed_into(inputs, router, &parts)?;
     Some(AcceptedRoute { sent, into })
 }
 

@@ -1,9 +1,11 @@
 //! What is known of the sender of each session before any message.
 
-ghost use Rattle.std.specs.Prelude.{◌≡◌, IfOk, length};
+ghost use Rattle.std.specs.Prelude.{◌≡◌, IfOk, is_some, length};
+ghost use Rattle.nc_tables.specs.Rounds.{link_at};
 ghost use Rattle.nc_sessions.specs.Views.{link_view};
 ghost use Rattle.nc_message.specs.Inputs.{IsBetween};
-ghost use Rattle.nc_message.specs.Adjacencies.{sender_in, AreAdjacencies, AreSenders, IsSender, IsSenderAt};
+ghost use Rattle.nc_message.specs.Adjacencies.{sender_in, AreAdjacencies, AreOfSessions, AreSenders};
+ghost use Rattle.nc_message.specs.Adjacencies.{HasEachSender, IsSender, IsSenderAt};
 
 use crate::rows::is_own;
 use nc_sessions::{Link, link_at, router_id, statements};
@@ -77,7 +79,8 @@ fn sender_at(
 ) -> Option<Sender>
     requires tables { length base.now ≡ length network.now }
     requires sessions { length sessions.now ≡ length network.now }
-    ensures { IsSenderAt network.now base.now sessions.now router.0 place result }
+    ensures sender { IsSenderAt network.now base.now sessions.now router.0 place result }
+    ensures known { is_some result ≡ is_some (link_at network.now sessions.now router.0 place) }
 {
     let link = link_at(network, sessions, router, place)?;
     Some(sender_of(network, base, router, &link))
@@ -93,7 +96,10 @@ fn senders_to(
 ) -> Result<Vec<Option<Sender>>, AllocError>
     requires tables { length base.now ≡ length network.now }
     requires sessions { length sessions.now ≡ length network.now }
-    ensures { IfOk result (λ row. AreSenders network.now base.now sessions.now router.0 row.items) }
+    ensures senders { IfOk result
+        (λ row. AreSenders network.now base.now sessions.now router.0 row.items) }
+    ensures all { IfOk result
+        (λ row. AreOfSessions network.now sessions.now router.0 row.items) }
 {
     let count = statements(network, router).len();
     let mut row = Vec::with_capacity(alloc, count)?;
@@ -105,7 +111,7 @@ fn senders_to(
 
 impl Adjacencies {
     /// What is known of the senders of the sessions of a network, which has a base table and a list
-    /// of sessions for each router.
+    /// of sessions for each router: of each session something.
     ///
     /// # Errors
     ///
@@ -118,7 +124,10 @@ impl Adjacencies {
     ) -> Result<Adjacencies, AllocError>
         requires tables { length base.now ≡ length network.now }
         requires sessions { length sessions.now ≡ length network.now }
-        ensures { IfOk result (λ adjacencies. AreAdjacencies network.now base.now sessions.now adjacencies) }
+        ensures so { IfOk result
+            (λ adjacencies. AreAdjacencies network.now base.now sessions.now adjacencies) }
+        ensures all { IfOk result
+            (λ adjacencies. HasEachSender network.now sessions.now adjacencies) }
     {
         let count = network.routers().len();
         let mut routers = Vec::with_capacity(alloc, count)?;

@@ -2,20 +2,20 @@
 
 ghost use Rattle.std.specs.Prelude.{◌≡◌, ◌<◌, ◌^◌, MatchOption, IfSome, Some, false, length, true};
 ghost use Rattle.std.specs.Ordering.{is_gt};
-ghost use Rattle.std.specs.Option.{option_map, option_map_or};
+ghost use Rattle.std.specs.Option.{option_map_or};
 ghost use Rattle.nc_tables.specs.Choice.{preference_cmp};
 ghost use Rattle.nc_tables.specs.LocRibs.{IsNumbered};
-ghost use Rattle.nc_tables.specs.Rounds.{entry_at, made_from, session_by};
+ghost use Rattle.nc_tables.specs.Rounds.{entry_at, made_from};
 ghost use Rattle.nc_sessions.specs.Views.{link_view};
 ghost use Rattle.nc_message.specs.BestPath.{best_among, best_from, best_with, better_of, IsOutranked};
 ghost use Rattle.nc_message.specs.Inputs.{AreRoutingInputs, IsOf};
-ghost use Rattle.nc_message.specs.Peerings.{IsPeering};
-ghost use Rattle.nc_message.specs.Peers.{best_over};
+ghost use Rattle.nc_message.specs.Peerings.{ArePeerings, IsPeering};
 
 use crate::adjacencies::Peering;
 use crate::best_path::is_outranked;
 use crate::feasible::{FeasibleRoute, feasible_over};
-use crate::inputs::{RoutingInputs, peering_of};
+use crate::inputs::RoutingInputs;
+use crate::peerings::Peerings;
 use crate::rows::best_of;
 use nc_select::preference_cmp;
 use nc_sessions::Link;
@@ -50,7 +50,7 @@ fn prefer<'a>(
     inputs: &RoutingInputs<'a>,
     ribs: &'a LocRibs,
     router: RouterId,
-    peering: &Peering<'a>,
+    peering: &'a Peering<'a>,
     of: &Numbered,
 )
     requires inputs { AreRoutingInputs inputs.now }
@@ -78,67 +78,46 @@ fn prefer<'a>(
     *best = Some(route);
 }
 
-// The best candidate of a prefix that the peer of a neighbor statement's session has chosen. Most
-// peers have none while routes spread, so this is asked before the session's ends are looked up.
-fn best_of_peer<'a>(
-    inputs: &RoutingInputs<'_>,
-    ribs: &'a LocRibs,
-    router: RouterId,
-    place: u32,
-    of: &Numbered,
-) -> Option<&'a Chosen>
-    requires inputs { AreRoutingInputs inputs.now }
-    requires ribs { length ribs.now.rows ≡ length inputs.now.network.now }
-    requires number { IsNumbered ribs.now.prefixes of.now }
-    ensures { option_map (λ b. b.now) result ≡ best_over ribs.now.rows of.now.prefix
-        (session_by inputs.now.sessions.now router.0 place) }
-{
-    let count = inputs.network.routers().len();
-    if router.0 as usize >= count {
-        return None;
-    }
-    let session = inputs.sessions.get(router, place)?;
-    if session.peer.0 as usize >= count {
-        return None;
-    }
-    best_of(ribs, session.peer, *of)
-}
-
 // Takes what a router learns by the neighbor statement at a place, unless the best so far is
 // preferred.
 fn prefer_at<'a>(
     best: &mut Option<FeasibleRoute<'a>>,
     inputs: &RoutingInputs<'a>,
+    peerings: &'a Peerings<'a>,
     ribs: &'a LocRibs,
     router: RouterId,
-    place: u32,
+    place: usize,
     of: &Numbered,
 )
     requires inputs { AreRoutingInputs inputs.now }
+    requires peerings { ArePeerings inputs.now.network.now inputs.now.base.now
+        inputs.now.sessions.now router.0 peerings.now }
     requires ribs { length ribs.now.rows ≡ length inputs.now.network.now }
+    requires place { place < length peerings.now }
     requires number { IsNumbered ribs.now.prefixes of.now }
     ensures best { best.new ≡ best_with (entry_at inputs.now.network.now inputs.now.base.now
         inputs.now.sessions.now ribs.now.rows router.0 place of.now.prefix) best.old }
     ensures own { IfSome best.old (IsOf of.now.prefix) → IfSome best.new (IsOf of.now.prefix) }
 {
-    let Some(_sent) = best_of_peer(inputs, ribs, router, place, of) else {
+    let Some(peering) = peerings.at(place) else {
         return;
     };
-    let Some(peering) = peering_of(inputs, router, place) else {
-        return;
-    };
-    prefer(best, inputs, ribs, router, &peering, of);
+    prefer(best, inputs, ribs, router, peering, of);
 }
 
 /// The best of what a router learns of a prefix by its neighbor statements.
 pub(crate) fn best_learnt<'a>(
     inputs: &RoutingInputs<'a>,
+    peerings: &'a Peerings<'a>,
     ribs: &'a LocRibs,
     router: RouterId,
     neighbors: &[Neighbor],
     of: &Numbered,
 ) -> Option<FeasibleRoute<'a>>
     requires inputs { AreRoutingInputs inputs.now }
+    requires peerings { ArePeerings inputs.now.network.now inputs.now.base.now
+        inputs.now.sessions.now router.0 peerings.now }
+    requires all { length peerings.now ≡ length neighbors.now }
     requires ribs { length ribs.now.rows ≡ length inputs.now.network.now }
     requires number { IsNumbered ribs.now.prefixes of.now }
     requires few { length neighbors.now < 2 ^ 32 }
@@ -151,7 +130,7 @@ pub(crate) fn best_learnt<'a>(
     let mut place = neighbors.len();
     'neighbors: while place > 0 {
         place -= 1;
-        prefer_at(&mut best, inputs, ribs, router, place as u32, of);
+        prefer_at(&mut best, inputs, peerings, ribs, router, place, of);
     }
     best
 }

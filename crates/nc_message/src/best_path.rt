@@ -1,20 +1,21 @@
 //! What neighbors say now, that may change what is chosen.
 
-ghost use Rattle.std.specs.Prelude.{◌≡◌, ◌<◌, ◌++◌, All, filter, length, map, not, true, IfSome, OnOk, Some};
+ghost use Rattle.std.specs.Prelude.{◌≡◌, ◌<◌, ◌++◌, All, filter, length, map, not, true, OnOk};
 ghost use Rattle.std.specs.List.{list_any};
-ghost use Rattle.std.specs.Option.{option_map, option_map_or};
-ghost use Rattle.nc_types.specs.Config.{ProcessView, process_view};
+ghost use Rattle.std.specs.Option.{option_map_or};
+ghost use Rattle.nc_types.specs.Config.{process_view};
 ghost use Rattle.nc_tables.specs.Choice.{is_learnt};
 ghost use Rattle.nc_tables.specs.LocRibs.{IsNumbered};
-ghost use Rattle.nc_tables.specs.Rounds.{entry_at, link_at};
+ghost use Rattle.nc_tables.specs.Rounds.{entry_at};
 ghost use Rattle.nc_sessions.specs.Views.{link_view};
-ghost use Rattle.nc_message.specs.Inputs.{AreRoutingInputs, IsBetween};
+ghost use Rattle.nc_message.specs.Inputs.{AreRoutingInputs};
 ghost use Rattle.nc_message.specs.BestPath.{is_beaten, is_from, leaves_best_path, IsOutranked};
+ghost use Rattle.nc_message.specs.Peerings.{IsPeering, IsPeeringAt};
 
-use crate::adjacencies::Adjacency;
+use crate::adjacencies::Peering;
 use crate::compared::Compared;
-use crate::feasible::{FeasibleRoute, feasible_at};
-use crate::inputs::{RoutingInputs, adjacency_of};
+use crate::feasible::{FeasibleRoute, feasible_over};
+use crate::inputs::{RoutingInputs, peering_of};
 use crate::rows::best_of;
 use nc_select::{Candidate, is_equal_to, preference_cmp};
 use nc_sessions::Link;
@@ -79,56 +80,57 @@ fn is_beaten(process: &Process, best: &Chosen, feasible: &FeasibleRoute<'_>) -> 
     !is_equal_to(process.relax, &best, &feasible)
 }
 
-// Whether what the peer of a session has chosen of a prefix tells at once that nothing is learnt of
-// it, or what the best candidate beats.
-fn cannot_win(
+// Whether what a router learns now of a prefix over a session, if anything, is beaten by the best
+// that stands. No map runs where what the peer has chosen tells it at once.
+fn cannot_win<'a>(
+    inputs: &RoutingInputs<'a>,
+    ribs: &'a LocRibs,
+    router: RouterId,
+    peering: &'a Peering<'a>,
+    process: &Process,
+    best: &Chosen,
+    of: &Numbered,
+) -> bool
+    requires inputs { AreRoutingInputs inputs.now }
+    requires ribs { length ribs.now.rows ≡ length inputs.now.network.now }
+    requires number { IsNumbered ribs.now.prefixes of.now }
+    requires peering { IsPeering inputs.now.network.now inputs.now.base.now
+        inputs.now.sessions.now router.0 peering.now }
+    ensures { result ≡ option_map_or (is_beaten (process_view process.now) best.now)
+        (entry_at inputs.now.network.now inputs.now.base.now inputs.now.sessions.now
+        ribs.now.rows router.0 peering.now.place of.now.prefix) true }
+{
+    let link = &peering.adjacency.link;
+    let Some(sent) = best_of(ribs, link.session.peer, *of) else {
+        return true;
+    };
+    if is_outranked(best, link, sent) {
+        return true;
+    }
+    match feasible_over(inputs, router, peering, sent) {
+        None => true,
+        Some(feasible) => is_beaten(process, best, &feasible),
+    }
+}
+
+// Whether what a router learns now of a prefix by the neighbor statement at a place, whose session
+// this is, leaves what stands chosen as it is: something stands chosen, nothing of it comes from the
+// neighbor, and the neighbor's message isn't accepted, or the best that stands beats what is learnt
+// from it.
+fn leaves_best_path(
     inputs: &RoutingInputs<'_>,
     ribs: &LocRibs,
     router: RouterId,
     place: u32,
-    adjacency: &Option<Adjacency<'_>>,
-    best: &Chosen,
-    of: Numbered,
-) -> bool
-    requires ribs { length ribs.now.rows ≡ length inputs.now.network.now }
-    requires number { IsNumbered ribs.now.prefixes of }
-    requires adjacency { option_map (λ h. link_view h.link) adjacency.now
-        ≡ link_at inputs.now.network.now inputs.now.sessions.now router.0 place }
-    requires between { IfSome adjacency.now
-        (λ h. IsBetween inputs.now.network.now router.0 (link_view h.link)) }
-    ensures { result ≡ true → (p : ProcessView) → option_map_or (is_beaten p best.now)
-        (entry_at inputs.now.network.now inputs.now.base.now inputs.now.sessions.now ribs.now.rows router.0
-        place of.prefix) true ≡ true }
-{
-    let Some(adjacency) = adjacency else {
-        return true;
-    };
-    match best_of(ribs, adjacency.link.session.peer, of) {
-        None => true,
-        Some(sent) => is_outranked(best, &adjacency.link, sent),
-    }
-}
-
-// Whether what a router learns now of a prefix by the neighbor statement at a place, of whose
-// session these are the ends, leaves what stands chosen as it is: something stands chosen, nothing
-// of it comes from the neighbor, and the neighbor's message isn't accepted, or the best that stands
-// beats what is learnt from it.
-fn leaves_best_path<'a>(
-    inputs: &RoutingInputs<'a>,
-    ribs: &'a LocRibs,
-    router: RouterId,
-    place: u32,
-    adjacency: &Option<Adjacency<'_>>,
+    peering: &Option<Peering<'_>>,
     of: &Numbered,
 ) -> bool
     requires inputs { AreRoutingInputs inputs.now }
     requires ribs { length ribs.now.rows ≡ length inputs.now.network.now }
     requires router { router.0 < length inputs.now.network.now }
     requires number { IsNumbered ribs.now.prefixes of.now }
-    requires adjacency { option_map (λ h. link_view h.link) adjacency.now
-        ≡ link_at inputs.now.network.now inputs.now.sessions.now router.0 place }
-    requires between { IfSome adjacency.now
-        (λ h. IsBetween inputs.now.network.now router.0 (link_view h.link)) }
+    requires peering { IsPeeringAt inputs.now.network.now inputs.now.base.now
+        inputs.now.sessions.now router.0 place peering.now }
     ensures { result ≡ leaves_best_path inputs.now.network.now inputs.now.base.now inputs.now.sessions.now
         ribs.now.rows router.0 place of.now.prefix }
 {
@@ -142,13 +144,10 @@ fn leaves_best_path<'a>(
     let Some(process) = &inputs.network.routers()[router.0 as usize].process else {
         return false;
     };
-    if cannot_win(inputs, ribs, router, place, adjacency, best, *of) {
+    let Some(peering) = peering else {
         return true;
-    }
-    match feasible_at(inputs, ribs, router, place, *of) {
-        None => true,
-        Some(feasible) => is_beaten(process, best, &feasible),
-    }
+    };
+    cannot_win(inputs, ribs, router, peering, process, best, of)
 }
 
 /// Adds those of some prefixes of which what a router learns now, by the neighbor statement at a
@@ -178,9 +177,9 @@ pub fn add_counting<'a>(
     if changed.is_empty() {
         return Ok(());
     }
-    let adjacency = adjacency_of(inputs, router, place);
+    let peering = peering_of(inputs, router, place);
     'changed: for of in changed {
-        if !leaves_best_path(inputs, ribs, router, place, &adjacency, of) {
+        if !leaves_best_path(inputs, ribs, router, place, &peering, of) {
             prefixes.push(of.prefix)?;
         }
     }

@@ -11,9 +11,11 @@ ghost use Rattle.nc_tables.specs.Rounds.{begun, candidates_at, entry_at, has_lon
 ghost use Rattle.nc_tables.specs.Sessions.{process_of};
 ghost use Rattle.nc_message.specs.Beginning.{has_base_row, networks_of, aggregates_of};
 ghost use Rattle.nc_message.specs.Inputs.{AreRoutingInputs, IsOf};
+ghost use Rattle.nc_message.specs.Peerings.{ArePeerings};
 
-use crate::feasible::{FeasibleRoute, feasible_at};
+use crate::feasible::{FeasibleRoute, feasible_by};
 use crate::inputs::RoutingInputs;
+use crate::peerings::Peerings;
 use crate::rows::has_row;
 use nc_tables::{BgpFrom, LocRibs, Numbered};
 use nc_types::{Neighbor, Prefix, Process, RouterId};
@@ -125,25 +127,52 @@ fn add_aggregate(
     Ok(())
 }
 
+// What a router learns of a prefix by the neighbor statement at a place.
+fn learnt_at<'a>(
+    inputs: &RoutingInputs<'a>,
+    peerings: &'a Peerings<'a>,
+    ribs: &'a LocRibs,
+    router: RouterId,
+    place: usize,
+    of: &Numbered,
+) -> Option<FeasibleRoute<'a>>
+    requires inputs { AreRoutingInputs inputs.now }
+    requires peerings { ArePeerings inputs.now.network.now inputs.now.base.now
+        inputs.now.sessions.now router.0 peerings.now }
+    requires ribs { length ribs.now.rows ≡ length inputs.now.network.now }
+    requires place { place < length peerings.now }
+    requires number { IsNumbered ribs.now.prefixes of.now }
+    ensures feasible { result ≡ entry_at inputs.now.network.now inputs.now.base.now
+        inputs.now.sessions.now ribs.now.rows router.0 place of.now.prefix }
+    ensures own { IfSome result (IsOf of.now.prefix) }
+{
+    let peering = peerings.at(place)?;
+    feasible_by(inputs, ribs, router, peering, of)
+}
+
 // Adds what a router learns of a prefix by the neighbor statement at a place.
 fn add_entry<'a>(
     candidates: &mut Vec<FeasibleRoute<'a>>,
     inputs: &RoutingInputs<'a>,
+    peerings: &'a Peerings<'a>,
     ribs: &'a LocRibs,
     router: RouterId,
-    place: u32,
-    of: Numbered,
+    place: usize,
+    of: &Numbered,
 ) -> Result<(), AllocError>
     requires inputs { AreRoutingInputs inputs.now }
+    requires peerings { ArePeerings inputs.now.network.now inputs.now.base.now
+        inputs.now.sessions.now router.0 peerings.now }
     requires ribs { length ribs.now.rows ≡ length inputs.now.network.now }
-    requires number { IsNumbered ribs.now.prefixes of }
+    requires place { place < length peerings.now }
+    requires number { IsNumbered ribs.now.prefixes of.now }
     ensures made { OnOk result (candidates.new.items ≡ candidates.old.items
         ++ option_to_list (entry_at inputs.now.network.now inputs.now.base.now
-        inputs.now.sessions.now ribs.now.rows router.0 place of.prefix)) }
-    ensures own { All (IsOf of.prefix) candidates.old.items
-        → OnOk result (All (IsOf of.prefix) candidates.new.items) }
+        inputs.now.sessions.now ribs.now.rows router.0 place of.now.prefix)) }
+    ensures own { All (IsOf of.now.prefix) candidates.old.items
+        → OnOk result (All (IsOf of.now.prefix) candidates.new.items) }
 {
-    match feasible_at(inputs, ribs, router, place, of) {
+    match learnt_at(inputs, peerings, ribs, router, place, of) {
         Some(feasible) => {
             candidates.push(feasible)?;
             Ok(())
@@ -156,12 +185,16 @@ fn add_entry<'a>(
 fn add_entries<'a>(
     candidates: &mut Vec<FeasibleRoute<'a>>,
     inputs: &RoutingInputs<'a>,
+    peerings: &'a Peerings<'a>,
     ribs: &'a LocRibs,
     router: RouterId,
     neighbors: &[Neighbor],
     of: &Numbered,
 ) -> Result<(), AllocError>
     requires inputs { AreRoutingInputs inputs.now }
+    requires peerings { ArePeerings inputs.now.network.now inputs.now.base.now
+        inputs.now.sessions.now router.0 peerings.now }
+    requires all { length peerings.now ≡ length neighbors.now }
     requires ribs { length ribs.now.rows ≡ length inputs.now.network.now }
     requires number { IsNumbered ribs.now.prefixes of.now }
     requires few { length neighbors.now < 2 ^ 32 }
@@ -172,7 +205,7 @@ fn add_entries<'a>(
         → OnOk result (All (IsOf of.now.prefix) candidates.new.items) }
 {
     'neighbors: for place in 0..neighbors.len() {
-        add_entry(candidates, inputs, ribs, router, place as u32, *of)?;
+        add_entry(candidates, inputs, peerings, ribs, router, place, of)?;
     }
     Ok(())
 }
@@ -210,12 +243,15 @@ pub(crate) fn begun_routes<'a>(
 pub(crate) fn candidates<'a>(
     alloc: Global,
     inputs: &RoutingInputs<'a>,
+    peerings: &'a Peerings<'a>,
     ribs: &'a LocRibs,
     router: RouterId,
     process: &Process,
     of: &Numbered,
 ) -> Result<Vec<FeasibleRoute<'a>>, AllocError>
     requires inputs { AreRoutingInputs inputs.now }
+    requires peerings { ArePeerings inputs.now.network.now inputs.now.base.now
+        inputs.now.sessions.now router.0 peerings.now }
     requires ribs { length ribs.now.rows ≡ length inputs.now.network.now }
     requires number { IsNumbered ribs.now.prefixes of.now }
     requires router { router.0 < length inputs.now.network.now }
@@ -233,6 +269,6 @@ pub(crate) fn candidates<'a>(
     let mut feasible = Vec::with_capacity(alloc, neighbors.len())?;
     add_network(&mut feasible, inputs, router, process, of.prefix)?;
     add_aggregate(&mut feasible, inputs, ribs, router, process, of.prefix)?;
-    add_entries(&mut feasible, inputs, ribs, router, neighbors, of)?;
+    add_entries(&mut feasible, inputs, peerings, ribs, router, neighbors, of)?;
     Ok(feasible)
 }

@@ -9,11 +9,13 @@ ghost use Rattle.nc_tables.specs.LocRibs.{IsNumbered};
 ghost use Rattle.nc_tables.specs.Rounds.{candidates_at, chosen_anew, chosen_by};
 ghost use Rattle.nc_tables.specs.Sessions.{process_of};
 ghost use Rattle.nc_message.specs.Inputs.{AreRoutingInputs};
+ghost use Rattle.nc_message.specs.Peerings.{ArePeerings};
 
 use crate::best_learnt::{best_learnt, best_of_all};
 use crate::candidates::{begun_routes, candidates};
 use crate::feasible::FeasibleRoute;
 use crate::inputs::RoutingInputs;
+use crate::peerings::Peerings;
 use nc_select::choose;
 use nc_tables::{Chosen, LocRibs, Numbered};
 use nc_types::{Process, RouterId};
@@ -54,12 +56,15 @@ fn alone(alloc: Global, best: Option<FeasibleRoute<'_>>) -> Result<Vec<Chosen>, 
 fn best_alone<'a>(
     alloc: Global,
     inputs: &RoutingInputs<'a>,
+    peerings: &'a Peerings<'a>,
     ribs: &'a LocRibs,
     router: RouterId,
     process: &Process,
     of: &Numbered,
 ) -> Result<Vec<Chosen>, AllocError>
     requires inputs { AreRoutingInputs inputs.now }
+    requires peerings { ArePeerings inputs.now.network.now inputs.now.base.now
+        inputs.now.sessions.now router.0 peerings.now }
     requires ribs { length ribs.now.rows ≡ length inputs.now.network.now }
     requires number { IsNumbered ribs.now.prefixes of.now }
     requires router { router.0 < length inputs.now.network.now }
@@ -76,7 +81,8 @@ fn best_alone<'a>(
     ensures few { IfOk result (λ chosen. length chosen.items ≤ MULTIPATH_LIMIT) }
 {
     let begun = begun_routes(alloc, inputs, ribs, router, process, of.prefix)?;
-    let learnt = best_learnt(inputs, ribs, router, &process.neighbors, of);
+    let neighbors = &process.neighbors;
+    let learnt = best_learnt(inputs, peerings, ribs, router, neighbors, of);
     let chosen = alone(alloc, best_of_all(begun, learnt))?;
     Ok(chosen)
 }
@@ -85,12 +91,15 @@ fn best_alone<'a>(
 fn chosen_by(
     alloc: Global,
     inputs: &RoutingInputs<'_>,
+    peerings: &Peerings<'_>,
     ribs: &LocRibs,
     router: RouterId,
     process: &Process,
     of: &Numbered,
 ) -> Result<Vec<Chosen>, AllocError>
     requires inputs { AreRoutingInputs inputs.now }
+    requires peerings { ArePeerings inputs.now.network.now inputs.now.base.now
+        inputs.now.sessions.now router.0 peerings.now }
     requires ribs { length ribs.now.rows ≡ length inputs.now.network.now }
     requires number { IsNumbered ribs.now.prefixes of.now }
     requires router { router.0 < length inputs.now.network.now }
@@ -106,10 +115,10 @@ fn chosen_by(
     ensures few { IfOk result (λ chosen. length chosen.items ≤ MULTIPATH_LIMIT) }
 {
     if process.max_paths == 1 {
-        let chosen = best_alone(alloc, inputs, ribs, router, process, of)?;
+        let chosen = best_alone(alloc, inputs, peerings, ribs, router, process, of)?;
         return Ok(chosen);
     }
-    let feasible = candidates(alloc, inputs, ribs, router, process, of)?;
+    let feasible = candidates(alloc, inputs, peerings, ribs, router, process, of)?;
     let places = choose(alloc, &feasible, process.max_paths, process.relax)?;
     let chosen = made_at(alloc, &feasible, &places)?;
     Ok(chosen)
@@ -117,7 +126,8 @@ fn chosen_by(
 
 /// What a router chooses of a prefix, best first, given what is chosen now: of its networks that
 /// have a row in its base ribs, of its aggregates that are active, and of what it learns from its
-/// neighbors. Each table has a list for each router of the network, which has the router.
+/// neighbors. Each table has a list for each router of the network, which has the router, and the
+/// sessions are those of the router.
 ///
 /// # Errors
 ///
@@ -125,11 +135,14 @@ fn chosen_by(
 pub fn chosen_anew(
     alloc: Global,
     inputs: &RoutingInputs<'_>,
+    peerings: &Peerings<'_>,
     ribs: &LocRibs,
     router: RouterId,
     of: &Numbered,
 ) -> Result<Vec<Chosen>, AllocError>
     requires inputs { AreRoutingInputs inputs.now }
+    requires peerings { ArePeerings inputs.now.network.now inputs.now.base.now
+        inputs.now.sessions.now router.0 peerings.now }
     requires ribs { length ribs.now.rows ≡ length inputs.now.network.now }
     requires number { IsNumbered ribs.now.prefixes of.now }
     requires router { router.0 < length inputs.now.network.now }
@@ -143,6 +156,6 @@ pub fn chosen_anew(
     let Some(process) = &inputs.network.routers()[router.0 as usize].process else {
         return Ok(Vec::new(alloc));
     };
-    let chosen = chosen_by(alloc, inputs, ribs, router, process, of)?;
+    let chosen = chosen_by(alloc, inputs, peerings, ribs, router, process, of)?;
     Ok(chosen)
 }

@@ -8,13 +8,14 @@ ghost use Rattle.std.specs.Option.{option_and_then, option_map};
 ghost use Rattle.nc_tables.specs.Rounds.{accepted_of, begun, entry_at, learnt_from, message_of};
 ghost use Rattle.nc_sessions.specs.Views.{link_view};
 ghost use Rattle.nc_message.specs.Peerings.{IsPeering};
-ghost use Rattle.nc_message.specs.Inputs.{AreRoutingInputs};
-ghost use Rattle.nc_message.specs.Views.{accepted_view, HasId, IsAccepted};
+ghost use Rattle.nc_message.specs.Inputs.{AreRoutingInputs, IsOf};
+ghost use Rattle.nc_message.specs.Views.{accepted_view, advertised, learnt_as, HasId, IsAccepted};
 
-use crate::accepting::{AcceptedRoute, accepted_over};
+use crate::accepting::{LearntRoute, holds_receiver, passed_into};
 use crate::adjacencies::Peering;
-use crate::inputs::{RoutingInputs, adjacency_of};
+use crate::inputs::RoutingInputs;
 use crate::learnt::{Walk, learnt_from, length_of, metric_of, origin_of, preference_of, sender_id};
+use crate::messages::{AdvertisedRoute, sent_out};
 use crate::rows::best_of;
 use nc_select::Candidate;
 use nc_tables::{BgpFrom, Chosen, LocRibs, Numbered, Path, Route};
@@ -28,7 +29,7 @@ enum Way<'a> {
     // The router begins the prefix, by a network or an aggregate.
     Begun(Prefix, BgpFrom),
     // It was accepted over the neighbor statement at a place.
-    Learnt(u32, AcceptedRoute<'a>),
+    Learnt(u32, LearntRoute<'a>),
 }
 
 /// A candidate of a prefix: a network or an aggregate of the router, or what was accepted over a
@@ -82,10 +83,10 @@ impl<'a> FeasibleRoute<'a> {
     }
 
     /// The candidate that is learnt by what was accepted over the neighbor statement at a place.
-    pub(crate) fn learnt(place: u32, taken: AcceptedRoute<'a>) -> FeasibleRoute<'a>
-        requires taken { IsAccepted taken }
-        requires sender { HasId taken.sent }
-        ensures { result ≡ learnt_from place (accepted_view taken.entry) }
+    pub(crate) fn learnt(place: u32, taken: LearntRoute<'a>) -> FeasibleRoute<'a>
+        requires taken { IsAccepted (learnt_as taken) }
+        requires sender { HasId (advertised taken.sent) }
+        ensures { result ≡ learnt_from place (accepted_view (learnt_as taken.entry)) }
     {
         FeasibleRoute {
             way: Way::Learnt(place, taken),
@@ -186,7 +187,10 @@ impl<'a> Candidate for FeasibleRoute<'a> {
     fn sender(&self) -> Addr {
         match &self.way {
             Way::Begun(_, _) => Addr(0),
-            Way::Learnt(_, taken) => taken.sent.link.receiver.statement.addr,
+            Way::Learnt(_, taken) => {
+                let link = taken.sent.link;
+                link.receiver.statement.addr
+            }
         }
     }
 
@@ -200,7 +204,7 @@ impl<'a> Candidate for FeasibleRoute<'a> {
 pub(crate) fn feasible_over<'a>(
     inputs: &RoutingInputs<'a>,
     router: RouterId,
-    peering: &Peering<'a>,
+    peering: &'a Peering<'a>,
     best: &'a Chosen,
 ) -> Option<FeasibleRoute<'a>>
     requires inputs { AreRoutingInputs inputs.now }
@@ -211,29 +215,41 @@ pub(crate) fn feasible_over<'a>(
         (message_of (link_view peering.now.adjacency.link) best.entry.now)) }
     ensures own { IfSome result (λ x. x.route.prefix ≡ best.entry.now.route.prefix) }
 {
-    let taken = accepted_over(inputs, router, peering.adjacency, best)?;
-    Some(FeasibleRoute::learnt(peering.place, taken))
+    let adjacency = &peering.adjacency;
+    let link = &adjacency.link;
+    if holds_receiver(link, best) {
+        return None;
+    }
+    let out = sent_out(inputs, link, best)?;
+    let sent = AdvertisedRoute {
+        link,
+        sender: adjacency.sender,
+        best,
+        out,
+    };
+    let into = passed_into(inputs, router, &sent)?;
+    Some(FeasibleRoute::learnt(peering.place, LearntRoute { sent, into }))
 }
 
-/// The candidate of a prefix that a router learns by the neighbor statement at a place, given what is
-/// chosen now by each router; `None` where nothing is accepted, as [`crate::accepted_at`] tells it.
-/// Takes no memory.
-pub(crate) fn feasible_at<'a>(
+/// The candidate of a prefix that a router learns over a session, given what is chosen now by each
+/// router; `None` where nothing is accepted, as [`crate::accepted_at`] tells it. Takes no memory.
+pub(crate) fn feasible_by<'a>(
     inputs: &RoutingInputs<'a>,
     ribs: &'a LocRibs,
     router: RouterId,
-    place: u32,
-    of: Numbered,
+    peering: &'a Peering<'a>,
+    of: &Numbered,
 ) -> Option<FeasibleRoute<'a>>
     requires inputs { AreRoutingInputs inputs.now }
     requires ribs { length ribs.now.rows ≡ length inputs.now.network.now }
-    requires number { IsNumbered ribs.now.prefixes of }
+    requires number { IsNumbered ribs.now.prefixes of.now }
+    requires peering { IsPeering inputs.now.network.now inputs.now.base.now
+        inputs.now.sessions.now router.0 peering.now }
     ensures feasible { result ≡ entry_at inputs.now.network.now inputs.now.base.now
-        inputs.now.sessions.now ribs.now.rows router.0 place of.prefix }
-    ensures own { IfSome result (λ x. x.route.prefix ≡ of.prefix) }
+        inputs.now.sessions.now ribs.now.rows router.0 peering.now.place of.now.prefix }
+    ensures own { IfSome result (IsOf of.now.prefix) }
 {
-    let adjacency = adjacency_of(inputs, router, place)?;
-    let best = best_of(ribs, adjacency.link.session.peer, of)?;
-    let taken = accepted_over(inputs, router, adjacency, best)?;
-    Some(FeasibleRoute::learnt(place, taken))
+    let best = best_of(ribs, peering.adjacency.link.session.peer, *of)?;
+    let feasible = feasible_over(inputs, router, peering, best)?;
+    Some(feasible)
 }

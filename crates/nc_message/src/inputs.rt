@@ -1,10 +1,10 @@
-ghost use Rattle.std.specs.Prelude.{◌≡◌, IfNone, IfSome, None};
+ghost use Rattle.std.specs.Prelude.{◌≡◌, IfSome};
 ghost use Rattle.std.specs.Option.{option_map};
 ghost use Rattle.nc_tables.specs.Rounds.{link_at};
 ghost use Rattle.nc_sessions.specs.Views.{link_view};
 ghost use Rattle.nc_message.specs.Inputs.{AreRoutingInputs, IsBetween};
 ghost use Rattle.nc_message.specs.Adjacencies.{IsAdjacency, IsSenderAt};
-ghost use Rattle.nc_message.specs.Peerings.{IsPeering};
+ghost use Rattle.nc_message.specs.Peerings.{IsPeeringAt};
 
 use crate::adjacencies::{Adjacencies, Adjacency, Peering, Sender};
 use nc_policy::Policies;
@@ -63,11 +63,8 @@ pub(crate) fn peering_of<'a>(
     place: u32,
 ) -> Option<Peering<'a>>
     requires { AreRoutingInputs inputs.now }
-    ensures peering { IfSome result (IsPeering inputs.now.network.now inputs.now.base.now
-        inputs.now.sessions.now router.0) }
-    ensures place { IfSome result (λ p. p.place ≡ place) }
-    ensures none { IfNone result
-        (None ≡ link_at inputs.now.network.now inputs.now.sessions.now router.0 place) }
+    ensures { IsPeeringAt inputs.now.network.now inputs.now.base.now inputs.now.sessions.now
+        router.0 place result }
 {
     let adjacency = adjacency_of(inputs, router, place)?;
     Some(Peering { place, adjacency })

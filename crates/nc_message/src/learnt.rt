@@ -1,17 +1,19 @@
 //! What is learnt by what was accepted: field by field without memory, or made in memory.
 
-ghost use Rattle.std.specs.Prelude.{◌≡◌, ◌≤◌, ◌+◌, ◌++◌, [], None, Some, drop, if◌then◌else◌, length, slice_get, IfOk};
+ghost use Rattle.std.specs.Prelude.{◌≡◌, ◌≤◌, ◌+◌, ◌++◌, [], None, Some, true, drop, if◌then◌else◌, length, slice_get, IfOk};
 ghost use Rattle.nc_tables.specs.Rounds.{learnt_from};
 ghost use Rattle.nc_tables.specs.Sessions.{router_id};
 ghost use Rattle.nc_sessions.specs.Views.{link_view};
 ghost use Rattle.nc_types.specs.declared.TheConstants.{PATH_LIMIT};
-ghost use Rattle.nc_message.specs.Views.{message_view, accepted_view, HasId, IsAccepted, IsAdvertised};
+ghost use Rattle.nc_message.specs.Views.{advertised, learnt_as, message_view, accepted_view};
+ghost use Rattle.nc_message.specs.Views.{HasId, IsAccepted, IsAdvertised};
 
-use crate::accepting::{AcceptedRoute, next_hop};
-use crate::messages::{Advertisement, carried, sent_length};
+use crate::accepting::{LearntRoute, hop_of};
+use crate::messages::{AdvertisedRoute, carried, sent_length};
+use nc_policy::Passing;
 use nc_sessions::router_id;
 use nc_tables::{BgpFrom, Chosen, Numbers, Path, Route};
-use nc_types::{Addr, DEFAULT_PREFERENCE, OriginCode};
+use nc_types::{Addr, Communities, DEFAULT_PREFERENCE, OriginCode};
 use std::alloc::{AllocError, Global};
 use std::marker::Model;
 
@@ -29,24 +31,25 @@ fn behind_all(alloc: Global, path: Path, numbers: &[u32]) -> Result<Path, AllocE
 
 // The path of a route as it is sent: toward another system the sender's own number, what its map
 // prepends, and the path of the candidate, whose numbers are shared.
-fn sent_path(alloc: Global, sent: &Advertisement) -> Result<Path, AllocError>
-    requires feasible { IsAdvertised sent.now }
-    requires short { length (message_view sent.now).route.path ≤ PATH_LIMIT }
-    ensures { IfOk result (λ path. path ≡ (message_view sent.now).route.path) }
+fn sent_path(alloc: Global, sent: &AdvertisedRoute) -> Result<Path, AllocError>
+    requires feasible { IsAdvertised (advertised sent.now) }
+    requires short { length (message_view (advertised sent.now)).route.path ≤ PATH_LIMIT }
+    ensures { IfOk result (λ path. path ≡ (message_view (advertised sent.now)).route.path) }
 {
     let own = sent.best.route.path.share()?;
     let path = behind_all(alloc, own, sent.out.prepended())?;
-    if sent.link.session.internal {
+    let link = sent.link;
+    if link.session.internal {
         return Ok(path);
     }
-    let path = path.behind(alloc, sent.link.sender.process.asn)?;
+    let path = path.behind(alloc, link.sender.process.asn)?;
     Ok(path)
 }
 
 // The path of a route as it is accepted: what the receiver's map prepends, and the path as it is sent.
-fn path_of(alloc: Global, taken: &AcceptedRoute) -> Result<Path, AllocError>
-    requires { IsAccepted taken.now }
-    ensures { IfOk result (λ path. path ≡ (accepted_view taken.now).into.route.path) }
+fn path_of(alloc: Global, taken: &LearntRoute) -> Result<Path, AllocError>
+    requires { IsAccepted (learnt_as taken.now) }
+    ensures { IfOk result (λ path. path ≡ (accepted_view (learnt_as taken.now)).into.route.path) }
 {
     let path = sent_path(alloc, &taken.sent)?;
     let path = behind_all(alloc, path, taken.into.prepended())?;
@@ -54,8 +57,8 @@ fn path_of(alloc: Global, taken: &AcceptedRoute) -> Result<Path, AllocError>
 }
 
 /// The local preference of a route as it is accepted: toward another system it begins anew.
-pub(crate) fn preference_of(taken: &AcceptedRoute) -> u32
-    ensures { result ≡ (accepted_view taken.now).into.route.preference }
+pub(crate) fn preference_of(taken: &LearntRoute) -> u32
+    ensures { result ≡ (accepted_view (learnt_as taken.now)).into.route.preference }
 {
     let sent = &taken.sent;
     if sent.link.session.internal {
@@ -68,8 +71,8 @@ pub(crate) fn preference_of(taken: &AcceptedRoute) -> u32
 }
 
 /// The metric of a route as it is accepted: toward another system it begins anew.
-pub(crate) fn metric_of(taken: &AcceptedRoute) -> u32
-    ensures { result ≡ (accepted_view taken.now).into.route.metric }
+pub(crate) fn metric_of(taken: &LearntRoute) -> u32
+    ensures { result ≡ (accepted_view (learnt_as taken.now)).into.route.metric }
 {
     let sent = &taken.sent;
     let before = if sent.link.session.internal {
@@ -81,43 +84,73 @@ pub(crate) fn metric_of(taken: &AcceptedRoute) -> u32
 }
 
 /// The origin of a route as it is accepted.
-pub(crate) fn origin_of(taken: &AcceptedRoute) -> OriginCode
-    ensures { result ≡ (accepted_view taken.now).into.route.origin }
+pub(crate) fn origin_of(taken: &LearntRoute) -> OriginCode
+    ensures { result ≡ (accepted_view (learnt_as taken.now)).into.route.origin }
 {
     let sent = &taken.sent;
     taken.into.origin(sent.out.origin(sent.best.route.origin))
 }
 
 /// The router id of the sender of a message, which may be known.
-pub(crate) fn sender_id(sent: &Advertisement) -> Addr
-    requires { HasId sent.now }
-    ensures { result.0 ≡ router_id (link_view sent.now.link).sender.config }
+pub(crate) fn sender_id(sent: &AdvertisedRoute) -> Addr
+    requires { HasId (advertised sent.now) }
+    ensures { result.0 ≡ router_id (link_view sent.now.link.now).sender.config }
 {
+    let link = sent.link;
     match sent.sender {
         Some(sender) => sender.id,
-        None => router_id(sent.link.sender.config),
+        None => router_id(link.sender.config),
     }
+}
+
+// Whether nothing gives a route communities on its way: the sender's statement doesn't carry them, and
+// the receiver has no map.
+fn is_bare(taken: &LearntRoute) -> bool
+    ensures { result ≡ true → (accepted_view (learnt_as taken.now)).into.route.communities ≡ [] }
+{
+    let link = taken.sent.link;
+    if link.sender.statement.send_community {
+        return false;
+    }
+    match taken.into {
+        Passing::Unchanged => true,
+        Passing::By(_) => false,
+    }
+}
+
+// The communities of a route as it is accepted. Mostly there are none.
+fn communities_of(alloc: Global, taken: &LearntRoute) -> Result<Communities, AllocError>
+    requires { IsAccepted (learnt_as taken.now) }
+    ensures { IfOk result
+        (λ left. left ≡ (accepted_view (learnt_as taken.now)).into.route.communities) }
+{
+    if is_bare(taken) {
+        return Ok(Communities::new(alloc));
+    }
+    let held = carried(&taken.sent);
+    let left = taken.into.communities_left(alloc, &held)?;
+    Ok(left)
 }
 
 /// The candidate that is learnt by what was accepted over the neighbor statement at a place.
 pub(crate) fn learnt_from(
     alloc: Global,
     place: u32,
-    taken: &AcceptedRoute,
+    taken: &LearntRoute,
 ) -> Result<Chosen, AllocError>
-    requires taken { IsAccepted taken.now }
-    requires sender { HasId taken.now.sent }
-    ensures { IfOk result (λ learnt. learnt ≡ learnt_from place (accepted_view taken.now)) }
+    requires taken { IsAccepted (learnt_as taken.now) }
+    requires sender { HasId (advertised taken.now.sent) }
+    ensures { IfOk result (λ learnt. learnt ≡ learnt_from place (accepted_view (learnt_as taken.now))) }
 {
-    let link = &taken.sent.link;
+    let link = taken.sent.link;
     let route = Route {
         prefix: taken.sent.best.route.prefix,
         path: path_of(alloc, taken)?,
-        next_hop: next_hop(&taken.sent),
+        next_hop: hop_of(&taken.sent),
         preference: preference_of(taken),
         metric: metric_of(taken),
         origin: origin_of(taken),
-        communities: taken.into.communities_left(alloc, &carried(&taken.sent))?,
+        communities: communities_of(alloc, taken)?,
     };
     Ok(Chosen {
         route,
@@ -129,9 +162,9 @@ pub(crate) fn learnt_from(
 }
 
 /// How many numbers the path has of a route as it is accepted.
-pub(crate) fn length_of(taken: &AcceptedRoute) -> usize
-    requires { IsAccepted taken.now }
-    ensures { result ≡ length (accepted_view taken.now).into.route.path }
+pub(crate) fn length_of(taken: &LearntRoute) -> usize
+    requires { IsAccepted (learnt_as taken.now) }
+    ensures { result ≡ length (accepted_view (learnt_as taken.now)).into.route.path }
 {
     let sent = &taken.sent;
     let before = taken.into.prepended();
@@ -139,14 +172,15 @@ pub(crate) fn length_of(taken: &AcceptedRoute) -> usize
 }
 
 // The number that the sender puts before the path: toward another system its own.
-fn outer_number(sent: &Advertisement) -> Option<u32>
-    ensures { result ≡ (if sent.now.link.session.internal then None
-        else Some (link_view sent.now.link).sender.process.asn) }
+fn outer_number(sent: &AdvertisedRoute) -> Option<u32>
+    ensures { result ≡ (if sent.now.link.now.session.internal then None
+        else Some (link_view sent.now.link.now).sender.process.asn) }
 {
-    if sent.link.session.internal {
+    let link = sent.link;
+    if link.session.internal {
         None
     } else {
-        Some(sent.link.sender.process.asn)
+        Some(link.sender.process.asn)
     }
 }
 
@@ -209,8 +243,8 @@ impl<'a> Walk<'a> {
     }
 
     /// Along the path of a route as it is accepted.
-    pub(crate) fn along(taken: &AcceptedRoute<'a>) -> Walk<'a>
-        ensures { result ≡ (accepted_view taken.now).into.route.path }
+    pub(crate) fn along(taken: &LearntRoute<'a>) -> Walk<'a>
+        ensures { result ≡ (accepted_view (learnt_as taken.now)).into.route.path }
     {
         let sent = &taken.sent;
         Walk {

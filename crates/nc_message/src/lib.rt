@@ -5,7 +5,8 @@
 //! without memory by [`message_at`] and [`accepted_at`], as the clauses and entries that decided;
 //! [`chosen_anew`] chooses among what is accepted so, with the router's own networks and active
 //! aggregates, and makes in memory what is chosen alone; where a process uses one route alone none
-//! is kept but the best so far, and no map runs for what that outranks. [`add_counting`] tells by a look at the
+//! is kept but the best so far, and no map runs for what that outranks, nor for a path that
+//! holds the router's own system. The sessions are found once, as [`NetworkPeerings`]. [`add_counting`] tells by a look at the
 //! best path that stands which messages of a neighbor can't change it. The crate stands on
 //! `nc_types` for the network, on `nc_tables` for the tables and the definitions, on `nc_sessions` for the ends of a session, on
 //! `nc_policy` and `nc_community` for maps and communities, on `nc_underlay` for where base tables
@@ -24,6 +25,7 @@ mod feasible;
 mod inputs;
 mod learnt;
 mod messages;
+mod peerings;
 mod rows;
 
 pub use accepting::{AcceptedRoute, accepted_at, accepted_over, next_hop};
@@ -32,3 +34,4 @@ pub use best_path::add_counting;
 pub use choosing::chosen_anew;
 pub use inputs::{RoutingInputs, adjacency_of};
 pub use messages::{Advertisement, message_at};
+pub use peerings::{NetworkPeerings, Peerings};

@@ -9,7 +9,7 @@ ghost use Rattle.nc_policy.specs.Passing.{communities_by, prepended_by};
 ghost use Rattle.nc_sessions.specs.Views.{link_view};
 ghost use Rattle.nc_message.specs.Inputs.{AreRoutingInputs, IsBetween};
 ghost use Rattle.nc_message.specs.Peers.{best_over};
-ghost use Rattle.nc_message.specs.Views.{message_view, message_by, out_view, IsKnown, IsAdvertised};
+ghost use Rattle.nc_message.specs.Views.{advertised, message_view, message_by, out_view, IsKnown, IsAdvertised};
 
 use crate::adjacencies::{Adjacency, Sender};
 use crate::inputs::{RoutingInputs, adjacency_of};
@@ -28,6 +28,16 @@ pub struct Advertisement<'a> {
     pub sender: Option<Sender>,
     pub best: &'a Chosen,
     pub out: Passing<'a>,
+}
+
+/// The same with the ends of the session where they stand: they are most of a message, and are not
+/// copied for each.
+#[derive(Clone, Copy)]
+pub(crate) struct AdvertisedRoute<'a> {
+    pub(crate) link: &'a Link<'a>,
+    pub(crate) sender: Option<Sender>,
+    pub(crate) best: &'a Chosen,
+    pub(crate) out: Passing<'a>,
 }
 
 // The best candidate that a router has chosen of a prefix.
@@ -75,7 +85,7 @@ fn is_held_back(process: &Process, prefix: Prefix) -> bool
         && is_longer_in(prefix, aggregate.prefix))
 }
 
-// How the best candidate passes the sender's statement for the receiver.
+// How the best candidate passes the sender's statement for the receiver. Mostly there is no map.
 fn out_of<'a>(inputs: &RoutingInputs<'a>, link: &Link<'a>, best: &'a Chosen) -> Option<Passing<'a>>
     requires inputs { AreRoutingInputs inputs.now }
     requires sender { slice_get inputs.now.network.now link.now.session.peer.0
@@ -90,6 +100,9 @@ fn out_of<'a>(inputs: &RoutingInputs<'a>, link: &Link<'a>, best: &'a Chosen) -> 
     let held = Held::of(&best.route.communities);
     let count = best.route.path.len();
     let map = &link.sender.statement.map_out;
+    let Some(_reference) = map else {
+        return Some(Passing::Unchanged);
+    };
     let peer = link.session.peer;
     inputs
         .policies
@@ -109,14 +122,44 @@ pub(crate) fn sent_length(internal: bool, best: &Chosen, out: &Passing) -> usize
 
 /// The communities with which the route of a message is sent: where the sender's statement says so,
 /// those that its map left.
-pub(crate) fn carried<'a>(sent: &Advertisement<'a>) -> Held<'a>
-    requires { IsAdvertised sent.now }
-    ensures { result ≡ (message_view sent.now).route.communities }
+pub(crate) fn carried<'a>(sent: &AdvertisedRoute<'a>) -> Held<'a>
+    requires { IsAdvertised (advertised sent.now) }
+    ensures { result ≡ (message_view (advertised sent.now)).route.communities }
 {
-    if !sent.link.sender.statement.send_community {
+    let link = sent.link;
+    if !link.sender.statement.send_community {
         return Held::none();
     }
     sent.out.communities(&sent.best.route.communities)
+}
+
+/// How the sender's best candidate passes its statement, where a message is sent of it over a session.
+pub(crate) fn sent_out<'a>(
+    inputs: &RoutingInputs<'a>,
+    link: &Link<'a>,
+    best: &'a Chosen,
+) -> Option<Passing<'a>>
+    requires inputs { AreRoutingInputs inputs.now }
+    requires sender { slice_get inputs.now.network.now link.now.session.peer.0
+        ≡ Some (link_view link.now).sender.config }
+    ensures message { option_map (message_by (link_view link.now) best.now) result
+        ≡ message_of (link_view link.now) best.now }
+    ensures short { IfSome result (λ p.
+        length (message_by (link_view link.now) best.now p).route.path ≤ PATH_LIMIT) }
+    ensures few { IfSome result (λ p.
+        length (message_by (link_view link.now) best.now p).route.communities ≤ COMMUNITY_LIMIT) }
+{
+    if is_held_back(link.sender.process, best.route.prefix) {
+        return None;
+    }
+    if link.session.internal && best.internal {
+        return None;
+    }
+    let out = out_of(inputs, link, best)?;
+    if sent_length(link.session.internal, best, &out) > PATH_LIMIT {
+        return None;
+    }
+    Some(out)
 }
 
 /// The message over a session of the sender's best candidate.
@@ -136,16 +179,7 @@ pub(crate) fn message_of<'a>(
     ensures feasible { IfSome result IsAdvertised }
 {
     let Adjacency { link, sender } = adjacency;
-    if is_held_back(link.sender.process, best.route.prefix) {
-        return None;
-    }
-    if link.session.internal && best.internal {
-        return None;
-    }
-    let out = out_of(inputs, &link, best)?;
-    if sent_length(link.session.internal, best, &out) > PATH_LIMIT {
-        return None;
-    }
+    let out = sent_out(inputs, &link, best)?;
     Some(Advertisement {
         link,
         sender,

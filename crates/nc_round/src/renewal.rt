@@ -7,6 +7,7 @@ ghost use Rattle.nc_tables.specs.declared.bgp.Chosen.{Chosen};
 ghost use Rattle.nc_tables.specs.LocRibs.{IsNumbered};
 ghost use Rattle.nc_tables.specs.Rounds.{chosen_at, prefixes};
 ghost use Rattle.nc_message.specs.Inputs.{AreRoutingInputs};
+ghost use Rattle.nc_message.specs.Peerings.{AreNetworkPeerings, ArePeerings};
 ghost use Rattle.nc_round.specs.Next.{next};
 ghost use Rattle.nc_round.specs.Changes.{IsDifference};
 ghost use Rattle.nc_round.specs.Rows.{row_key, AreRows};
@@ -14,7 +15,7 @@ ghost use Rattle.nc_round.specs.Renewing.{row_change, change_at, AreEnough, IsKn
 
 use crate::changed::{Changed, ChangedRow};
 use crate::loc_rib_change::LocRibChange;
-use nc_message::{RoutingInputs, chosen_anew};
+use nc_message::{NetworkPeerings, Peerings, RoutingInputs, chosen_anew};
 use nc_tables::{Chosen, LocRibs, Numbered, same_candidate};
 use nc_types::{Prefix, RouterId};
 use std::alloc::{AllocError, Global};
@@ -39,11 +40,14 @@ fn add_of(
     alloc: Global,
     changes: &mut Vec<LocRibChange>,
     inputs: RoutingInputs<'_>,
+    peerings: &Peerings<'_>,
     ribs: &LocRibs,
     router: RouterId,
     of: &Numbered,
 ) -> Result<(), AllocError>
     requires inputs { AreRoutingInputs inputs }
+    requires peerings { ArePeerings inputs.network.now inputs.base.now inputs.sessions.now
+        router.0 peerings.now }
     requires ribs { length ribs.now.rows ≡ length inputs.network.now }
     requires number { IsNumbered ribs.now.prefixes of.now }
     requires router { router.0 < length inputs.network.now }
@@ -52,7 +56,7 @@ fn add_of(
         ++ cons_option (change_at inputs.entry ribs.now.rows (router, of.now.prefix)) []) }
     ensures changes { All (IsLocRibChange (length inputs.entry.network.now) ribs.now.prefixes) changes.new.items }
 {
-    let chosen = chosen_anew(alloc, &inputs, ribs, router, of)?;
+    let chosen = chosen_anew(alloc, &inputs, peerings, ribs, router, of)?;
     if same_chosen(&chosen, ribs.chosen(router, *of)) {
         return Ok(());
     }
@@ -69,10 +73,13 @@ fn add_row(
     alloc: Global,
     changes: &mut Vec<LocRibChange>,
     inputs: RoutingInputs<'_>,
+    peerings: &Peerings<'_>,
     ribs: &LocRibs,
     row: (RouterId, Prefix),
 ) -> Result<(), AllocError>
     requires inputs { AreRoutingInputs inputs }
+    requires peerings { ArePeerings inputs.network.now inputs.base.now inputs.sessions.now
+        row.0.0 peerings.now }
     requires ribs { length ribs.now.rows ≡ length inputs.network.now }
     requires prefixes { ribs.now.prefixes ≡ prefixes inputs.network.now }
     requires known { IsKnown inputs ribs.now.rows }
@@ -84,7 +91,7 @@ fn add_row(
 {
     let (router, prefix) = row;
     match ribs.numbered(prefix) {
-        Some(of) => add_of(alloc, changes, inputs, ribs, router, &of),
+        Some(of) => add_of(alloc, changes, inputs, peerings, ribs, router, &of),
         None => Ok(()),
     }
 }
@@ -93,10 +100,12 @@ fn add_row(
 fn changes_of(
     alloc: Global,
     inputs: RoutingInputs<'_>,
+    all: &NetworkPeerings<'_>,
     ribs: &LocRibs,
     keys: &[(RouterId, Prefix)],
 ) -> Result<Vec<LocRibChange>, AllocError>
     requires inputs { AreRoutingInputs inputs }
+    requires all { AreNetworkPeerings inputs.network.now inputs.base.now inputs.sessions.now all.now }
     requires ribs { length ribs.now.rows ≡ length inputs.network.now }
     requires prefixes { ribs.now.prefixes ≡ prefixes inputs.network.now }
     requires known { IsKnown inputs ribs.now.rows }
@@ -106,9 +115,10 @@ fn changes_of(
     ensures changes { IfOk result
         (λ changes. All (IsLocRibChange (length inputs.entry.network.now) ribs.now.prefixes) changes.items) }
 {
-    let mut changes = Vec::new(alloc);
+    let mut changes = Vec::with_capacity(alloc, keys.len())?;
     'keys: for row in keys {
-        add_row(alloc, &mut changes, inputs, ribs, *row)?;
+        let peerings = all.get(row.0);
+        add_row(alloc, &mut changes, inputs, peerings, ribs, *row)?;
     }
     Ok(changes)
 }
@@ -149,10 +159,12 @@ fn put_all(ribs: &mut LocRibs, mut changes: Vec<LocRibChange>)
 pub(crate) fn renew(
     alloc: Global,
     inputs: RoutingInputs<'_>,
+    all: &NetworkPeerings<'_>,
     mut ribs: LocRibs,
     keys: &[(RouterId, Prefix)],
 ) -> Result<(LocRibs, Changed), AllocError>
     requires inputs { AreRoutingInputs inputs }
+    requires all { AreNetworkPeerings inputs.network.now inputs.base.now inputs.sessions.now all.now }
     requires prefixes { ribs.prefixes ≡ prefixes inputs.network.now }
     requires keys { AreEnough inputs ribs.rows keys.now }
     ensures prefixes { IfOk result (λ r. r.0.prefixes ≡ ribs.prefixes) }
@@ -161,7 +173,7 @@ pub(crate) fn renew(
         (λ r. IsDifference ribs.rows r.0.rows (map row_key r.1.rows.items)) }
     ensures numbers { IfOk result (λ r. AreRows ribs.prefixes r.1.rows.items) }
 {
-    let changes = changes_of(alloc, inputs, &ribs, keys)?;
+    let changes = changes_of(alloc, inputs, all, &ribs, keys)?;
     let rows = rows_of(alloc, &changes)?;
     put_all(&mut ribs, changes);
     let _count = ribs.count();

@@ -1,6 +1,7 @@
 ghost use Rattle.std.specs.Prelude.{◌≡◌, List, IfOk, length, map};
 ghost use Rattle.nc_tables.specs.Rounds.{BgpRowView, no_routes, prefixes};
 ghost use Rattle.nc_message.specs.Inputs.{AreRoutingInputs};
+ghost use Rattle.nc_message.specs.Peerings.{AreNetworkPeerings};
 ghost use Rattle.nc_round.specs.Next.{next};
 ghost use Rattle.nc_round.specs.Keys.{Key};
 ghost use Rattle.nc_round.specs.Rows.{row_key, AreRows};
@@ -10,7 +11,7 @@ use crate::changed::Changed;
 use crate::renewal::renew;
 use crate::waking::{begun, begun_in_order, woken_in_order};
 use nc_main_rib::in_order;
-use nc_message::RoutingInputs;
+use nc_message::{NetworkPeerings, RoutingInputs};
 use nc_tables::LocRibs;
 use nc_types::{Network, Prefix, RouterId};
 use std::alloc::{AllocError, Global};
@@ -35,6 +36,27 @@ fn none_chosen(alloc: Global, network: &Network) -> Result<LocRibs, AllocError>
     Ok(ribs)
 }
 
+/// The first round, given the sessions of the routers.
+pub(crate) fn first_by(
+    alloc: Global,
+    inputs: RoutingInputs<'_>,
+    all: &NetworkPeerings<'_>,
+) -> Result<(LocRibs, Changed), AllocError>
+    requires inputs { AreRoutingInputs inputs }
+    requires all { AreNetworkPeerings inputs.network.now inputs.base.now inputs.sessions.now all.now }
+    ensures prefixes { IfOk result (λ r. r.0.prefixes ≡ prefixes inputs.entry.network.now) }
+    ensures table { IfOk result
+        (λ r. r.0.rows ≡ next inputs.entry (no_routes inputs.entry.network.now)) }
+    ensures changed { IfOk result (λ r. IsDifference (no_routes inputs.entry.network.now) r.0.rows
+        (map row_key r.1.rows.items)) }
+    ensures numbers { IfOk result (λ r. AreRows r.0.prefixes r.1.rows.items) }
+{
+    let none = none_chosen(alloc, inputs.network)?;
+    let keys = begun_in_order(alloc, inputs.network)?;
+    let made = renew(alloc, inputs, all, none, &keys)?;
+    Ok(made)
+}
+
 /// The first round, from no route anywhere: the table that it makes, and the rows that it has.
 ///
 /// # Errors
@@ -52,9 +74,36 @@ pub fn first_round(
         (map row_key r.1.rows.items)) }
     ensures numbers { IfOk result (λ r. AreRows r.0.prefixes r.1.rows.items) }
 {
-    let none = none_chosen(alloc, inputs.network)?;
-    let keys = begun_in_order(alloc, inputs.network)?;
-    let made = renew(alloc, inputs, none, &keys)?;
+    let all = NetworkPeerings::of(alloc, &inputs)?;
+    let made = first_by(alloc, inputs, &all)?;
+    Ok(made)
+}
+
+/// One more round, given the sessions of the routers.
+pub(crate) fn next_by(
+    alloc: Global,
+    inputs: RoutingInputs<'_>,
+    all: &NetworkPeerings<'_>,
+    old: LocRibs,
+    changed: Changed,
+) -> Result<(LocRibs, Changed), AllocError>
+    requires inputs { AreRoutingInputs inputs }
+    requires all { AreNetworkPeerings inputs.network.now inputs.base.now inputs.sessions.now all.now }
+    requires prefixes { old.prefixes ≡ prefixes inputs.network.now }
+    requires made { (before : List (List BgpRowView))
+        × IsRoundOf inputs.network.now inputs.base.now inputs.sessions.now before old.rows
+        (map row_key changed.rows.items) }
+    requires numbers { AreRows old.prefixes changed.rows.items }
+    ensures prefixes { IfOk result (λ r. r.0.prefixes ≡ old.prefixes) }
+    ensures table { IfOk result (λ r. r.0.rows ≡ next inputs.entry old.rows) }
+    ensures changed { IfOk result
+        (λ r. IsDifference old.rows r.0.rows (map row_key r.1.rows.items)) }
+    ensures numbers { IfOk result (λ r. AreRows old.prefixes r.1.rows.items) }
+{
+    let _count = old.count();
+    let _routers = inputs.network.routers();
+    let keys = woken_in_order(alloc, &inputs, &old, &changed.rows)?;
+    let made = renew(alloc, inputs, all, old, &keys)?;
     Ok(made)
 }
 
@@ -85,9 +134,7 @@ pub fn round_changed(
         (λ r. IsDifference old.rows r.0.rows (map row_key r.1.rows.items)) }
     ensures numbers { IfOk result (λ r. AreRows old.prefixes r.1.rows.items) }
 {
-    let _count = old.count();
-    let _routers = inputs.network.routers();
-    let keys = woken_in_order(alloc, &inputs, &old, &changed.rows)?;
-    let made = renew(alloc, inputs, old, &keys)?;
+    let all = NetworkPeerings::of(alloc, &inputs)?;
+    let made = next_by(alloc, inputs, &all, old, changed)?;
     Ok(made)
 }

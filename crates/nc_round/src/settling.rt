@@ -2,8 +2,8 @@ ghost use Rattle.std.specs.Prelude.{IfOk, MatchOption};
 ghost use Rattle.nc_tables.specs.Rounds.{IsStable, IsUnstable};
 ghost use Rattle.nc_message.specs.Inputs.{AreRoutingInputs};
 
-use crate::rounds::{first_round, round_changed};
-use nc_message::RoutingInputs;
+use crate::rounds::{first_by, next_by};
+use nc_message::{NetworkPeerings, RoutingInputs};
 use nc_tables::BgpTable;
 use std::alloc::{AllocError, Global};
 
@@ -26,12 +26,13 @@ pub fn settle_table(
     if rounds == 0 {
         return Ok(None);
     }
-    let (mut ribs, mut changed) = first_round(alloc, inputs)?;
+    let all = NetworkPeerings::of(alloc, &inputs)?;
+    let (mut ribs, mut changed) = first_by(alloc, inputs, &all)?;
     'rounds: for _more in 0..rounds - 1 {
         if changed.rows.is_empty() {
             return Ok(Some(ribs.into_table(alloc)?));
         }
-        let next = round_changed(alloc, inputs, ribs, changed)?;
+        let next = next_by(alloc, inputs, &all, ribs, changed)?;
         (ribs, changed) = next;
     }
     if changed.rows.is_empty() {

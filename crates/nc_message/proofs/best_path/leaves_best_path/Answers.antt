@@ -1,4 +1,4 @@
-use Rattle.std.proofs.Common.{◌≡◌, ℕ, Bool, true, false, not, ◌&&◌, List, [], ◌∷◌, Option, Some, None, slice_get, refl, sym, ap, ◌∙◌}
+use Rattle.std.proofs.Common.{◌≡◌, ℕ, Bool, true, false, not, ◌&&◌, List, [], ◌∷◌, Option, Some, None, slice_get, IfNone, IfSome, refl, sym, ap, subst, ◌∙◌}
 use Rattle.std.specs.List.{list_any}
 use Rattle.std.specs.Option.{option_map, option_map_or, option_and_then}
 use Rattle.nc_types.specs.Cidr.{Cidr}
@@ -7,10 +7,13 @@ use Rattle.nc_types.specs.declared.config.RouterConfig.{RouterConfig}
 use Rattle.nc_tables.specs.declared.base.BaseRow.{BaseRow}
 use Rattle.nc_tables.specs.declared.bgp.SessionRow.{SessionRow}
 use Rattle.nc_tables.specs.declared.bgp.Chosen.{Chosen}
-use Rattle.nc_tables.specs.Rounds.{BgpRowView, chosen_at, entry_at}
+use Rattle.nc_tables.specs.Rounds.{BgpRowView, chosen_at, entry_at, link_at}
 use Rattle.nc_tables.specs.Sessions.{process_of}
 use Rattle.nc_policy.proofs.Tables.{config_at}
 use Rattle.nc_message.specs.BestPath.{is_from, is_beaten, leaves_best_beside, leaves_best_path}
+use Rattle.nc_message.specs.declared.adjacencies.Peering.{Peering}
+use Rattle.nc_message.specs.Peerings.{IsPeering}
+use Rattle.nc_message.proofs.Outranked.{cannot_win_alone}
 use Rattle.nc_message.proofs.best_path.leaves_best_path.Goals as goal
 
 module _ (routers : List ConfigView) (tables : List (List BaseRow)) (sessions : List (List SessionRow)) (table : List (List BgpRowView)) (router place : ℕ) (prefix : Cidr) (cs : List Chosen) (at : cs ≡ chosen_at table router prefix) where
@@ -73,33 +76,30 @@ returns-in_default-process c =
     idle_if_alone i.network.now i.base.now i.sessions.now c.args.ribs.now.rows c.args.router.0 c.args.place c.args.of.now.prefix c.chosen-chosen.result.now c.chosen-chosen.ensures.chosen
     (ap process_in at ∙ ap (option_map process_view) (ap (λ (r : RouterConfig). r.process) c.index-routers-router.is ∙ c.in_default-process.is))
 
-pub returns-in-None : goal.returns-in-None
-returns-in-None c =
+pub returns-in_default-peering : goal.returns-in_default-peering
+returns-in_default-peering c =
     let i = c.args.inputs.now in
     let routers = i.network.now in
     let at = config_at routers c.routers.result.now c.args.router.0 c.index-routers-router.result c.routers.ensures.routers c.requires.router c.index-routers-router.is in
     let p = process_view c.in-Some-process.process in
-    ap (λ (o : Option Chosen). option_map_or (is_beaten p c.in-Some.best.now) o true) c.in-None.ensures.feasible
+    let none : None ≡ link_at routers i.sessions.now c.args.router.0 c.args.place = subst (λ (o : Option Peering). IfNone o (None ≡ link_at routers i.sessions.now c.args.router.0 c.args.place)) c.in_default-peering.is c.requires.peering.none in
+    sym (cannot_win_alone routers i.base.now i.sessions.now c.args.ribs.now.rows c.args.router.0 c.args.place c.args.of.now.prefix c.in-Some.best.now p (sym none))
     ∙ idle_if_beaten i.network.now i.base.now i.sessions.now c.args.ribs.now.rows c.args.router.0 c.args.place c.args.of.now.prefix c.chosen-chosen.result.now c.chosen-chosen.ensures.chosen p
     (ap process_in at ∙ ap (option_map process_view) (ap (λ (r : RouterConfig). r.process) c.index-routers-router.is ∙ c.in-Some-process.is)) c.in-Some.best.now c.in-Some.ensures.value (sym c.has_from.ensures ∙ c.if-has_from.false)
 
-pub returns-in-Some-feasible_at : goal.returns-in-Some-feasible_at
-returns-in-Some-feasible_at c =
+pub cannot_win-requires-clause-peering : goal.cannot_win-requires-clause-peering
+cannot_win-requires-clause-peering c =
     let i = c.args.inputs.now in
-    let routers = i.network.now in
-    let at = config_at routers c.routers.result.now c.args.router.0 c.index-routers-router.result c.routers.ensures.routers c.requires.router c.index-routers-router.is in
-    let p = process_view c.in-Some-process.process in
-    c.is_beaten.ensures
-    ∙ ap (λ (o : Option Chosen). option_map_or (is_beaten p c.in-Some.best.now) o true) c.in-Some-feasible_at.ensures.feasible
-    ∙ idle_if_beaten i.network.now i.base.now i.sessions.now c.args.ribs.now.rows c.args.router.0 c.args.place c.args.of.now.prefix c.chosen-chosen.result.now c.chosen-chosen.ensures.chosen p
-    (ap process_in at ∙ ap (option_map process_view) (ap (λ (r : RouterConfig). r.process) c.index-routers-router.is ∙ c.in-Some-process.is)) c.in-Some.best.now c.in-Some.ensures.value (sym c.has_from.ensures ∙ c.if-has_from.false)
+    subst (λ (o : Option Peering). IfSome o (IsPeering i.network.now i.base.now i.sessions.now c.args.router.0)) c.in-Some-peering.is c.requires.peering.peering
 
-pub returns-then-cannot_win : goal.returns-then-cannot_win
-returns-then-cannot_win c =
+pub returns : goal.returns
+returns c =
     let i = c.args.inputs.now in
     let routers = i.network.now in
     let at = config_at routers c.routers.result.now c.args.router.0 c.index-routers-router.result c.routers.ensures.routers c.requires.router c.index-routers-router.is in
     let p = process_view c.in-Some-process.process in
-    sym (c.cannot_win.ensures c.if-cannot_win.true p)
+    let own : c.in-Some-peering.peering.place ≡ c.args.place = subst (λ (o : Option Peering). IfSome o (λ q. q.place ≡ c.args.place)) c.in-Some-peering.is c.requires.peering.own in
+    c.cannot_win.ensures
+    ∙ ap (λ (n : ℕ). option_map_or (is_beaten p c.in-Some.best.now) (entry_at routers i.base.now i.sessions.now c.args.ribs.now.rows c.args.router.0 n c.args.of.now.prefix) true) own
     ∙ idle_if_beaten i.network.now i.base.now i.sessions.now c.args.ribs.now.rows c.args.router.0 c.args.place c.args.of.now.prefix c.chosen-chosen.result.now c.chosen-chosen.ensures.chosen p
     (ap process_in at ∙ ap (option_map process_view) (ap (λ (r : RouterConfig). r.process) c.index-routers-router.is ∙ c.in-Some-process.is)) c.in-Some.best.now c.in-Some.ensures.value (sym c.has_from.ensures ∙ c.if-has_from.false)

@@ -1,5 +1,6 @@
-use Rattle.std.proofs.Common.{◌≡◌, ◌++◌, ℕ, cond, ◌&&◌, List, [], slice_index_or, Option, Some, None, All, refl, sym, ap, subst, ◌∙◌, append_assoc}
+use Rattle.std.proofs.Common.{◌≡◌, ◌++◌, ℕ, cond, ◌&&◌, List, [], slice_index_or, Option, Some, None, All, length, refl, sym, ap, subst, ◌∙◌, append_assoc}
 use Rattle.std.proofs.lemmas.List.Elements.{All-nil, All-append}
+use Rattle.nc_types.specs.Config.{process_view}
 use Rattle.nc_types.specs.declared.config.AggregateStatement.{AggregateStatement}
 use Rattle.nc_types.specs.declared.config.Neighbor.{Neighbor}
 use Rattle.nc_types.specs.declared.config.NetworkStatement.{NetworkStatement}
@@ -10,7 +11,14 @@ use Rattle.nc_tables.specs.Rounds.{begun, entry_at, has_longer, made_from}
 use Rattle.nc_message.specs.Beginning.{aggregates_of, has_base_row, networks_of}
 use Rattle.nc_message.specs.Inputs.{IsOf}
 use Rattle.nc_message.proofs.Making.{active_alike, kept_all, made_alike}
+use Rattle.nc_message.proofs.Standing.{as_many}
 use Rattle.nc_message.proofs.candidates.candidates.Goals as goal
+
+pub add_entries-requires-clause-all : goal.add_entries-requires-clause-all
+add_entries-requires-clause-all c =
+    let i = c.args.inputs.now in
+    as_many i.network.now i.base.now i.sessions.now c.args.router.0 c.args.peerings.now c.requires.peerings (process_view c.args.process.now) c.requires.process
+    ∙ ap (length {A = Neighbor}) (sym c.deref.ensures.value)
 
 joined : (start first second third x y z : List Chosen) → start ≡ [] → x ≡ start ++ first → y ≡ x ++ second → z ≡ y ++ third → z ≡ first ++ (second ++ third)
 joined start first second third x y z none one two three =

@@ -14,7 +14,14 @@ use Rattle.nc_message.specs.BestPath.{best_among}
 use Rattle.nc_message.specs.Inputs.{IsOf}
 use Rattle.nc_message.proofs.Making.{kept_all}
 use Rattle.nc_message.proofs.Preferred.{alone_own, best_chosen, from_own}
+use Rattle.nc_message.proofs.Standing.{as_many}
 use Rattle.nc_message.proofs.choosing.best_alone.Goals as goal
+
+pub best_learnt-learnt-requires-clause-all : goal.best_learnt-learnt-requires-clause-all
+best_learnt-learnt-requires-clause-all c =
+    let i = c.args.inputs.now in
+    as_many i.network.now i.base.now i.sessions.now c.args.router.0 c.args.peerings.now c.requires.peerings (process_view c.args.process.now) c.requires.process
+    ∙ ap (length {A = Neighbor}) (sym c.deref.ensures.value)
 
 one_at_most : (o : Option Chosen) → length (option_to_list o) ≤ MULTIPATH_LIMIT
 one_at_most None = omega arith

@@ -1,4 +1,4 @@
-use Rattle.std.proofs.Common.{◌≡◌, ◌++◌, ◌+◌, ◌∷◌, ◌<◌, [], List, Option, Some, None, length, map, drop, append_assoc, append-nil, sym, ap, ◌∙◌, arith}
+use Rattle.std.proofs.Common.{◌≡◌, ℕ, ◌++◌, ◌+◌, ◌∷◌, ◌<◌, [], List, Option, Some, None, length, map, drop, append_assoc, append-nil, sym, ap, subst, ◌∙◌, arith}
 use Rattle.std.specs.List.{cons_option, filter_map}
 use Rattle.nc_types.proofs.Walks.{drop_read}
 use Rattle.nc_round.specs.Keys.{Key}
@@ -12,6 +12,17 @@ more f k left rest before after all parts longer is = ap (λ (l : List RowChange
     on : (o : Option RowChange) → (before ++ cons_option o []) ++ filter_map f rest ≡ before ++ cons_option o (filter_map f rest)
     on None = ap (λ (l : List RowChange). l ++ filter_map f rest) (append-nil before)
     on (Some x) = append_assoc before (x ∷ []) (filter_map f rest)
+
+pub get-peerings-requires : goal.get-peerings-requires
+get-peerings-requires c =
+    let keys = c.args.keys.now in
+    let k = c.keys.row-index in
+    let lt : k < length keys = omega arith in
+    let within : c.row-item.result.0.0 < length c.args.inputs.network.now = subst (λ (q : Key). q.0.0 < length c.args.inputs.network.now) (sym c.row-item.is) (c.requires.keys k c.row-item.result lt) in
+    omega (arith, within, c.requires.all.count)
+
+pub add_row-requires-clause-peerings : goal.add_row-requires-clause-peerings
+add_row-requires-clause-peerings c = c.requires.all.each c.row-item.result.0.0 c.get-peerings.result.now c.get-peerings.ensures
 
 pub keys-preserved : goal.keys-preserved
 keys-preserved c =

@@ -1,4 +1,4 @@
-use Rattle.std.proofs.Common.{◌≡◌, ℕ, suc, ◌+◌, ◌<◌, List, length, map, sym, subst, ◌∙◌, arith, rules}
+use Rattle.std.proofs.Common.{◌≡◌, ◌==◌, ℕ, zero, suc, Bool, true, false, ◌+◌, ◌<◌, List, length, map, sym, subst, ◌∙◌, arith, rules}
 use Rattle.std.proofs.lemmas.List.{length-map}
 use Rattle.nc_types.specs.Cidr.{Cidr}
 use Rattle.nc_tables.specs.Rounds.{IsStable, IsUnstable}
@@ -13,6 +13,10 @@ none_left rows none = length-map rows row_key ∙ none
 some_left : (rows : List ChangedRow) → 0 < length rows → 0 < length (map row_key rows)
 some_left rows some = omega (arith, length-map rows row_key)
 
+positive : (n : ℕ) (b : Bool) → b ≡ (n == 0) → b ≡ false → 0 < n
+positive zero b is fails = let bad : true ≡ false = sym is ∙ fails in absurd cc
+positive (suc n) b is fails = omega arith
+
 pub rounds-init : goal.rounds-init
 rounds-init c =
     let i = c.args.inputs in record {
@@ -21,8 +25,8 @@ rounds-init c =
       numbers = c.in_ok-ribs.ensures.numbers;
     }
 
-pub round_changed-requires-clause-made : goal.round_changed-requires-clause-made
-round_changed-requires-clause-made c =
+pub next_by-requires-clause-made : goal.next_by-requires-clause-made
+next_by-requires-clause-made c =
     let i = c.args.inputs in
     (at i.network.now i.base.now i.sessions.now c.rounds._more, run_made i.network.now i.base.now i.sessions.now c.rounds.ribs.rows (map row_key c.rounds.changed.rows.items) c.rounds._more c.rounds.invariant.run)
 
@@ -33,7 +37,7 @@ rounds-preserved c =
     let up : suc k ≡ k + 1 = omega arith in
     record {
       run = subst (λ (n : ℕ). IsRun i.network.now i.base.now i.sessions.now n c.in_ok-next.next.0.rows (map row_key c.in_ok-next.next.1.rows.items)) up
-          (run_more i.network.now i.base.now i.sessions.now k c.rounds.ribs.rows c.in_ok-next.next.0.rows (map row_key c.rounds.changed.rows.items) (map row_key c.in_ok-next.next.1.rows.items) c.rounds.invariant.run (some_left c.rounds.changed.rows.items (search rules)) c.in_ok-next.ensures.table c.in_ok-next.ensures.changed);
+          (run_more i.network.now i.base.now i.sessions.now k c.rounds.ribs.rows c.in_ok-next.next.0.rows (map row_key c.rounds.changed.rows.items) (map row_key c.in_ok-next.next.1.rows.items) c.rounds.invariant.run (some_left c.rounds.changed.rows.items (omega (arith, c.rounds.changed.rows.ok.0, positive c.rounds.changed.rows.len c.is_empty.result c.is_empty.ensures c.if-is_empty.false))) c.in_ok-next.ensures.table c.in_ok-next.ensures.changed);
       prefixes = c.in_ok-next.ensures.prefixes ∙ c.rounds.invariant.prefixes;
       numbers = subst (λ (ps : List Cidr). AreRows ps c.in_ok-next.next.1.rows.items) (sym c.in_ok-next.ensures.prefixes) c.in_ok-next.ensures.numbers;
     }

@@ -5,7 +5,7 @@ use Rattle.nc_round.specs.Renewing.{AreEnough}
 use Rattle.nc_round.specs.Rows.{row_key}
 use Rattle.nc_round.specs.Waking.{IsWoken}
 use Rattle.nc_round.proofs.Woken.{changed_within, enough, table_count}
-use Rattle.nc_round.proofs.rounds.round_changed.Goals as goal
+use Rattle.nc_round.proofs.rounds.next_by.Goals as goal
 
 pub woken_in_order-requires-clause-ribs : goal.woken_in_order-requires-clause-ribs
 woken_in_order-requires-clause-ribs c =

@@ -3,7 +3,7 @@ use Rattle.nc_tables.specs.Rounds.{BgpRowView}
 use Rattle.nc_round.specs.Keys.{Key}
 use Rattle.nc_round.specs.Renewing.{AreEnough}
 use Rattle.nc_round.proofs.Woken.{first_enough}
-use Rattle.nc_round.proofs.rounds.first_round.Goals as goal
+use Rattle.nc_round.proofs.rounds.first_by.Goals as goal
 
 pub renew-requires-clause-keys : goal.renew-requires-clause-keys
 renew-requires-clause-keys c =
