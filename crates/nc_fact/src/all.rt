@@ -76,7 +76,7 @@ fn accepts(
     requires sender { IsAdjacency inputs.now.base.now router.0 adjacency }
     ensures { result ≡ accepts inputs.now.base.now router.0 (link_view adjacency.entry.link) (bgp_row_view row.now) }
 {
-    match row.chosen.first() {
+    match row.chosen.as_slice().first() {
         Some(best) => accepted_over(inputs, router, adjacency, best).is_some(),
         None => false,
     }

@@ -21,7 +21,7 @@ use nc_message::{
 };
 use nc_policy::Policies;
 use nc_sessions::Link;
-use nc_tables::{Chosen, Stable};
+use nc_tables::{RibEntry, Stable};
 use nc_types::{AggregateStatement, NetworkStatement, Prefix, RouterId};
 
 /// What is needed to tell messages: the network with its tables, those of its maps, and what is known of the senders
@@ -157,7 +157,7 @@ pub fn link_at<'a>(
 }
 
 // The best route of a prefix that a router has chosen.
-fn best_at(state: &Stable, router: RouterId, prefix: Prefix) -> Option<&Chosen>
+fn best_at(state: &Stable, router: RouterId, prefix: Prefix) -> Option<&RibEntry>
     ensures { option_map (λ b. b.now) result ≡ best_at state.now.bgp router.0 prefix }
 {
     chosen_at(state, router, prefix).first()
@@ -185,7 +185,7 @@ pub fn accepted_by<'a>(
 
 /// The routes of a prefix that a router has chosen, best first; none where the prefix has no row, and where
 /// there is no such router.
-pub fn chosen_at(state: &Stable, router: RouterId, prefix: Prefix) -> &[Chosen]
+pub fn chosen_at(state: &Stable, router: RouterId, prefix: Prefix) -> &[RibEntry]
     ensures chosen { result.now ≡ chosen_at state.now.bgp router.0 prefix }
     ensures few { length result.now ≤ MULTIPATH_LIMIT }
 {
@@ -196,7 +196,7 @@ pub fn chosen_at(state: &Stable, router: RouterId, prefix: Prefix) -> &[Chosen]
 }
 
 /// The route of a prefix that a router has chosen at a place, the best at 0.
-pub fn chosen_of(state: &Stable, router: RouterId, prefix: Prefix, place: u32) -> Option<&Chosen>
+pub fn chosen_of(state: &Stable, router: RouterId, prefix: Prefix, place: u32) -> Option<&RibEntry>
     ensures { option_map (λ x. x.now) result ≡ chosen_of state.now router.0 prefix place }
 {
     chosen_at(state, router, prefix).get(place as usize)

@@ -12,7 +12,7 @@ ghost use Rattle.nc_fact.specs.Facts.{network_of, aggregate_of, message_of, acce
 use crate::bgp::{accepted_of, aggregate_of, chosen_of, message_of, network_of};
 use nc_message::{AcceptedRoute, Advertisement};
 use nc_policy::Policies;
-use nc_tables::{Chosen, Stable};
+use nc_tables::{RibEntry, Stable};
 use nc_types::{Prefix, RouterId};
 
 // What a route with so many numbers in its path weighs.
@@ -41,7 +41,7 @@ fn sent_count(sent: &Advertisement) -> usize
     ensures count { result ≡ length (message_view sent.now).route.path }
     ensures few { result ≤ PATH_LIMIT }
 {
-    let count = sent.out.prepended().len() + sent.best.route.path.len();
+    let count = sent.out.prepended().len() + sent.best.path().len();
     if sent.link.session.internal {
         count
     } else {
@@ -57,7 +57,7 @@ fn taken_count(taken: &AcceptedRoute) -> usize
 {
     let sent = &taken.sent;
     let before = taken.into.prepended().len();
-    let count = before + sent.out.prepended().len() + sent.best.route.path.len();
+    let count = before + sent.out.prepended().len() + sent.best.path().len();
     if sent.link.session.internal {
         count
     } else {
@@ -85,10 +85,10 @@ fn rank_of_accepted(prefix: Prefix, taken: &AcceptedRoute) -> u32
 }
 
 // The rank of a route of a prefix that is chosen.
-fn rank_of_chosen(prefix: Prefix, chosen: &Chosen) -> u32
+fn rank_of_chosen(prefix: Prefix, chosen: &RibEntry) -> u32
     ensures { result ≡ rank_of_chosen prefix chosen.now }
 {
-    lowest_rank(prefix, weight(chosen.route.path.len(), chosen.internal)) + 4
+    lowest_rank(prefix, weight(chosen.path().len(), chosen.is_internal())) + 4
 }
 
 /// The rank of a network statement's fact; 0 where there is no such statement.

@@ -53,7 +53,7 @@ fn main_hop(state: &Stable, router: RouterId, prefix: Prefix, from: MainFrom) ->
         MainFrom::Base(place) => base_hop(state, router, place),
         MainFrom::Bgp(place) => {
             let chosen = chosen_of(state, router, prefix, place)?;
-            Some(chosen.route.next_hop)
+            Some(chosen.next_hop())
         }
         MainFrom::Discard(_) => None,
     }

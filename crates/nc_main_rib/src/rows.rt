@@ -12,8 +12,8 @@ ghost use Rattle.nc_tables.specs.Sessions.{first_of};
 ghost use Rattle.nc_main_rib.specs.Sides.{base_rows, bgp_rows, learnt_row, first_distance, stands};
 
 use nc_tables::{
-    BaseRow, BgpFrom, Chosen, EXTERNAL_DISTANCE, INTERNAL_DISTANCE, LOCAL_DISTANCE, MainFrom,
-    MainRow,
+    BaseRow, BgpFrom, EXTERNAL_DISTANCE, INTERNAL_DISTANCE, LOCAL_DISTANCE, MainFrom, MainRow,
+    RibEntry,
 };
 use nc_types::Prefix;
 use std::alloc::AllocError;
@@ -32,18 +32,18 @@ fn distance_of(internal: bool) -> u8
 }
 
 // The distance of what was learnt; `None` where the router began it itself.
-fn learnt_distance(best: &Chosen) -> Option<u8>
+fn learnt_distance(best: &RibEntry) -> Option<u8>
     ensures { result ≡ (if is_learnt best.now.from then Some (distance_of best.now) else None) }
 {
-    match best.from {
-        BgpFrom::Entry(_) => Some(distance_of(best.internal)),
+    match best.from() {
+        BgpFrom::Entry(_) => Some(distance_of(best.is_internal())),
         BgpFrom::Origin(_) | BgpFrom::Aggregate(_) => None,
     }
 }
 
 // The distance of what BGP has of a prefix: of the discard, if there is one, else of the best
 // candidate.
-fn bgp_distance(discard: Option<u32>, chosen: &[Chosen]) -> Option<u8>
+fn bgp_distance(discard: Option<u32>, chosen: &[RibEntry]) -> Option<u8>
     ensures { (prefix : Cidr) → result ≡ first_distance (bgp_rows prefix discard chosen.now) }
 {
     if discard.is_some() {
@@ -124,7 +124,7 @@ fn add_bgp(
     main: &mut Vec<MainRow>,
     prefix: Prefix,
     discard: Option<u32>,
-    chosen: &[Chosen],
+    chosen: &[RibEntry],
 ) -> Result<(), AllocError>
     requires { length chosen.now ≤ MULTIPATH_LIMIT }
     ensures { OnOk result (main.new.items
@@ -155,7 +155,7 @@ pub(crate) fn add_rows(
     base: &[BaseRow],
     first: usize,
     discard: Option<u32>,
-    chosen: &[Chosen],
+    chosen: &[RibEntry],
 ) -> Result<(), AllocError>
     requires base { first + length base.now < 2 ^ 32 }
     requires chosen { length chosen.now ≤ MULTIPATH_LIMIT }

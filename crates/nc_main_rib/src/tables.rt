@@ -14,7 +14,7 @@ use crate::discards::active_places;
 use crate::prefixes::prefixes_of;
 use crate::rows::add_rows;
 use nc_tables::{
-    BaseRow, BaseTables, BgpRow, BgpTable, Chosen, MainRow, MainTables, Rows, rows_on,
+    BaseRow, BaseTables, BgpRow, BgpTable, MainRow, MainTables, RibEntry, Rows, rows_on,
 };
 use nc_types::{AggregateStatement, Network, Prefix, RouterId};
 use std::alloc::{AllocError, Global};
@@ -38,7 +38,7 @@ struct Passed {
 }
 
 // What is chosen of the prefix whose row stands here, of which there is one at most.
-fn chosen_at(rows: &[BgpRow], found: Rows) -> &[Chosen]
+fn chosen_at(rows: &[BgpRow], found: Rows) -> &[RibEntry]
     requires { found.to ≤ length rows.now }
     ensures { (prefix : Cidr) → places_from (λ row. same_prefix row.prefix prefix) 0 rows.now
         ≡ range_with_len found.from (found.to - found.from)
@@ -47,7 +47,7 @@ fn chosen_at(rows: &[BgpRow], found: Rows) -> &[Chosen]
     if found.from >= found.to {
         return &[];
     }
-    &rows[found.from].chosen
+    rows[found.from].chosen.as_slice()
 }
 
 // Adds the main rows of a prefix of a router, given its base rows and its BGP rows, how many of each were passed

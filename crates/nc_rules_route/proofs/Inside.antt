@@ -92,8 +92,8 @@ module _ (rows : List BgpRow) (are : AreBgpRows (map bgp_row_view rows)) (outer 
     pub inside_rows : map bgp_row_view (take count behind) ≡ filter (λ row. is_longer_in row.prefix outer) (map bgp_row_view rows)
     inside_rows = ap (map bgp_row_view) all_inside ∙ filter_view rows
 
-    pub inside_few : All (λ (row : BgpRow). length row.chosen.items ≤ MULTIPATH_LIMIT) (take count behind)
+    pub inside_few : All (λ (row : BgpRow). length row.chosen ≤ MULTIPATH_LIMIT) (take count behind)
     inside_few =
-        let few = λ (row : BgpRow). length row.chosen.items ≤ MULTIPATH_LIMIT in
+        let few = λ (row : BgpRow). length row.chosen ≤ MULTIPATH_LIMIT in
         subst (All few) (sym all_inside) (all_by_in few (filter inside rows) (λ row i.
         all_in (λ (v : BgpRowView). length v.chosen ≤ MULTIPATH_LIMIT) (map bgp_row_view rows) are.few (bgp_row_view row) (in_map bgp_row_view rows row (in_by_filter inside rows row i).0)))

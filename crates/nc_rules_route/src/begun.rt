@@ -142,7 +142,7 @@ fn inside(rows: &[BgpRow], outer: Prefix) -> &[BgpRow]
     requires { AreBgpRows (map bgp_row_view rows.now) }
     ensures rows { map bgp_row_view result.now
         ≡ filter (λ row. is_longer_in row.prefix outer) (map bgp_row_view rows.now) }
-    ensures few { All (λ row. length row.chosen.items ≤ MULTIPATH_LIMIT) result.now }
+    ensures few { All (λ row. length row.chosen ≤ MULTIPATH_LIMIT) result.now }
 {
     let _len = outer.len();
     let first = rows.partition_point(|row| row.prefix <= outer);
@@ -153,12 +153,12 @@ fn inside(rows: &[BgpRow], outer: Prefix) -> &[BgpRow]
 
 // Appends the routes of a prefix that are chosen, best first.
 fn push_row(router: RouterId, row: &BgpRow, into: &mut Vec<Fact>) -> Result<(), AllocError>
-    requires { length row.now.chosen.items ≤ MULTIPATH_LIMIT }
+    requires { length row.now.chosen ≤ MULTIPATH_LIMIT }
     ensures ok { OnOk result (into.new.items
         ≡ into.old.items ++ each_chosen router (bgp_row_view row.now)) }
     ensures kept { take (length into.old.items) into.new.items ≡ into.old.items }
 {
-    'places: for place in 0..row.chosen.len() {
+    'places: for place in 0..row.chosen.as_slice().len() {
         into.push(Fact::Chosen(router, row.prefix, place as u32))?;
     }
     Ok(())
@@ -166,7 +166,7 @@ fn push_row(router: RouterId, row: &BgpRow, into: &mut Vec<Fact>) -> Result<(), 
 
 // Appends those of each row in turn.
 fn push_rows(router: RouterId, rows: &[BgpRow], into: &mut Vec<Fact>) -> Result<(), AllocError>
-    requires { All (λ row. length row.chosen.items ≤ MULTIPATH_LIMIT) rows.now }
+    requires { All (λ row. length row.chosen ≤ MULTIPATH_LIMIT) rows.now }
     ensures ok { OnOk result (into.new.items ≡ into.old.items
         ++ flat_map (each_chosen router) (map bgp_row_view rows.now)) }
     ensures kept { take (length into.old.items) into.new.items ≡ into.old.items }

@@ -17,7 +17,7 @@ use nc_fact::{Fact, accepted_by, chosen_of, link_at};
 use nc_message::next_hop;
 use nc_policy::{Passing, Policies};
 use nc_sessions::Link;
-use nc_tables::{BgpFrom, Chosen, Names, Stable};
+use nc_tables::{BgpFrom, Names, RibEntry, Stable};
 use nc_types::{Addr, Network, Prefix, RouterId};
 use std::alloc::AllocError;
 
@@ -69,7 +69,7 @@ fn passing_of<'a>(
     network: &'a Network,
     policies: &Policies,
     link: &Link<'a>,
-    best: &'a Chosen,
+    best: &'a RibEntry,
 ) -> Option<Passing<'a>>
     requires policies { ArePolicies network.now policies.now }
     requires sender { slice_get network.now link.now.session.peer.0
@@ -77,17 +77,10 @@ fn passing_of<'a>(
     ensures { option_map (out_view (link_view link.now) best.now) result
         ≡ out_of (link_view link.now) best.now }
 {
-    let held = Held::of(&best.route.communities);
-    let count = best.route.path.len();
+    let held = Held::of(best.communities());
+    let count = best.path().len();
     let map = &link.sender.statement.map_out;
-    policies.pass(
-        network,
-        link.session.peer,
-        map,
-        best.route.prefix,
-        count,
-        &held,
-    )
+    policies.pass(network, link.session.peer, map, best.prefix(), count, &held)
 }
 
 // Appends the elements by which a session's peer let pass the best that it has chosen of a prefix; none where it has
@@ -216,7 +209,7 @@ pub(crate) fn push_chosen(
     ensures kept { take (length into.old.items) into.new.items ≡ into.old.items }
 {
     if let Some(chosen) = chosen_of(state, router, prefix, place) {
-        into.push(source_of(router, prefix, chosen.from))?;
+        into.push(source_of(router, prefix, chosen.from()))?;
     }
     Ok(())
 }

@@ -4,7 +4,7 @@ ghost use Rattle.std.specs.Prelude.{◌≡◌, false, length};
 ghost use Rattle.nc_tables.specs.Choice.{same_path};
 ghost use Rattle.nc_tables.specs.declared.bgp.Chosen.{Chosen};
 
-use nc_tables::{BgpFrom, Chosen};
+use nc_tables::{BgpFrom, RibEntry};
 use nc_types::{Addr, OriginCode};
 
 /// A candidate of a prefix, by what decides between candidates: one in memory, or one that is told
@@ -50,42 +50,42 @@ pub trait Candidate {
             (candidate_of other.now).route.path };
 }
 
-impl Candidate for Chosen {
+impl Candidate for RibEntry {
     ghost candidate_of = { λ x. x };
 
     fn from(&self) -> BgpFrom {
-        self.from
+        self.from()
     }
 
     fn preference(&self) -> u32 {
-        self.route.preference
+        self.preference()
     }
 
     fn path_length(&self) -> usize {
-        self.route.path.len()
+        self.path().len()
     }
 
     fn origin(&self) -> OriginCode {
-        self.route.origin
+        self.origin()
     }
 
     fn metric(&self) -> u32 {
-        self.route.metric
+        self.metric()
     }
 
     fn is_internal(&self) -> bool {
-        self.internal
+        self.is_internal()
     }
 
     fn sender_id(&self) -> Addr {
-        self.sender_id
+        self.sender_id()
     }
 
     fn sender(&self) -> Addr {
-        self.sender
+        self.sender()
     }
 
     fn has_same_path(&self, other: &Self) -> bool {
-        self.route.path.is_same(&other.route.path)
+        self.path().is_same(other.path())
     }
 }

@@ -27,7 +27,7 @@ view_at (row ∷ rows) zero d = refl
 view_at (row ∷ rows) (suc i) d = view_at rows i d
 
 -- each row has a candidate
-pub has_some : (rows : List BgpRow) (i : ℕ) (d : BgpRow) → AreBgpRows (map bgp_row_view rows) → i < length rows → 0 < length (get_or rows i d).chosen.items
+pub has_some : (rows : List BgpRow) (i : ℕ) (d : BgpRow) → AreBgpRows (map bgp_row_view rows) → i < length rows → 0 < length (get_or rows i d).chosen
 has_some rows i d are lt =
     let count : length (map bgp_row_view rows) ≡ length rows = length-map rows bgp_row_view in
     subst (λ (row : BgpRowView). 0 < length row.chosen) (view_at rows i d) (are.some i (bgp_row_view d) (omega arith))
@@ -80,7 +80,7 @@ module _ (prefix : Cidr) where
     pub chosen_nowhere : n ≡ 0 → chosen_in (map bgp_row_view rows) prefix ≡ []
     chosen_nowhere none = ap (λ (o : Option BgpRowView). option_map_or (λ (row : BgpRowView). row.chosen) o []) (found_nowhere has (map bgp_row_view rows) from n view_places none)
 
-    pub chosen_there : (d : BgpRow) → 0 < n → from < length rows → chosen_in (map bgp_row_view rows) prefix ≡ (get_or rows from d).chosen.items
+    pub chosen_there : (d : BgpRow) → 0 < n → from < length rows → chosen_in (map bgp_row_view rows) prefix ≡ (get_or rows from d).chosen
     chosen_there d some lt =
         ap (λ (o : Option BgpRowView). option_map_or (λ (row : BgpRowView). row.chosen) o [])
         (found_first has (map bgp_row_view rows) from n view_places some

@@ -14,7 +14,7 @@ use Rattle.nc_types.proofs.Members.{In, in_by_get, all_in, some_passes, passes_s
 use Rattle.nc_types.proofs.Sameness.{same_prefix_is}
 use Rattle.nc_tables.specs.declared.bgp.Chosen.{Chosen}
 use Rattle.nc_tables.specs.Base.{prefix_cmp, same_prefix}
-use Rattle.nc_tables.specs.LocRibs.{choices_view, row_before, rows_by, Ascend, AreChoices}
+use Rattle.nc_tables.specs.LocRibs.{row_before, rows_by, Ascend, AreChoices}
 use Rattle.nc_tables.specs.Rounds.{BgpRowView, chosen_in, chosen_at, has_longer, is_longer_in, AreBgpRows}
 use Rattle.nc_tables.proofs.ByPrefix.{less_differs, same_itself, pairs_head, pairs_tail}
 use Rattle.nc_tables.proofs.InOrder.{Up, HaveSome, AreAbove, none_above, past_head, found_before, all_before, up_before}
@@ -283,37 +283,28 @@ chosen_after f xs i y p cs lt is r q = ap (λ (l : List BgpRowView). chosen_in l
 -- ---- the choices of each router, in memory
 
 module _ (ps : List Cidr) where
-  abbrev pub seen : Vec (Vec Chosen Global) Global → List BgpRowView
-  seen choices = rows_by ps (choices_view choices)
+  abbrev pub seen : Vec (List Chosen) Global → List BgpRowView
+  seen choices = rows_by ps choices.items
 
   -- those of the router that a call gave
-  pub router_are : (tables : List (Vec (Vec Chosen Global) Global)) (router : ℕ) (read : List (Vec Chosen Global)) → router < length tables → read ≡ get_or (map (λ t. t.items) tables) router [] → All (λ t. AreChoices ps (choices_view t)) tables
-      → AreChoices ps (map (λ cs. cs.items) read)
+  pub router_are : (tables : List (Vec (List Chosen) Global)) (router : ℕ) (read : List (List Chosen)) → router < length tables → read ≡ get_or (map (λ t. t.items) tables) router [] → All (λ t. AreChoices ps t.items) tables
+      → AreChoices ps read
   router_are [] router read lt is each = absurd (omega arith)
-  router_are (t ∷ ts) zero read lt is each = subst (λ (l : List (Vec Chosen Global)). AreChoices ps (map (λ cs. cs.items) l)) (sym is) (All-head (λ t. AreChoices ps (choices_view t)) t ts each)
-  router_are (t ∷ ts) (suc router) read lt is each = router_are ts router read (omega arith) is (All-tail (λ t. AreChoices ps (choices_view t)) t ts each)
+  router_are (t ∷ ts) zero read lt is each = subst (AreChoices ps) (sym is) (All-head (λ t. AreChoices ps t.items) t ts each)
+  router_are (t ∷ ts) (suc router) read lt is each = router_are ts router read (omega arith) is (All-tail (λ t. AreChoices ps t.items) t ts each)
 
-  pub router_seen : (tables : List (Vec (Vec Chosen Global) Global)) (router : ℕ) (read : List (Vec Chosen Global)) → router < length tables → read ≡ get_or (map (λ t. t.items) tables) router []
-      → rows_by ps (map (λ cs. cs.items) read) ≡ get_or (map seen tables) router []
+  pub router_seen : (tables : List (Vec (List Chosen) Global)) (router : ℕ) (read : List (List Chosen)) → router < length tables → read ≡ get_or (map (λ t. t.items) tables) router []
+      → rows_by ps read ≡ get_or (map seen tables) router []
   router_seen [] router read lt is = absurd (omega arith)
-  router_seen (t ∷ ts) zero read lt is = ap (λ (l : List (Vec Chosen Global)). rows_by ps (map (λ cs. cs.items) l)) is
+  router_seen (t ∷ ts) zero read lt is = ap (rows_by ps) is
   router_seen (t ∷ ts) (suc router) read lt is = router_seen ts router read (omega arith) is
 
-  -- after one of them is set
-  pub choice_set : (old new : Vec (Vec Chosen Global) Global) (k : ℕ) (chosen : Vec Chosen Global) → new.items ≡ set old.items k chosen → choices_view new ≡ set (choices_view old) k chosen.items
-  choice_set old new k chosen is = ap (map (λ (cs : Vec Chosen Global). cs.items)) is ∙ on old.items k
-    where
-      on : (xs : List (Vec Chosen Global)) (j : ℕ) → map (λ (cs : Vec Chosen Global). cs.items) (set xs j chosen) ≡ set (map (λ (cs : Vec Chosen Global). cs.items) xs) j chosen.items
-      on [] j = refl
-      on (x ∷ xs) zero = refl
-      on (x ∷ xs) (suc j) = ap (λ (l : List (List Chosen)). x.items ∷ l) (on xs j)
-
   -- the rows of one more router are made
-  pub routers_more : (made more total : List (List BgpRowView)) (left rest : List (Vec (Vec Chosen Global) Global)) (x : Vec (Vec Chosen Global) Global) (rows : List BgpRowView) → left ≡ x ∷ rest → more ≡ made ++ rows ∷ [] → rows ≡ seen x
+  pub routers_more : (made more total : List (List BgpRowView)) (left rest : List (Vec (List Chosen) Global)) (x : Vec (List Chosen) Global) (rows : List BgpRowView) → left ≡ x ∷ rest → more ≡ made ++ rows ∷ [] → rows ≡ seen x
       → made ++ map seen left ≡ total → more ++ map seen rest ≡ total
   routers_more made more total left rest x rows parts longer is all =
       ap (λ (l : List (List BgpRowView)). l ++ map seen rest) longer
       ∙ append_assoc made (rows ∷ []) (map seen rest)
       ∙ ap (λ (l : List BgpRowView). made ++ l ∷ map seen rest) is
-      ∙ sym (ap (λ (l : List (Vec (Vec Chosen Global) Global)). made ++ map seen l) parts)
+      ∙ sym (ap (λ (l : List (Vec (List Chosen) Global)). made ++ map seen l) parts)
       ∙ all

@@ -123,6 +123,6 @@ module _ (rows : List BgpRow) (are : AreBgpRows (map bgp_row_view rows)) (outer 
       from : is_longer_in (get_or rows next d).prefix outer ≡ true → has_longer (map bgp_row_view rows) outer ≡ true
       from e =
           let row = get_or rows next d in
-          let some : 0 < length row.chosen.items = has_some rows next d are lt in
+          let some : 0 < length row.chosen = has_some rows next d are lt in
           passes_some passes (map bgp_row_view rows) (bgp_row_view row) (in_map bgp_row_view rows row (in_at rows next d lt))
-          (and_from (is_longer_in row.prefix outer) (nat_lt 0 (length row.chosen.items)) e (lt-ltb 0 (length row.chosen.items) some))
+          (and_from (is_longer_in row.prefix outer) (nat_lt 0 (length row.chosen)) e (lt-ltb 0 (length row.chosen) some))

@@ -9,6 +9,8 @@ pub mod Policy
 pub mod Choice
 pub mod Rounds
 pub mod LocRibs
+pub mod RibEntryView
+pub mod HeldEntries
 pub mod Main
 pub mod Forwarding
 pub mod Levels

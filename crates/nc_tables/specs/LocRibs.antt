@@ -1,6 +1,5 @@
 -- What routers choose, prefix by prefix: each has a list of what it chooses of each prefix that any router begins, in order of prefix.
-use Rattle.std.specs.Prelude.{◌≡◌, ℕ, ◌<◌, ◌≤◌, List, [], ◌∷◌, length, map, Some, All, AllPairs, slice_get}
-use Rattle.std.specs.Global.{Vec}
+use Rattle.std.specs.Prelude.{◌≡◌, ℕ, ◌<◌, ◌≤◌, List, [], ◌∷◌, length, Some, All, AllPairs, slice_get}
 use Rattle.std.specs.declared.cmp.Ordering.TheVariants.{Less}
 use Rattle.nc_types.specs.declared.TheConstants.{MULTIPATH_LIMIT}
 use Rattle.nc_types.specs.Cidr.{Cidr}
@@ -43,6 +42,3 @@ pub record AreChosen (rows : List BgpRowView) : Type 0 where
 -- a prefix stands among others under its number
 abbrev pub IsNumbered : List Cidr → Numbered → Type 0
 IsNumbered prefixes n = slice_get prefixes n.number ≡ Some n.prefix
-
-abbrev pub choices_view : Vec (Vec Chosen) → List (List Chosen)
-choices_view choices = map (λ cs. cs.items) choices.items

@@ -32,7 +32,7 @@ pub record BgpRowView : Type 0 where
   pub chosen : List Chosen
 
 abbrev pub bgp_row_view : BgpRow → BgpRowView
-bgp_row_view r = record { prefix = r.prefix; chosen = r.chosen.items }
+bgp_row_view r = record { prefix = r.prefix; chosen = r.chosen }
 
 -- a prefix inside a shorter one
 abbrev pub is_longer_in : Cidr → Cidr → Bool

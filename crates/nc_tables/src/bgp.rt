@@ -1,6 +1,5 @@
-ghost use Rattle.std.specs.Prelude.{◌≡◌, ◌↔◌, IsTrue};
-
 use crate::path::Path;
+use crate::rib_entries::RibEntries;
 use nc_types::{Addr, Communities, IfaceId, OriginCode, Prefix, RouterId};
 
 /// An established BGP session, as one of its two neighbor statements sees it.
@@ -35,19 +34,6 @@ pub struct Route {
     pub communities: Communities,
 }
 
-/// Whether two routes are the same in all that they carry.
-pub fn same_route(a: &Route, b: &Route) -> bool
-    ensures { IsTrue result ↔ (a.now ≡ b.now) }
-{
-    a.prefix == b.prefix
-        && a.next_hop == b.next_hop
-        && a.preference == b.preference
-        && a.metric == b.metric
-        && a.origin == b.origin
-        && a.path.is_same(&b.path)
-        && a.communities.numbers() == b.communities.numbers()
-}
-
 /// Where a candidate comes from: the place of its statement in the process.
 #[derive(Clone, Copy, PartialEq, Eq)]
 pub enum BgpFrom {
@@ -72,22 +58,11 @@ pub struct Chosen {
     pub sender: Addr,
 }
 
-/// Whether two candidates are the same: their routes, and where they come from.
-pub fn same_candidate(a: &Chosen, b: &Chosen) -> bool
-    ensures { IsTrue result ↔ (a.now ≡ b.now) }
-{
-    a.from == b.from
-        && a.internal == b.internal
-        && a.sender_id == b.sender_id
-        && a.sender == b.sender
-        && same_route(&a.route, &b.route)
-}
-
 /// The candidates of a prefix that were chosen, best first; there is one at least.
 #[derive(Drop)]
 pub struct BgpRow {
     pub prefix: Prefix,
-    pub chosen: Vec<Chosen>,
+    pub chosen: RibEntries,
 }
 
 /// Where a row of a main table comes from.

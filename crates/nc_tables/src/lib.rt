@@ -4,8 +4,9 @@
 //! table of its rows and answers which rows are those of a prefix or of the longest prefix that covers an
 //! address, which session a neighbor statement has, what is chosen of a prefix, and whether a longer prefix inside
 //! another is chosen. `LocRibs` has what routers choose while a network settles, by the numbers of prefixes, and gives the
-//! table of it. `Stable` holds a network with all its tables. It stands on `nc_types`. Its contract promises that a table has exactly the rows that it was
-//! made of, that each look-up answers as its definition does, and that the tables of a `Stable` are those of its
+//! table of it. What is chosen stands in entries (`RibEntry`), which share what their candidates have in common where
+//! `RecentAttributes` has seen it lately: it remembers 1,024 blocks at most. `Stable` holds a network with all its
+//! tables. It stands on `nc_types`. Its contract promises that a table has exactly the rows that it was made of, that each look-up answers as its definition does, and that the tables of a `Stable` are those of its
 //! network. What the rows of a network are is said by the definitions in `specs/`, which the crates above are
 //! proved against: `Base` and `Reach` for base tables and where they lead, `Sessions`, `Policy`, `Choice` and
 //! `Rounds` and `LocRibs` for BGP, `Main` and `Forwarding` for main tables and paths, `Filters` and `Flows` for access lists, and `State` for all together. `Levels` and
@@ -23,6 +24,8 @@ mod longest;
 mod mains;
 mod path;
 mod policy;
+mod rib_entries;
+mod rib_entry;
 mod ribs;
 mod routes;
 mod sessions;
@@ -30,9 +33,7 @@ mod stable;
 mod system_bits;
 
 pub use base::{BaseFrom, BaseRow, BaseTables};
-pub use bgp::{
-    BgpFrom, BgpRow, Chosen, MainFrom, MainRow, Route, SessionRow, same_candidate, same_route,
-};
+pub use bgp::{BgpFrom, BgpRow, Chosen, MainFrom, MainRow, Route, SessionRow};
 pub use filters::Passing;
 pub use inside::is_longer_in;
 pub use laws::{distances_are_numbers, levels_are_lawful, settling_is_lawful};
@@ -40,6 +41,8 @@ pub use longest::{HasPrefix, Rows, rows_on};
 pub use mains::MainTables;
 pub use path::{Numbers, Path};
 pub use policy::{Names, Place};
+pub use rib_entries::RibEntries;
+pub use rib_entry::{RecentAttributes, RibEntry};
 pub use ribs::{LocRibs, Numbered};
 pub use routes::BgpTable;
 pub use sessions::Sessions;

@@ -105,6 +105,15 @@ impl Path {
         }
     }
 
+    /// A number that equal paths have in common, and others mostly don't.
+    pub(crate) fn digest(&self) -> u64 {
+        let mut digest = u64::from(self.count);
+        'numbers: for number in own(&self.numbers, self.start) {
+            digest = digest.wrapping_mul(31).wrapping_add(u64::from(*number));
+        }
+        digest ^ shared_bits(&self.rest).digest()
+    }
+
     /// Whether a number is in it.
     pub fn contains(&self, number: u32) -> bool
         ensures { result ≡ list_any (λ n. n == number) self.now }

@@ -4,12 +4,14 @@ ghost use Rattle.std.specs.Prelude.{◌≡◌, ◌≤◌, ◌<◌, ◌==◌, ◌
 ghost use Rattle.nc_types.specs.Cidr.{Cidr};
 ghost use Rattle.nc_types.specs.declared.TheConstants.{MULTIPATH_LIMIT};
 ghost use Rattle.nc_tables.specs.Base.{same_prefix};
-ghost use Rattle.nc_tables.specs.LocRibs.{choices_view, row_before, rows_by, AreChosen, Ascend, AreChoices, IsNumbered};
+ghost use Rattle.nc_tables.specs.LocRibs.{row_before, rows_by, AreChosen, Ascend, AreChoices, IsNumbered};
 ghost use Rattle.nc_tables.specs.Rounds.{bgp_row_view, chosen_at, has_longer, AreBgpRows};
 
-use crate::bgp::{BgpRow, Chosen};
+use crate::bgp::BgpRow;
 use crate::inside::is_longer_in;
 use crate::longest::rows_at;
+use crate::rib_entries::RibEntries;
+use crate::rib_entry::RibEntry;
 use crate::routes::BgpTable;
 use nc_types::{Prefix, RouterId};
 use std::alloc::{AllocError, Global};
@@ -29,46 +31,46 @@ pub struct Numbered {
 #[derive(Drop)]
 pub struct LocRibs {
     prefixes: Vec<Prefix>,
-    routers: Vec<Vec<Vec<Chosen>>>,
+    routers: Vec<Vec<RibEntries>>,
 }
 
 impl Model for LocRibs {
     ghost use Rattle.std.specs.Prelude.{map, All};
-    ghost use Rattle.nc_tables.specs.LocRibs.{choices_view, rows_by, Ascend, AreChoices, LocRibsView};
+    ghost use Rattle.nc_tables.specs.LocRibs.{rows_by, Ascend, AreChoices, LocRibsView};
 
     ghost Value = { LocRibsView };
 
     ghost view = { λ t. record {
       prefixes = t.prefixes.items;
-      rows = map (λ choices. rows_by t.prefixes.items (choices_view choices)) t.routers.items;
+      rows = map (λ choices. rows_by t.prefixes.items choices.items) t.routers.items;
     } };
 
     ghost invariant = { λ t. Ascend t.prefixes.items
-        × All (λ choices. AreChoices t.prefixes.items (choices_view choices)) t.routers.items };
+        × All (λ choices. AreChoices t.prefixes.items choices.items) t.routers.items };
 }
 
 // As many choices of nothing.
-fn no_choices(alloc: Global, count: usize) -> Result<Vec<Vec<Chosen>>, AllocError>
+fn no_choices(alloc: Global, count: usize) -> Result<Vec<RibEntries>, AllocError>
     ensures count { IfOk result (λ choices. length choices.items ≡ count) }
-    ensures none { IfOk result (λ choices. All (λ cs. cs.items ≡ []) choices.items) }
+    ensures none { IfOk result (λ choices. All (λ cs. cs ≡ []) choices.items) }
 {
     let mut choices = Vec::with_capacity(alloc, count)?;
     'prefixes: for _number in 0..count {
-        choices.push(Vec::new(alloc))?;
+        choices.push(RibEntries::none())?;
     }
     Ok(choices)
 }
 
 // What is chosen of the prefix of a number.
-fn choice_at(choices: &[Vec<Chosen>], number: usize) -> &[Chosen]
+fn choice_at(choices: &[RibEntries], number: usize) -> &[RibEntry]
     requires { number < length choices.now }
-    ensures { result.now ≡ slice_index_or (map (λ cs. cs.items) choices.now) number [] }
+    ensures { result.now ≡ slice_index_or choices.now number [] }
 {
-    &choices[number]
+    choices[number].as_slice()
 }
 
 // Sets what is chosen of the prefix of a number.
-fn set_choice(choices: &mut Vec<Vec<Chosen>>, number: usize, chosen: Vec<Chosen>)
+fn set_choice(choices: &mut Vec<RibEntries>, number: usize, chosen: RibEntries)
     requires { number < length choices.old.items }
     ensures { choices.new.items ≡ set choices.old.items number chosen }
 {
@@ -76,10 +78,10 @@ fn set_choice(choices: &mut Vec<Vec<Chosen>>, number: usize, chosen: Vec<Chosen>
 }
 
 // Whether something is chosen of a longer prefix inside another. Prefixes inside it follow it.
-fn has_chosen_inside(prefixes: &[Prefix], choices: &[Vec<Chosen>], outer: Prefix) -> bool
+fn has_chosen_inside(prefixes: &[Prefix], choices: &[RibEntries], outer: Prefix) -> bool
     requires ordered { Ascend prefixes.now }
     requires count { length choices.now ≡ length prefixes.now }
-    ensures { result ≡ has_longer (rows_by prefixes.now (map (λ cs. cs.items) choices.now)) outer }
+    ensures { result ≡ has_longer (rows_by prefixes.now choices.now) outer }
 {
     let _len = outer.len();
     let first = prefixes.partition_point(|prefix| *prefix <= outer);
@@ -95,9 +97,9 @@ fn has_chosen_inside(prefixes: &[Prefix], choices: &[Vec<Chosen>], outer: Prefix
 }
 
 // Adds the row of a prefix, where something is chosen of it.
-fn push_row(rows: &mut Vec<BgpRow>, prefix: Prefix, chosen: Vec<Chosen>) -> Result<(), AllocError>
+fn push_row(rows: &mut Vec<BgpRow>, prefix: Prefix, chosen: RibEntries) -> Result<(), AllocError>
     ensures { OnOk result (map bgp_row_view rows.new.items
-        ≡ map bgp_row_view rows.old.items ++ row_before prefix chosen.items []) }
+        ≡ map bgp_row_view rows.old.items ++ row_before prefix chosen []) }
 {
     if chosen.is_empty() {
         return Ok(());
@@ -110,12 +112,12 @@ fn push_row(rows: &mut Vec<BgpRow>, prefix: Prefix, chosen: Vec<Chosen>) -> Resu
 fn rows_of(
     alloc: Global,
     prefixes: &[Prefix],
-    choices: Vec<Vec<Chosen>>,
+    choices: Vec<RibEntries>,
 ) -> Result<Vec<BgpRow>, AllocError>
     requires ordered { Ascend prefixes.now }
-    requires choices { AreChoices prefixes.now (choices_view choices) }
+    requires choices { AreChoices prefixes.now choices.items }
     ensures rows { IfOk result
-        (λ rows. map bgp_row_view rows.items ≡ rows_by prefixes.now (choices_view choices)) }
+        (λ rows. map bgp_row_view rows.items ≡ rows_by prefixes.now choices.items) }
     ensures valid { IfOk result (λ rows. AreBgpRows (map bgp_row_view rows.items)) }
 {
     let mut rows = Vec::with_capacity(alloc, prefixes.len())?;
@@ -150,6 +152,14 @@ impl LocRibs {
         Ok(LocRibs { prefixes, routers })
     }
 
+    /// The prefixes in order: each stands at its number.
+    pub fn prefixes(&self) -> &[Prefix]
+        ensures prefixes { result.now ≡ self.now.prefixes }
+        ensures ordered { Ascend self.now.prefixes }
+    {
+        &self.prefixes
+    }
+
     /// A prefix with its number, by a binary search; `None` where it isn't among them.
     pub fn numbered(&self, prefix: Prefix) -> Option<Numbered>
         ensures number { IfSome result (IsNumbered self.now.prefixes) }
@@ -164,7 +174,7 @@ impl LocRibs {
 
     /// The chosen candidates of a prefix at a router, which has a number below that of the routers, best
     /// first; empty where nothing is chosen. Takes no memory.
-    pub fn chosen(&self, router: RouterId, of: Numbered) -> &[Chosen]
+    pub fn chosen(&self, router: RouterId, of: Numbered) -> &[RibEntry]
         requires router { router.0 < length self.now.rows }
         requires number { IsNumbered self.now.prefixes of }
         ensures chosen { result.now ≡ chosen_at self.now.rows router.0 of.prefix }
@@ -175,15 +185,15 @@ impl LocRibs {
 
     /// From now on this is chosen of a prefix at a router, which has a number below that of the routers: at
     /// most [`nc_types::MULTIPATH_LIMIT`] candidates, each of that prefix. All else stays.
-    pub fn put(&mut self, router: RouterId, of: Numbered, chosen: Vec<Chosen>)
+    pub fn put(&mut self, router: RouterId, of: Numbered, chosen: RibEntries)
         requires router { router.0 < length self.old.rows }
         requires number { IsNumbered self.old.prefixes of }
-        requires few { length chosen.items ≤ MULTIPATH_LIMIT }
-        requires own { All (λ x. x.route.prefix ≡ of.prefix) chosen.items }
+        requires few { length chosen ≤ MULTIPATH_LIMIT }
+        requires own { All (λ x. x.route.prefix ≡ of.prefix) chosen }
         ensures prefixes { self.new.prefixes ≡ self.old.prefixes }
         ensures count { length self.new.rows ≡ length self.old.rows }
         ensures put { (r : ℕ) (p : Cidr) → chosen_at self.new.rows r p
-            ≡ (if (r == router.0) && same_prefix of.prefix p then chosen.items
+            ≡ (if (r == router.0) && same_prefix of.prefix p then chosen
             else chosen_at self.old.rows r p) }
     {
         set_choice(&mut self.routers[router.0 as usize], of.number, chosen);

@@ -5,9 +5,10 @@ ghost use Rattle.std.specs.declared.cmp.Ordering.TheVariants.{Less, Equal, Great
 ghost use Rattle.nc_tables.specs.Base.{prefix_cmp, same_prefix};
 ghost use Rattle.nc_tables.specs.Rounds.{bgp_row_view, chosen_in, has_longer, AreBgpRows};
 
-use crate::bgp::{BgpRow, Chosen};
+use crate::bgp::BgpRow;
 use crate::inside;
 use crate::longest::{HasPrefix, rows_at};
+use crate::rib_entry::RibEntry;
 use nc_types::{Prefix, RouterId};
 use std::marker::Model;
 
@@ -84,7 +85,7 @@ impl BgpTable {
 
     /// The chosen candidates of a prefix at a router, which has a number below that of the routers, best
     /// first; empty exactly where the prefix has no row there. Takes no memory.
-    pub fn chosen(&self, router: RouterId, prefix: Prefix) -> &[Chosen]
+    pub fn chosen(&self, router: RouterId, prefix: Prefix) -> &[RibEntry]
         requires { router.0 < length self.now }
         ensures chosen { result.now ≡ chosen_in (slice_index_or self.now router.0 []) prefix }
         ensures some { nat_lt 0 (length result.now)
@@ -92,7 +93,7 @@ impl BgpTable {
     {
         let rows = self.rows(router);
         match place_of(rows, prefix) {
-            Ok(place) => &rows[place].chosen,
+            Ok(place) => rows[place].chosen.as_slice(),
             Err(_) => &[],
         }
     }

@@ -18,6 +18,12 @@ impl SystemBits {
         SystemBits { words: [0; 4] }
     }
 
+    // A number that the same bits have in common, and others mostly don't.
+    pub(crate) fn digest(&self) -> u64 {
+        let [first, second, third, fourth] = self.words;
+        first ^ second.rotate_left(13) ^ third.rotate_left(29) ^ fourth.rotate_left(43)
+    }
+
     // Whether the bit of a number is set.
     pub(crate) fn has(&self, number: u32) -> bool
         ensures { result ≡ has_bit self.now number }

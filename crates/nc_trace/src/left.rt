@@ -68,7 +68,7 @@ pub(crate) fn bgp_hop(state: &Stable, router: RouterId, prefix: Prefix, place: u
         ≡ option_map (λ x. x.route.next_hop.0) (slice_get (chosen_at state.now.bgp router.0 prefix) place) }
 {
     let chosen = state.bgp().chosen(router, prefix).get(place as usize)?;
-    Some(chosen.route.next_hop)
+    Some(chosen.next_hop())
 }
 
 // The base rows of the longest prefix that covers an address, those that discard among them.

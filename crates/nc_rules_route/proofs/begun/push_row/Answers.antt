@@ -2,6 +2,7 @@ use Rattle.std.proofs.Common.{◌≡◌, ℕ, ◌+◌, ◌-◌, true, ◌++◌, 
 use Rattle.std.specs.List.{range_with_len}
 use Rattle.nc_fact.specs.declared.fact.Fact.TheVariants.{Chosen}
 use Rattle.nc_rules_route.proofs.Ranges.{made_between, made_more, taken, each_kept}
+use Rattle.nc_tables.specs.declared.bgp.Chosen.{Chosen as ChosenRoute}
 use Rattle.nc_rules_route.proofs.begun.push_row.Goals as goal
 
 pub places-preserved : goal.places-preserved
@@ -15,5 +16,5 @@ places-preserved c =
 pub returns-clause-ok : goal.returns-clause-ok
 returns-clause-ok c =
     let route = Chosen c.args.router c.args.row.now.prefix in
-    let last : c.places.place - 0 ≡ length c.args.row.now.chosen.items = omega arith in
+    let last : c.places.place - 0 ≡ length c.args.row.now.chosen = omega (arith, ap (length {A = ChosenRoute}) c.as_slice-place-end.ensures) in
     c.places.invariant ∙ ap (λ ks. c.args.into.now.items ++ map route ks) (each_kept 0 (c.places.place - 0) ∙ ap (λ (n : ℕ). range_with_len 0 n) last)

@@ -1,10 +1,9 @@
-use Rattle.std.proofs.Common.{◌≡◌, ◌<◌, List, Vec, Global, Some, false, length, map, slice_get, refl, sym, ap, ◌∙◌, arith, rules, inl, inr}
+use Rattle.std.proofs.Common.{◌≡◌, ◌<◌, List, Some, false, length, slice_get, refl, sym, ap, ◌∙◌, arith, rules, inl, inr}
 use Rattle.std.specs.Ordering.{is_le}
 use Rattle.std.proofs.lemmas.List.Sorted.{IsPartitionPoint-from_clause}
-use Rattle.std.proofs.lemmas.Option.{slice_get_read, slice_get_within, slice_get-map, same_Some}
+use Rattle.std.proofs.lemmas.Option.{slice_get_read, slice_get_within, same_Some}
 use Rattle.std.proofs.lemmas.Bool.{cases_lt}
 use Rattle.std.proofs.lemmas.Grind.{common_steps}
-use Rattle.std.specs.Option.{option_map}
 use Rattle.nc_types.specs.Cidr.{Cidr}
 use Rattle.nc_tables.specs.declared.bgp.Chosen.{Chosen}
 use Rattle.nc_tables.specs.Base.{prefix_cmp}
@@ -13,13 +12,10 @@ use Rattle.nc_tables.proofs.Choices.{ascend_rises, beyond, none_upto, one_longer
 use Rattle.nc_tables.proofs.SideBySide.{upto_first}
 use Rattle.nc_tables.proofs.ribs.has_chosen_inside.Goals as goal
 
-abbrev items : Vec Chosen Global → List Chosen
-items cs = cs.items
-
 pub returns-then-not-is_longer_in : goal.returns-then-not-is_longer_in
 returns-then-not-is_longer_in c =
     let ps = c.args.prefixes.now in
-    let css = map items c.args.choices.now in
+    let css = c.args.choices.now in
     let outer = c.args.outer in
     let first = c.partition_point-first.result in
     let point = IsPartitionPoint-from_clause (λ (p : Cidr). is_le (prefix_cmp p outer)) ps first c.partition_point-first.ensures.partitioned (upto_first (λ (p : Cidr). p) ps (ascend_rises ps c.requires.ordered) outer) (λ a r q k. search rules) in
@@ -33,17 +29,16 @@ returns-then-not-is_longer_in c =
 pub returns-then-not-is_empty : goal.returns-then-not-is_empty
 returns-then-not-is_empty c =
     let ps = c.args.prefixes.now in
-    let choices = c.args.choices.now in
-    let css = map items choices in
+    let css = c.args.choices.now in
     let number = c.prefixes.number in
     let f = c.index-prefixes-number.result in
     let cs = c.index-choices-number.result in
     let lt : number < length ps = omega arith in
-    let within : number < length choices = omega (arith, c.requires.count) in
+    let within : number < length css = omega (arith, c.requires.count) in
     let at : slice_get ps number ≡ Some f = slice_get_read ps (length ps) number f refl lt c.index-prefixes-number.is in
-    let there : slice_get css number ≡ Some cs.items = slice_get-map items choices number ∙ ap (option_map items) (slice_get_read choices (length choices) number cs refl within c.index-choices-number.is) in
-    let some : 0 < length cs.items = grind (arith, common_steps) in
-    sym (one_longer ps css c.args.outer number f cs.items at there some (sym c.is_longer_in.ensures.longer ∙ c.if-not-is_longer_in.false))
+    let there : slice_get css number ≡ Some cs = slice_get_read css (length css) number cs refl within c.index-choices-number.is in
+    let some : 0 < length cs = grind (arith, common_steps) in
+    sym (one_longer ps css c.args.outer number f cs at there some (sym c.is_longer_in.ensures.longer ∙ c.if-not-is_longer_in.false))
 
 pub prefixes-preserved : goal.prefixes-preserved
 prefixes-preserved c k cs from upto at = elim (cases_lt k c.prefixes.number) [
@@ -53,16 +48,16 @@ prefixes-preserved c k cs from upto at = elim (cases_lt k c.prefixes.number) [
       let here = c.index-choices-number.result in
       let same : k ≡ c.prefixes.number = omega arith in
       let within : c.prefixes.number < length choices = omega (arith, c.requires.count) in
-      let there : slice_get (map items choices) c.prefixes.number ≡ Some here.items = slice_get-map items choices c.prefixes.number ∙ ap (option_map items) (slice_get_read choices (length choices) c.prefixes.number here refl within c.index-choices-number.is) in
-      let is : cs ≡ here.items = same_Some cs here.items (sym at ∙ ap (slice_get (map items choices)) same ∙ there) in
-      let none : length here.items ≡ 0 = grind (arith, common_steps) in
+      let there : slice_get choices c.prefixes.number ≡ Some here = slice_get_read choices (length choices) c.prefixes.number here refl within c.index-choices-number.is in
+      let is : cs ≡ here = same_Some cs here (sym at ∙ ap (slice_get choices) same ∙ there) in
+      let none : length here ≡ 0 = grind (arith, common_steps) in
       ap (length {A = Chosen}) is ∙ none
 ]
 
 pub returns : goal.returns
 returns c =
     let ps = c.args.prefixes.now in
-    let css = map items c.args.choices.now in
+    let css = c.args.choices.now in
     let outer = c.args.outer in
     let first = c.partition_point-first.result in
     let point = IsPartitionPoint-from_clause (λ (p : Cidr). is_le (prefix_cmp p outer)) ps first c.partition_point-first.ensures.partitioned (upto_first (λ (p : Cidr). p) ps (ascend_rises ps c.requires.ordered) outer) (λ a r q k. search rules) in

@@ -5,5 +5,5 @@ use Rattle.nc_tables.proofs.ribs.no_choices.Given as goal
 abbrev pub invariant-prefixes : goal.invariant-prefixes
 invariant-prefixes l = record {
   count : length l.choices.items ≡ l._number;
-  none : All (λ cs. cs.items ≡ []) l.choices.items;
+  none : All (λ cs. cs ≡ []) l.choices.items;
 }

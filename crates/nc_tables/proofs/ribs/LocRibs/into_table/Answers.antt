@@ -5,20 +5,20 @@ use Rattle.std.proofs.lemmas.List.Elements.{All-head, All-tail, All-push}
 use Rattle.nc_types.specs.Cidr.{Cidr}
 use Rattle.nc_tables.specs.declared.bgp.BgpRow.{BgpRow}
 use Rattle.nc_tables.specs.declared.bgp.Chosen.{Chosen}
-use Rattle.nc_tables.specs.LocRibs.{choices_view, rows_by, AreChoices}
+use Rattle.nc_tables.specs.LocRibs.{rows_by, AreChoices}
 use Rattle.nc_tables.specs.Rounds.{BgpRowView, bgp_row_view, AreBgpRows}
 use Rattle.nc_tables.proofs.Choices.{routers_more}
 use Rattle.nc_tables.proofs.ribs.LocRibs.into_table.Goals as goal
 
 abbrev Table : Type 0
-Table = Vec (Vec Chosen Global) Global
+Table = Vec (List Chosen) Global
 
 pub rows_of-requires-clause-choices : goal.rows_of-requires-clause-choices
 rows_of-requires-clause-choices c =
     let ps = c.self.inside.prefixes.items in
     let rest = into_iter_items c.next.new.self in
-    subst (λ (l : List Cidr). AreChoices l (choices_view c.in-Some.choices)) (sym c.deref.ensures.value)
-    (All-head (λ (t : Table). AreChoices ps (choices_view t)) c.in-Some.choices rest (subst (All (λ (t : Table). AreChoices ps (choices_view t))) c.in-Some.ensures.items c.routers.invariant.left))
+    subst (λ (l : List Cidr). AreChoices l c.in-Some.choices.items) (sym c.deref.ensures.value)
+    (All-head (λ (t : Table). AreChoices ps t.items) c.in-Some.choices rest (subst (All (λ (t : Table). AreChoices ps t.items)) c.in-Some.ensures.items c.routers.invariant.left))
 
 pub routers-preserved : goal.routers-preserved
 routers-preserved c =
@@ -32,7 +32,7 @@ routers-preserved c =
       ordered = c.routers.invariant.ordered;
       rows = routers_more ps (map view made) (map view c.push.new.self.items) c.args.self.rows (into_iter_items c.routers.left) rest x (view rows) c.in-Some.ensures.items
           (ap (map view) c.in_ok-push.ensures.items ∙ map_push view made rows)
-          (c.in_ok-rows_of.ensures.rows ∙ ap (λ (l : List Cidr). rows_by l (choices_view x)) c.deref.ensures.value) c.routers.invariant.rows;
+          (c.in_ok-rows_of.ensures.rows ∙ ap (λ (l : List Cidr). rows_by l x.items) c.deref.ensures.value) c.routers.invariant.rows;
       valid = subst (All (λ (r : Vec BgpRow Global). AreBgpRows (view r))) (sym c.in_ok-push.ensures.items) (All-push (λ (r : Vec BgpRow Global). AreBgpRows (view r)) made rows c.routers.invariant.valid c.in_ok-rows_of.ensures.valid);
-      left = All-tail (λ (t : Table). AreChoices ps (choices_view t)) x rest (subst (All (λ (t : Table). AreChoices ps (choices_view t))) c.in-Some.ensures.items c.routers.invariant.left);
+      left = All-tail (λ (t : Table). AreChoices ps t.items) x rest (subst (All (λ (t : Table). AreChoices ps t.items)) c.in-Some.ensures.items c.routers.invariant.left);
     }

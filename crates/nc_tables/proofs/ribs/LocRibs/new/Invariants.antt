@@ -6,5 +6,5 @@ abbrev pub invariant-routers : goal.invariant-routers
 invariant-routers l = record {
   count : length l.routers.items ≡ l._router;
   each : All (λ choices. length choices.items ≡ length l.prefixes.items) l.routers.items;
-  none : All (λ choices. All (λ cs. cs.items ≡ []) choices.items) l.routers.items;
+  none : All (λ choices. All (λ cs. cs ≡ []) choices.items) l.routers.items;
 }

@@ -1,0 +1,274 @@
+//! Entries of a Loc-RIB, which share what their candidates have in common.
+
+ghost use Rattle.std.specs.Prelude.{◌≡◌, ◌↔◌, IfOk, IfSome, IsTrue};
+ghost use Rattle.nc_tables.specs.RibEntryView.{entry_of};
+
+use crate::bgp::{BgpFrom, Chosen, Route};
+use crate::path::Path;
+use nc_types::{Addr, Communities, OriginCode, Prefix};
+use std::alloc::{AllocError, Global};
+use std::marker::Model;
+use std::rc::Rc;
+
+// How many blocks of attributes are remembered: more than a router mostly learns anew in one round.
+const RECENT: usize = 1024;
+
+// Where a candidate comes from.
+#[derive(Clone, Copy, PartialEq, Eq)]
+struct Source {
+    from: BgpFrom,
+    sender_id: Addr,
+    sender: Addr,
+    origin: OriginCode,
+    internal: bool,
+}
+
+// What candidates of several prefixes may have in common, all but the prefix: mostly those that a
+// router learns in one message (RFC 4271, section 4.3).
+#[derive(Drop)]
+struct Attributes {
+    path: Path,
+    communities: Communities,
+    next_hop: Addr,
+    preference: u32,
+    metric: u32,
+    source: Source,
+}
+
+impl Attributes {
+    // Those of a candidate, beside its prefix.
+    fn of(chosen: Chosen) -> (Prefix, Attributes)
+        ensures { entry_of result.0 result.1 ≡ chosen }
+    {
+        let Chosen {
+            route,
+            from,
+            internal,
+            sender_id,
+            sender,
+        } = chosen;
+        let Route {
+            prefix,
+            path,
+            next_hop,
+            preference,
+            metric,
+            origin,
+            communities,
+        } = route;
+        let source = Source {
+            from,
+            sender_id,
+            sender,
+            origin,
+            internal,
+        };
+        let attributes = Attributes {
+            path,
+            communities,
+            next_hop,
+            preference,
+            metric,
+            source,
+        };
+        (prefix, attributes)
+    }
+
+    // Whether others are the same.
+    fn are_same(&self, other: &Attributes) -> bool
+        ensures { IsTrue result ↔ (self.now ≡ other.now) }
+    {
+        self.source == other.source
+            && self.next_hop == other.next_hop
+            && self.preference == other.preference
+            && self.metric == other.metric
+            && self.path.is_same(&other.path)
+            && self.communities.numbers() == other.communities.numbers()
+    }
+
+    // Where they are remembered: by the path and by where they come from.
+    fn place(&self) -> usize {
+        let from = match self.source.from {
+            BgpFrom::Origin(place) => place,
+            BgpFrom::Aggregate(place) => place,
+            BgpFrom::Entry(place) => place,
+        };
+        let mixed = (self.path.digest() ^ u64::from(from)).wrapping_mul(0x9e37_79b9_7f4a_7c15);
+        (mixed >> 54) as usize
+    }
+}
+
+/// An entry of a Loc-RIB (RFC 4271, section 3.2): a candidate for a prefix that was chosen. It has 16
+/// bytes beside the block of what it may share with entries of other prefixes.
+#[derive(Drop)]
+pub struct RibEntry {
+    prefix: Prefix,
+    attributes: Rc<Attributes>,
+}
+
+impl Model for RibEntry {
+    ghost use Rattle.nc_tables.specs.declared.bgp.Chosen.{Chosen};
+    ghost use Rattle.nc_tables.specs.RibEntryView.{entry_of};
+
+    ghost Value = { Chosen };
+
+    ghost view = { λ e. entry_of e.prefix e.attributes.value };
+}
+
+impl RibEntry {
+    /// The entry of a candidate, which shares nothing.
+    ///
+    /// # Errors
+    ///
+    /// Memory that runs out.
+    pub fn new(alloc: Global, chosen: Chosen) -> Result<RibEntry, AllocError>
+        ensures { IfOk result (λ entry. entry ≡ chosen) }
+    {
+        let (prefix, made) = Attributes::of(chosen);
+        let attributes = Rc::new(alloc, made)?;
+        Ok(RibEntry { prefix, attributes })
+    }
+
+    /// The prefix.
+    pub fn prefix(&self) -> Prefix
+        ensures { result ≡ self.now.route.prefix }
+    {
+        self.prefix
+    }
+
+    /// The autonomous systems through which it came.
+    pub fn path(&self) -> &Path
+        ensures { result.now ≡ self.now.route.path }
+    {
+        &self.attributes.path
+    }
+
+    /// The address to which packets are sent.
+    pub fn next_hop(&self) -> Addr
+        ensures { result ≡ self.now.route.next_hop }
+    {
+        self.attributes.next_hop
+    }
+
+    /// The local preference: the higher one is preferred.
+    pub fn preference(&self) -> u32
+        ensures { result ≡ self.now.route.preference }
+    {
+        self.attributes.preference
+    }
+
+    /// The multi-exit discriminator: the lower one is preferred.
+    pub fn metric(&self) -> u32
+        ensures { result ≡ self.now.route.metric }
+    {
+        self.attributes.metric
+    }
+
+    /// How its sender says that it came to be.
+    pub fn origin(&self) -> OriginCode
+        ensures { result ≡ self.now.route.origin }
+    {
+        self.attributes.source.origin
+    }
+
+    /// The communities that it carries.
+    pub fn communities(&self) -> &Communities
+        ensures { result.now ≡ self.now.route.communities }
+    {
+        &self.attributes.communities
+    }
+
+    /// The statement of the process that it comes from.
+    pub fn from(&self) -> BgpFrom
+        ensures { result ≡ self.now.from }
+    {
+        self.attributes.source.from
+    }
+
+    /// Whether it was learnt from a router of the same autonomous system.
+    pub fn is_internal(&self) -> bool
+        ensures { result ≡ self.now.internal }
+    {
+        self.attributes.source.internal
+    }
+
+    /// The router id of its sender; 0.0.0.0 where it wasn't learnt.
+    pub fn sender_id(&self) -> Addr
+        ensures { result ≡ self.now.sender_id }
+    {
+        self.attributes.source.sender_id
+    }
+
+    /// The address of its sender; 0.0.0.0 where it wasn't learnt.
+    pub fn sender(&self) -> Addr
+        ensures { result ≡ self.now.sender }
+    {
+        self.attributes.source.sender
+    }
+
+    /// Whether another entry is of the same candidate.
+    pub fn is_same(&self, other: &RibEntry) -> bool
+        ensures { IsTrue result ↔ (self.now ≡ other.now) }
+    {
+        self.prefix == other.prefix && self.attributes.are_same(&other.attributes)
+    }
+}
+
+/// What candidates had in common that were chosen lately: 1,024 blocks at most, each at a place that its
+/// path tells. It saves memory alone, and no answer depends on it.
+#[derive(Drop)]
+pub struct RecentAttributes {
+    blocks: Vec<Option<Rc<Attributes>>>,
+}
+
+impl RecentAttributes {
+    /// None so far.
+    ///
+    /// # Errors
+    ///
+    /// Memory that runs out.
+    pub fn new(alloc: Global) -> Result<RecentAttributes, AllocError> {
+        let mut blocks = Vec::with_capacity(alloc, RECENT)?;
+        'places: for _place in 0..RECENT {
+            blocks.push(None)?;
+        }
+        Ok(RecentAttributes { blocks })
+    }
+
+    // The block that is remembered of the same attributes.
+    fn like(&self, attributes: &Attributes) -> Option<&Rc<Attributes>>
+        ensures { IfSome result (λ known. known.now.value ≡ attributes.now) }
+    {
+        let known = self.blocks.get(attributes.place())?.as_ref()?;
+        if known.are_same(attributes) {
+            return Some(known);
+        }
+        None
+    }
+
+    // Remembers a block in place of the one that stands at its place.
+    fn remember(&mut self, attributes: &Rc<Attributes>) -> Result<(), AllocError> {
+        if let Some(block) = self.blocks.get_mut(attributes.place()) {
+            *block = Some(attributes.clone()?);
+        }
+        Ok(())
+    }
+
+    /// The entry of a candidate, which shares the block of a recent one that was the same but for its prefix.
+    ///
+    /// # Errors
+    ///
+    /// Memory that runs out.
+    pub fn entry(&mut self, alloc: Global, chosen: Chosen) -> Result<RibEntry, AllocError>
+        ensures { IfOk result (λ entry. entry ≡ chosen) }
+    {
+        let (prefix, made) = Attributes::of(chosen);
+        if let Some(known) = self.like(&made) {
+            let attributes = known.clone()?;
+            return Ok(RibEntry { prefix, attributes });
+        }
+        let attributes = Rc::new(alloc, made)?;
+        self.remember(&attributes)?;
+        Ok(RibEntry { prefix, attributes })
+    }
+}
