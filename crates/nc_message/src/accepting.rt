@@ -22,7 +22,7 @@ use crate::messages::{
 use crate::rows::is_own;
 use nc_policy::Passing;
 use nc_sessions::Link;
-use nc_tables::{BgpFrom, BgpTable, Chosen};
+use nc_tables::{BgpFrom, BgpTable, RibEntry};
 use nc_types::{Addr, Prefix, RouterId};
 use nc_underlay::has_hit;
 
@@ -57,10 +57,10 @@ fn has_own_sender(link: &Link) -> bool
 
 /// Whether the path of a peer's candidate holds the receiver's own system. What is sent of it holds
 /// it too, and isn't accepted (RFC 4271, 9.1.2): no map is asked about it.
-pub(crate) fn holds_receiver(link: &Link, best: &Chosen) -> bool
+pub(crate) fn holds_receiver(link: &Link, best: &RibEntry) -> bool
     ensures { result ≡ list_any (λ n. n == link.now.receiver.process.now.asn) best.now.route.path }
 {
-    best.route.path.contains(link.receiver.process.asn)
+    best.path().contains(link.receiver.process.asn)
 }
 
 // Whether the path of a message holds the receiver's own system, that of the peer's candidate doesn't.
@@ -104,9 +104,9 @@ pub(crate) fn hop_of(sent: &AdvertisedRoute) -> Addr
     let link = sent.link;
     let is_kept = link.session.internal
         && !link.sender.statement.self_hop
-        && is_learnt(sent.best.from);
+        && is_learnt(sent.best.from());
     if is_kept {
-        sent.best.route.next_hop
+        sent.best.next_hop()
     } else {
         link.source
     }
@@ -170,7 +170,7 @@ pub(crate) fn passed_into<'a>(
     let Some(_reference) = map else {
         return Some(Passing::Unchanged);
     };
-    let prefix = sent.best.route.prefix;
+    let prefix = sent.best.prefix();
     let count = sent_length(link.session.internal, sent.best, &sent.out);
     let held = carried(sent);
     let into = inputs
@@ -214,7 +214,7 @@ pub fn accepted_over<'a>(
     inputs: &RoutingInputs<'a>,
     router: RouterId,
     adjacency: Adjacency<'a>,
-    best: &'a Chosen,
+    best: &'a RibEntry,
 ) -> Option<AcceptedRoute<'a>>
     requires inputs { AreRoutingInputs inputs.now }
     requires between { IsBetween inputs.now.network.now router.0 (link_view adjacency.link) }

@@ -19,12 +19,12 @@ use crate::peerings::Peerings;
 use crate::rows::best_of;
 use nc_select::preference_cmp;
 use nc_sessions::Link;
-use nc_tables::{Chosen, LocRibs, Numbered};
+use nc_tables::{LocRibs, Numbered, RibEntry};
 use nc_types::{Neighbor, RouterId};
 
 // Whether the best so far beats what may be learnt of a peer's candidate, whatever the maps on its
 // way: then no map runs.
-fn is_outranked_by(best: &Option<FeasibleRoute<'_>>, link: &Link<'_>, sent: &Chosen) -> bool
+fn is_outranked_by(best: &Option<FeasibleRoute<'_>>, link: &Link<'_>, sent: &RibEntry) -> bool
     ensures { result ≡ true → MatchOption best.now (false ≡ true)
         (λ b. IsOutranked b (link_view link.now) sent.now) }
 {

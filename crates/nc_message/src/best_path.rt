@@ -1,6 +1,6 @@
 //! What neighbors say now, that may change what is chosen.
 
-ghost use Rattle.std.specs.Prelude.{◌≡◌, ◌<◌, ◌++◌, All, filter, length, map, not, true, OnOk};
+ghost use Rattle.std.specs.Prelude.{◌≡◌, ◌<◌, ◌++◌, All, filter, length, not, true, OnOk};
 ghost use Rattle.std.specs.List.{list_any};
 ghost use Rattle.std.specs.Option.{option_map_or};
 ghost use Rattle.nc_types.specs.Config.{process_view};
@@ -19,8 +19,8 @@ use crate::inputs::{RoutingInputs, peering_of};
 use crate::rows::best_of;
 use nc_select::{Candidate, is_equal_to, preference_cmp};
 use nc_sessions::Link;
-use nc_tables::{BgpFrom, Chosen, LocRibs, Numbered};
-use nc_types::{DEFAULT_PREFERENCE, Prefix, Process, RouterId};
+use nc_tables::{BgpFrom, LocRibs, Numbered, RibEntry};
+use nc_types::{DEFAULT_PREFERENCE, Process, RouterId};
 use std::alloc::AllocError;
 
 // Whether a candidate was learnt by the neighbor statement at a place.
@@ -35,12 +35,12 @@ fn is_from(place: u32, from: BgpFrom) -> bool
 }
 
 // Whether one of some candidates was learnt by the neighbor statement at a place.
-fn has_from(chosen: &[Chosen], place: u32) -> bool
+fn has_from(chosen: &[RibEntry], place: u32) -> bool
     ensures { result ≡ list_any (λ x. is_from place x.from) chosen.now }
 {
     chosen
         .iter()
-        .any(|candidate| is_from(place, candidate.from))
+        .any(|candidate| is_from(place, candidate.from()))
 }
 
 // Whether a candidate was learnt.
@@ -52,13 +52,13 @@ fn is_learnt(from: BgpFrom) -> bool
 
 /// Whether the best candidate that stands beats what may be learnt of a peer's candidate, whatever
 /// the maps on its way: by its path alone.
-pub(crate) fn is_outranked<C: Candidate>(best: &C, link: &Link<'_>, sent: &Chosen) -> bool
+pub(crate) fn is_outranked<C: Candidate>(best: &C, link: &Link<'_>, sent: &RibEntry) -> bool
     ensures { result ≡ true → IsOutranked (C.candidate_of best.now) (link_view link.now) sent.now }
 {
     if link.session.internal || link.receiver.statement.map_in.is_some() {
         return false;
     }
-    if sent.route.path.len() < best.path_length() {
+    if sent.path().len() < best.path_length() {
         return false;
     }
     !is_learnt(best.from()) || best.preference() >= DEFAULT_PREFERENCE
@@ -66,7 +66,7 @@ pub(crate) fn is_outranked<C: Candidate>(best: &C, link: &Link<'_>, sent: &Chose
 
 // Whether the best candidate beats a feasible route: it is preferred, and the other isn't used
 // beside it.
-fn is_beaten(process: &Process, best: &Chosen, feasible: &FeasibleRoute<'_>) -> bool
+fn is_beaten(process: &Process, best: &RibEntry, feasible: &FeasibleRoute<'_>) -> bool
     ensures { result ≡ is_beaten (process_view process.now) best.now feasible.now }
 {
     let best = Compared::Standing(best);
@@ -88,7 +88,7 @@ fn cannot_win<'a>(
     router: RouterId,
     peering: &'a Peering<'a>,
     process: &Process,
-    best: &Chosen,
+    best: &RibEntry,
     of: &Numbered,
 ) -> bool
     requires inputs { AreRoutingInputs inputs.now }
@@ -159,7 +159,7 @@ fn leaves_best_path(
 ///
 /// Memory that runs out; no more of it is taken than the list needs.
 pub fn add_counting<'a>(
-    prefixes: &mut Vec<Prefix>,
+    noted: &mut Vec<Numbered>,
     inputs: &RoutingInputs<'a>,
     ribs: &'a LocRibs,
     router: RouterId,
@@ -170,9 +170,9 @@ pub fn add_counting<'a>(
     requires ribs { length ribs.now.rows ≡ length inputs.now.network.now }
     requires router { router.0 < length inputs.now.network.now }
     requires numbers { All (IsNumbered ribs.now.prefixes) changed.now }
-    ensures { OnOk result (prefixes.new.items ≡ prefixes.old.items
-        ++ filter (λ p. not (leaves_best_path inputs.now.network.now inputs.now.base.now
-        inputs.now.sessions.now ribs.now.rows router.0 place p)) (map (λ n. n.prefix) changed.now)) }
+    ensures { OnOk result (noted.new.items ≡ noted.old.items
+        ++ filter (λ n. not (leaves_best_path inputs.now.network.now inputs.now.base.now
+        inputs.now.sessions.now ribs.now.rows router.0 place n.prefix)) changed.now) }
 {
     if changed.is_empty() {
         return Ok(());
@@ -180,7 +180,7 @@ pub fn add_counting<'a>(
     let peering = peering_of(inputs, router, place);
     'changed: for of in changed {
         if !leaves_best_path(inputs, ribs, router, place, &peering, of) {
-            prefixes.push(of.prefix)?;
+            noted.push(*of)?;
         }
     }
     Ok(())

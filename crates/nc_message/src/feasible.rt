@@ -18,7 +18,7 @@ use crate::learnt::{Walk, learnt_from, length_of, metric_of, origin_of, preferen
 use crate::messages::{AdvertisedRoute, sent_out};
 use crate::rows::best_of;
 use nc_select::Candidate;
-use nc_tables::{BgpFrom, Chosen, LocRibs, Numbered, Path, Route};
+use nc_tables::{BgpFrom, Chosen, LocRibs, Numbered, Path, RibEntry, Route};
 use nc_types::{Addr, Communities, DEFAULT_PREFERENCE, OriginCode, Prefix, RouterId};
 use std::alloc::{AllocError, Global};
 use std::marker::Model;
@@ -205,7 +205,7 @@ pub(crate) fn feasible_over<'a>(
     inputs: &RoutingInputs<'a>,
     router: RouterId,
     peering: &'a Peering<'a>,
-    best: &'a Chosen,
+    best: &'a RibEntry,
 ) -> Option<FeasibleRoute<'a>>
     requires inputs { AreRoutingInputs inputs.now }
     requires peering { IsPeering inputs.now.network.now inputs.now.base.now

@@ -36,7 +36,7 @@ fn sent_path(alloc: Global, sent: &AdvertisedRoute) -> Result<Path, AllocError>
     requires short { length (message_view (advertised sent.now)).route.path ≤ PATH_LIMIT }
     ensures { IfOk result (λ path. path ≡ (message_view (advertised sent.now)).route.path) }
 {
-    let own = sent.best.route.path.share()?;
+    let own = sent.best.path().share()?;
     let path = behind_all(alloc, own, sent.out.prepended())?;
     let link = sent.link;
     if link.session.internal {
@@ -64,7 +64,7 @@ pub(crate) fn preference_of(taken: &LearntRoute) -> u32
     if sent.link.session.internal {
         taken
             .into
-            .preference(sent.out.preference(sent.best.route.preference))
+            .preference(sent.out.preference(sent.best.preference()))
     } else {
         taken.into.preference(DEFAULT_PREFERENCE)
     }
@@ -76,7 +76,7 @@ pub(crate) fn metric_of(taken: &LearntRoute) -> u32
 {
     let sent = &taken.sent;
     let before = if sent.link.session.internal {
-        sent.best.route.metric
+        sent.best.metric()
     } else {
         0
     };
@@ -88,7 +88,7 @@ pub(crate) fn origin_of(taken: &LearntRoute) -> OriginCode
     ensures { result ≡ (accepted_view (learnt_as taken.now)).into.route.origin }
 {
     let sent = &taken.sent;
-    taken.into.origin(sent.out.origin(sent.best.route.origin))
+    taken.into.origin(sent.out.origin(sent.best.origin()))
 }
 
 /// The router id of the sender of a message, which may be known.
@@ -144,7 +144,7 @@ pub(crate) fn learnt_from(
 {
     let link = taken.sent.link;
     let route = Route {
-        prefix: taken.sent.best.route.prefix,
+        prefix: taken.sent.best.prefix(),
         path: path_of(alloc, taken)?,
         next_hop: hop_of(&taken.sent),
         preference: preference_of(taken),
@@ -251,7 +251,7 @@ impl<'a> Walk<'a> {
             before: taken.into.prepended(),
             sender: outer_number(sent),
             behind: sent.out.prepended(),
-            own: sent.best.route.path.numbers(),
+            own: sent.best.path().numbers(),
         }
     }
 

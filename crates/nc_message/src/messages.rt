@@ -16,7 +16,7 @@ use crate::inputs::{RoutingInputs, adjacency_of};
 use nc_community::Held;
 use nc_policy::Passing;
 use nc_sessions::Link;
-use nc_tables::{BgpTable, Chosen, is_longer_in};
+use nc_tables::{BgpTable, RibEntry, is_longer_in};
 use nc_types::{PATH_LIMIT, Prefix, Process, RouterId};
 
 /// A message: over which session, of which candidate of the sender, and how the candidate passed
@@ -26,7 +26,7 @@ pub struct Advertisement<'a> {
     pub link: Link<'a>,
     /// What is known of the sender, where it was asked before.
     pub sender: Option<Sender>,
-    pub best: &'a Chosen,
+    pub best: &'a RibEntry,
     pub out: Passing<'a>,
 }
 
@@ -36,12 +36,12 @@ pub struct Advertisement<'a> {
 pub(crate) struct AdvertisedRoute<'a> {
     pub(crate) link: &'a Link<'a>,
     pub(crate) sender: Option<Sender>,
-    pub(crate) best: &'a Chosen,
+    pub(crate) best: &'a RibEntry,
     pub(crate) out: Passing<'a>,
 }
 
 // The best candidate that a router has chosen of a prefix.
-fn best_at(table: &BgpTable, router: RouterId, prefix: Prefix) -> Option<&Chosen>
+fn best_at(table: &BgpTable, router: RouterId, prefix: Prefix) -> Option<&RibEntry>
     requires { router.0 < length table.now }
     ensures best { option_map (λ b. b.now) result ≡ best_at table.now router.0 prefix }
     ensures own { IfSome result (λ b. b.now.route.prefix ≡ prefix) }
@@ -58,7 +58,7 @@ fn best_of_peer<'a>(
     router: RouterId,
     place: u32,
     prefix: Prefix,
-) -> Option<&'a Chosen>
+) -> Option<&'a RibEntry>
     requires inputs { AreRoutingInputs inputs.now }
     requires table { length table.now ≡ length inputs.now.network.now }
     ensures best { option_map (λ b. b.now) result
@@ -86,7 +86,11 @@ fn is_held_back(process: &Process, prefix: Prefix) -> bool
 }
 
 // How the best candidate passes the sender's statement for the receiver. Mostly there is no map.
-fn out_of<'a>(inputs: &RoutingInputs<'a>, link: &Link<'a>, best: &'a Chosen) -> Option<Passing<'a>>
+fn out_of<'a>(
+    inputs: &RoutingInputs<'a>,
+    link: &Link<'a>,
+    best: &'a RibEntry,
+) -> Option<Passing<'a>>
     requires inputs { AreRoutingInputs inputs.now }
     requires sender { slice_get inputs.now.network.now link.now.session.peer.0
         ≡ Some (link_view link.now).sender.config }
@@ -97,8 +101,8 @@ fn out_of<'a>(inputs: &RoutingInputs<'a>, link: &Link<'a>, best: &'a Chosen) -> 
     ensures few { IfSome result
         (λ p. length (communities_by p best.now.route.communities) ≤ COMMUNITY_LIMIT) }
 {
-    let held = Held::of(&best.route.communities);
-    let count = best.route.path.len();
+    let held = Held::of(best.communities());
+    let count = best.path().len();
     let map = &link.sender.statement.map_out;
     let Some(_reference) = map else {
         return Some(Passing::Unchanged);
@@ -106,17 +110,17 @@ fn out_of<'a>(inputs: &RoutingInputs<'a>, link: &Link<'a>, best: &'a Chosen) -> 
     let peer = link.session.peer;
     inputs
         .policies
-        .pass(inputs.network, peer, map, best.route.prefix, count, &held)
+        .pass(inputs.network, peer, map, best.prefix(), count, &held)
 }
 
 /// How many numbers the path has of a route as it is sent: toward another system the sender's own
 /// number goes before it.
-pub(crate) fn sent_length(internal: bool, best: &Chosen, out: &Passing) -> usize
+pub(crate) fn sent_length(internal: bool, best: &RibEntry, out: &Passing) -> usize
     requires { length (prepended_by out.now) + length best.now.route.path ≤ PATH_LIMIT }
     ensures { result ≡ (if internal then 0 else 1)
         + (length (prepended_by out.now) + length best.now.route.path) }
 {
-    let length = out.prepended().len() + best.route.path.len();
+    let length = out.prepended().len() + best.path().len();
     if internal { length } else { 1 + length }
 }
 
@@ -130,14 +134,15 @@ pub(crate) fn carried<'a>(sent: &AdvertisedRoute<'a>) -> Held<'a>
     if !link.sender.statement.send_community {
         return Held::none();
     }
-    sent.out.communities(&sent.best.route.communities)
+    let held = sent.best.communities();
+    sent.out.communities(held)
 }
 
 /// How the sender's best candidate passes its statement, where a message is sent of it over a session.
 pub(crate) fn sent_out<'a>(
     inputs: &RoutingInputs<'a>,
     link: &Link<'a>,
-    best: &'a Chosen,
+    best: &'a RibEntry,
 ) -> Option<Passing<'a>>
     requires inputs { AreRoutingInputs inputs.now }
     requires sender { slice_get inputs.now.network.now link.now.session.peer.0
@@ -149,10 +154,10 @@ pub(crate) fn sent_out<'a>(
     ensures few { IfSome result (λ p.
         length (message_by (link_view link.now) best.now p).route.communities ≤ COMMUNITY_LIMIT) }
 {
-    if is_held_back(link.sender.process, best.route.prefix) {
+    if is_held_back(link.sender.process, best.prefix()) {
         return None;
     }
-    if link.session.internal && best.internal {
+    if link.session.internal && best.is_internal() {
         return None;
     }
     let out = out_of(inputs, link, best)?;
@@ -166,7 +171,7 @@ pub(crate) fn sent_out<'a>(
 pub(crate) fn message_of<'a>(
     inputs: &RoutingInputs<'a>,
     adjacency: Adjacency<'a>,
-    best: &'a Chosen,
+    best: &'a RibEntry,
 ) -> Option<Advertisement<'a>>
     requires inputs { AreRoutingInputs inputs.now }
     requires sender { slice_get inputs.now.network.now adjacency.link.session.peer.0

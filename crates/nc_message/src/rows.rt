@@ -11,7 +11,7 @@ ghost use Rattle.nc_sessions.specs.Views.{link_view};
 ghost use Rattle.nc_message.specs.Inputs.{IsBetween};
 
 use nc_sessions::Link;
-use nc_tables::{BaseTables, Chosen, LocRibs, Numbered};
+use nc_tables::{BaseTables, LocRibs, Numbered, RibEntry};
 use nc_types::{Addr, Network, Prefix, RouterId};
 use nc_underlay::own_interface;
 
@@ -34,7 +34,7 @@ pub(crate) fn is_own(network: &Network, router: RouterId, link: &Link, addr: Add
 }
 
 /// The best candidate that a router has chosen of a prefix, while the network settles.
-pub(crate) fn best_of(ribs: &LocRibs, router: RouterId, of: Numbered) -> Option<&Chosen>
+pub(crate) fn best_of(ribs: &LocRibs, router: RouterId, of: Numbered) -> Option<&RibEntry>
     requires router { router.0 < length ribs.now.rows }
     requires number { IsNumbered ribs.now.prefixes of }
     ensures best { option_map (λ b. b.now) result ≡ best_at ribs.now.rows router.0 of.prefix }

@@ -23,7 +23,7 @@ key_total = then_total (on_total (λ (k : Key). k.0.0) nat_cmp_total) (on_total 
 abbrev pub same_key : Key → Key → Bool
 same_key a b = (a.0.0 == b.0.0) && same_prefix a.1 b.1
 
-pub prefix_equivalence : IsEquivalence same_prefix
+prefix_equivalence : IsEquivalence same_prefix
 prefix_equivalence = and_equiv (on_equiv (λ (p : Cidr). p.base) nat_eq_equiv) (on_equiv (λ (p : Cidr). p.len) nat_eq_equiv)
 
 key_equivalence : IsEquivalence same_key

@@ -1,11 +1,11 @@
 -- Lists: what is decided of their members, and pairs of what is made of their items.
-use Rattle.std.proofs.Common.{◌≡◌, ◌⊎◌, ℕ, ◌<◌, ◌≤◌, Bool, true, false, ◌||◌, List, [], ◌∷◌, length, map, get_or, All, Option, Some, None, refl, sym, ap, subst, ◌∙◌, arith, inl, inr}
+use Rattle.std.proofs.Common.{◌≡◌, ◌⊎◌, ℕ, ◌<◌, ◌≤◌, Bool, true, false, ◌||◌, List, [], ◌∷◌, ◌++◌, length, map, get_or, All, Option, Some, None, refl, sym, ap, subst, ◌∙◌, arith, inl, inr}
 use Rattle.std.specs.List.{AllPairs, cons_option, filter_map, flat_map, list_any, range_with_len}
 use Rattle.std.proofs.lemmas.Bool.{cases_lt}
 use Rattle.std.proofs.lemmas.List.{get_or_past}
 use Rattle.std.proofs.lemmas.List.Elements.{All-nil, All-cons, All-head, All-tail, All-get_or}
 use Rattle.std.proofs.lemmas.List.FromFn.{length-map-range_with_len, get_or-map-range_with_len}
-use Rattle.nc_types.proofs.Members.{In, in_left, in_right, some_passes, passes_some}
+use Rattle.nc_types.proofs.Members.{In, in_left, in_right, in_either, some_passes, passes_some, all_in, all_by_in}
 use Rattle.nc_tables.proofs.ByPrefix.{pairs_cons, pairs_head, pairs_tail}
 
 module _ {X : Type 0} where
@@ -72,6 +72,17 @@ module _ {X Y : Type 0} where
   pairs_over R f [] pairs = λ i j d less lt. absurd (omega arith)
   pairs_over R f (x ∷ xs) pairs =
       pairs_cons R (f x) (map f xs) (all_over (R (f x)) f xs (pairs_head (λ (a b : X). R (f a) (f b)) x xs pairs)) (pairs_over R f xs (pairs_tail (λ (a b : X). R (f a) (f b)) x xs pairs))
+
+-- and of pairs in two lists, each of the first with each of the second
+pub pairs_joined : {X : Type 0} (R : X → X → Type 0) (xs ys : List X) → AllPairs R xs → AllPairs R ys → ((x y : X) → In x xs → In y ys → R x y) → AllPairs R (xs ++ ys)
+pairs_joined R [] ys first last between = last
+pairs_joined R (x ∷ xs) ys first last between =
+    pairs_cons R x (xs ++ ys)
+    (all_by_in (R x) (xs ++ ys) (λ z i. elim (in_either xs ys z i) [
+      | inl j ↦ all_in (R x) xs (pairs_head R x xs first) z j
+      | inr j ↦ between x z (inl refl) j
+    ]))
+    (pairs_joined R xs ys (pairs_tail R x xs first) last (λ w z i j. between w z (inr i) j))
 
 -- whether a test passes something made of one of some items
 pub any_map : {X Y : Type 0} (test : Y → Bool) (f : X → Y) (xs : List X) → list_any test (map f xs) ≡ list_any (λ x. test (f x)) xs

@@ -17,14 +17,14 @@ pub record RowChange : Type 0 where
   pub chosen : List Chosen
 
 abbrev pub row_change : LocRibChange → RowChange
-row_change n = record { key = (n.router, n.of.prefix); chosen = n.chosen.items }
+row_change n = record { key = (n.router, n.of.prefix); chosen = n.chosen }
 
 -- the candidates are of the prefix, which has its number among these, and no more than are used at once; the router is one of so many
 pub record IsLocRibChange (count : ℕ) (prefixes : List Cidr) (n : LocRibChange) : Type 0 where
   pub router : n.router.0 < count
   pub number : IsNumbered prefixes n.of
-  pub own : All (λ x. x.route.prefix ≡ n.of.prefix) n.chosen.items
-  pub few : length n.chosen.items ≤ MULTIPATH_LIMIT
+  pub own : All (λ x. x.route.prefix ≡ n.of.prefix) n.chosen
+  pub few : length n.chosen ≤ MULTIPATH_LIMIT
 
 -- what is chosen anew of a row, if it differs
 abbrev pub change_at : RoutingInputs → List (List BgpRowView) → Key → Option RowChange

@@ -1,17 +1,22 @@
--- Rows that changed, by their router and by the numbers of their prefixes.
+-- Rows by their router and by the numbers of their prefixes.
 use Rattle.std.specs.Prelude.{List, All, map}
 use Rattle.std.specs.Global.{Vec}
 use Rattle.nc_types.specs.Cidr.{Cidr}
+use Rattle.nc_types.specs.declared.config.RouterId.{RouterId}
 use Rattle.nc_tables.specs.declared.ribs.Numbered.{Numbered}
 use Rattle.nc_tables.specs.LocRibs.{IsNumbered}
-use Rattle.nc_round.specs.declared.changed.ChangedRow.{ChangedRow}
+use Rattle.nc_round.specs.declared.changed.NumberedRow.{NumberedRow}
 use Rattle.nc_round.specs.Keys.{Key}
 
-abbrev pub row_key : ChangedRow → Key
+abbrev pub row_key : NumberedRow → Key
 row_key r = (r.router, r.of.prefix)
 
+-- the row of a numbered prefix at a router
+abbrev pub numbered_row : RouterId → Numbered → NumberedRow
+numbered_row router of = record { router = router; of = of }
+
 -- each under the number that its prefix has among these
-abbrev pub AreRows : List Cidr → List ChangedRow → Type 0
+abbrev pub AreRows : List Cidr → List NumberedRow → Type 0
 AreRows prefixes rows = All (λ r. IsNumbered prefixes r.of) rows
 
 -- the prefixes of numbered ones, and those of lists of them

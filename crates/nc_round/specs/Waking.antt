@@ -1,5 +1,5 @@
 -- Which rows may come from rows that changed, and which rows routers begin themselves.
-use Rattle.std.specs.Prelude.{◌≡◌, ◌⊎◌, ℕ, suc, true, false, not, ◌==◌, List, [], ◌∷◌, ◌++◌, map, filter, Contains, Some, None, slice_index_or, if◌then◌else◌}
+use Rattle.std.specs.Prelude.{◌≡◌, ◌⊎◌, ◌<◌, ℕ, suc, true, false, not, ◌==◌, List, [], ◌∷◌, ◌++◌, map, filter, All, Contains, Some, None, slice_index_or, if◌then◌else◌}
 use Rattle.std.specs.List.{filter_map, flat_map, list_any}
 use Rattle.std.specs.Option.{option_map_or}
 use Rattle.nc_types.specs.Cidr.{Cidr}
@@ -10,7 +10,9 @@ use Rattle.nc_tables.specs.Rounds.{BgpRowView, is_longer_in, prefixes_in}
 use Rattle.nc_tables.specs.Sessions.{process_of}
 use Rattle.nc_message.specs.BestPath.{leaves_best_path}
 use Rattle.nc_message.specs.declared.inputs.RoutingInputs.{RoutingInputs}
-use Rattle.nc_round.specs.Keys.{Key, key}
+use Rattle.nc_round.specs.declared.changed.NumberedRow.{NumberedRow}
+use Rattle.nc_round.specs.Keys.{Key, key, AreInOrder}
+use Rattle.nc_round.specs.Rows.{row_key, AreRows}
 
 -- the aggregates of a router
 abbrev pub aggregates_of : List ConfigView → ℕ → List AggregateStatement
@@ -50,6 +52,12 @@ abbrev pub woken_at : RoutingInputs → List (List BgpRowView) → List (List Ci
 woken_at i table lists router =
     flat_map (affected_over i table lists router) (slice_index_or i.sessions.now router [])
     ++ map (λ a. a.prefix) (filter (λ a. list_any (λ q. is_longer_in q a.prefix) (slice_index_or lists router [])) (aggregates_of i.network.now router))
+
+-- rows of routers below a number, in order, each under the number that its prefix has among these
+pub record AreWoken (number : ℕ) (prefixes : List Cidr) (rows : List NumberedRow) : Type 0 where
+  pub ordered : AreInOrder (map row_key rows)
+  pub below : All (λ k. k.0.0 < number) (map row_key rows)
+  pub numbers : AreRows prefixes rows
 
 -- the rows of the prefixes that routers begin themselves, the first of which has this number
 abbrev pub begun_from : ℕ → List ConfigView → List Key

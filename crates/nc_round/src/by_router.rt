@@ -6,13 +6,13 @@ ghost use Rattle.nc_tables.specs.LocRibs.{IsNumbered};
 ghost use Rattle.nc_round.specs.Rows.{listed, prefixes_of, row_key, AreListed, AreRows};
 ghost use Rattle.nc_round.specs.Waking.{changed_at};
 
-use crate::changed::ChangedRow;
+use crate::changed::NumberedRow;
 use nc_tables::Numbered;
 use nc_types::RouterId;
 use std::alloc::{AllocError, Global};
 
 // A row changed at a router, if there is such a router.
-fn add_at(lists: &mut Vec<Vec<Numbered>>, row: ChangedRow) -> Result<(), AllocError>
+fn add_at(lists: &mut Vec<Vec<Numbered>>, row: NumberedRow) -> Result<(), AllocError>
     ensures count { length lists.new.items ≡ length lists.old.items }
     ensures each { OnOk result ((r : ℕ) → r < length lists.old.items
         → slice_index_or (listed lists.new.items) r []
@@ -47,7 +47,7 @@ fn no_lists(alloc: Global, count: usize) -> Result<Vec<Vec<Numbered>>, AllocErro
 pub(crate) fn by_router(
     alloc: Global,
     count: usize,
-    changed: &[ChangedRow],
+    changed: &[NumberedRow],
 ) -> Result<Vec<Vec<Numbered>>, AllocError>
     ensures count { IfOk result (λ lists. length lists.items ≡ count) }
     ensures each { IfOk result (λ lists. (r : ℕ) → r < count

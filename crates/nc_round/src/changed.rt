@@ -1,9 +1,9 @@
 use nc_tables::Numbered;
 use nc_types::RouterId;
 
-/// A row that changed: that of a prefix at a router.
+/// A row: that of a prefix, under its number, at a router.
 #[derive(Clone, Copy)]
-pub struct ChangedRow {
+pub struct NumberedRow {
     pub router: RouterId,
     pub of: Numbered,
 }
@@ -12,5 +12,5 @@ pub struct ChangedRow {
 /// once.
 #[derive(Drop)]
 pub struct Changed {
-    pub rows: Vec<ChangedRow>,
+    pub rows: Vec<NumberedRow>,
 }

@@ -1,4 +1,4 @@
-use nc_tables::{Chosen, Numbered};
+use nc_tables::{Numbered, RibEntries};
 use nc_types::RouterId;
 
 /// What is chosen anew of a prefix at a router, where it differs.
@@ -6,5 +6,5 @@ use nc_types::RouterId;
 pub(crate) struct LocRibChange {
     pub(crate) router: RouterId,
     pub(crate) of: Numbered,
-    pub(crate) chosen: Vec<Chosen>,
+    pub(crate) chosen: RibEntries,
 }

@@ -5,30 +5,30 @@ ghost use Rattle.std.specs.List.{cons_option, filter_map};
 ghost use Rattle.nc_types.specs.Cidr.{Cidr};
 ghost use Rattle.nc_tables.specs.declared.bgp.Chosen.{Chosen};
 ghost use Rattle.nc_tables.specs.LocRibs.{IsNumbered};
-ghost use Rattle.nc_tables.specs.Rounds.{chosen_at, prefixes};
+ghost use Rattle.nc_tables.specs.Rounds.{chosen_at};
 ghost use Rattle.nc_message.specs.Inputs.{AreRoutingInputs};
 ghost use Rattle.nc_message.specs.Peerings.{AreNetworkPeerings, ArePeerings};
 ghost use Rattle.nc_round.specs.Next.{next};
 ghost use Rattle.nc_round.specs.Changes.{IsDifference};
 ghost use Rattle.nc_round.specs.Rows.{row_key, AreRows};
-ghost use Rattle.nc_round.specs.Renewing.{row_change, change_at, AreEnough, IsKnown, IsLocRibChange, IsCompletedBy};
+ghost use Rattle.nc_round.specs.Renewing.{row_change, change_at, AreEnough, IsLocRibChange, IsCompletedBy};
 
-use crate::changed::{Changed, ChangedRow};
+use crate::changed::{Changed, NumberedRow};
 use crate::loc_rib_change::LocRibChange;
 use nc_message::{NetworkPeerings, Peerings, RoutingInputs, chosen_anew};
-use nc_tables::{Chosen, LocRibs, Numbered, same_candidate};
-use nc_types::{Prefix, RouterId};
+use nc_tables::{LocRibs, Numbered, RecentAttributes, RibEntry};
+use nc_types::RouterId;
 use std::alloc::{AllocError, Global};
 
 // Whether the same is chosen, candidate by candidate.
-fn same_chosen(a: &[Chosen], b: &[Chosen]) -> bool
+fn same_chosen(a: &[RibEntry], b: &[RibEntry]) -> bool
     ensures { IsTrue result ↔ (a.now ≡ b.now) }
 {
     if a.len() != b.len() {
         return false;
     }
     'candidates: for place in 0..a.len() {
-        if !same_candidate(&a[place], &b[place]) {
+        if !a[place].is_same(&b[place]) {
             return false;
         }
     }
@@ -39,6 +39,7 @@ fn same_chosen(a: &[Chosen], b: &[Chosen]) -> bool
 fn add_of(
     alloc: Global,
     changes: &mut Vec<LocRibChange>,
+    recent: &mut RecentAttributes,
     inputs: RoutingInputs<'_>,
     peerings: &Peerings<'_>,
     ribs: &LocRibs,
@@ -56,8 +57,8 @@ fn add_of(
         ++ cons_option (change_at inputs.entry ribs.now.rows (router, of.now.prefix)) []) }
     ensures changes { All (IsLocRibChange (length inputs.entry.network.now) ribs.now.prefixes) changes.new.items }
 {
-    let chosen = chosen_anew(alloc, &inputs, peerings, ribs, router, of)?;
-    if same_chosen(&chosen, ribs.chosen(router, *of)) {
+    let chosen = chosen_anew(alloc, &inputs, peerings, ribs, router, of, recent)?;
+    if same_chosen(chosen.as_slice(), ribs.chosen(router, *of)) {
         return Ok(());
     }
     changes.push(LocRibChange {
@@ -68,63 +69,44 @@ fn add_of(
     Ok(())
 }
 
-// Adds what is chosen anew of a row, if it differs. Of a prefix that no router begins nothing is.
-fn add_row(
-    alloc: Global,
-    changes: &mut Vec<LocRibChange>,
-    inputs: RoutingInputs<'_>,
-    peerings: &Peerings<'_>,
-    ribs: &LocRibs,
-    row: (RouterId, Prefix),
-) -> Result<(), AllocError>
-    requires inputs { AreRoutingInputs inputs }
-    requires peerings { ArePeerings inputs.network.now inputs.base.now inputs.sessions.now
-        row.0.0 peerings.now }
-    requires ribs { length ribs.now.rows ≡ length inputs.network.now }
-    requires prefixes { ribs.now.prefixes ≡ prefixes inputs.network.now }
-    requires known { IsKnown inputs ribs.now.rows }
-    requires router { row.0.0 < length inputs.network.now }
-    requires changes { All (IsLocRibChange (length inputs.network.now) ribs.now.prefixes) changes.old.items }
-    ensures rows { OnOk result (map row_change changes.new.items ≡ map row_change changes.old.items
-        ++ cons_option (change_at inputs.entry ribs.now.rows row) []) }
-    ensures changes { All (IsLocRibChange (length inputs.entry.network.now) ribs.now.prefixes) changes.new.items }
-{
-    let (router, prefix) = row;
-    match ribs.numbered(prefix) {
-        Some(of) => add_of(alloc, changes, inputs, peerings, ribs, router, &of),
-        None => Ok(()),
-    }
-}
-
 // What is chosen anew of rows, of each that differs.
 fn changes_of(
     alloc: Global,
+    recent: &mut RecentAttributes,
     inputs: RoutingInputs<'_>,
     all: &NetworkPeerings<'_>,
     ribs: &LocRibs,
-    keys: &[(RouterId, Prefix)],
+    rows: &[NumberedRow],
 ) -> Result<Vec<LocRibChange>, AllocError>
     requires inputs { AreRoutingInputs inputs }
     requires all { AreNetworkPeerings inputs.network.now inputs.base.now inputs.sessions.now all.now }
     requires ribs { length ribs.now.rows ≡ length inputs.network.now }
-    requires prefixes { ribs.now.prefixes ≡ prefixes inputs.network.now }
-    requires known { IsKnown inputs ribs.now.rows }
-    requires keys { All (λ k. k.0.0 < length inputs.network.now) keys.now }
+    requires numbers { AreRows ribs.now.prefixes rows.now }
+    requires within { All (λ k. k.0.0 < length inputs.network.now) (map row_key rows.now) }
     ensures rows { IfOk result (λ changes. map row_change changes.items
-        ≡ filter_map (change_at inputs.entry ribs.now.rows) keys.now) }
+        ≡ filter_map (change_at inputs.entry ribs.now.rows) (map row_key rows.now)) }
     ensures changes { IfOk result
         (λ changes. All (IsLocRibChange (length inputs.entry.network.now) ribs.now.prefixes) changes.items) }
 {
-    let mut changes = Vec::with_capacity(alloc, keys.len())?;
-    'keys: for row in keys {
-        let peerings = all.get(row.0);
-        add_row(alloc, &mut changes, inputs, peerings, ribs, *row)?;
+    let mut changes = Vec::with_capacity(alloc, rows.len())?;
+    'rows: for row in rows {
+        let peerings = all.get(row.router);
+        add_of(
+            alloc,
+            &mut changes,
+            recent,
+            inputs,
+            peerings,
+            ribs,
+            row.router,
+            &row.of,
+        )?;
     }
     Ok(changes)
 }
 
 // Which rows these are.
-fn rows_of(alloc: Global, changes: &[LocRibChange]) -> Result<Vec<ChangedRow>, AllocError>
+fn rows_of(alloc: Global, changes: &[LocRibChange]) -> Result<Vec<NumberedRow>, AllocError>
     ensures keys { IfOk result
         (λ rows. map row_key rows.items ≡ map (λ n. (row_change n).key) changes.now) }
     ensures numbers { IfOk result (λ rows. (count : ℕ) (prefixes : List Cidr)
@@ -132,7 +114,7 @@ fn rows_of(alloc: Global, changes: &[LocRibChange]) -> Result<Vec<ChangedRow>, A
 {
     let mut rows = Vec::with_capacity(alloc, changes.len())?;
     'changes: for new in changes {
-        rows.push(ChangedRow {
+        rows.push(NumberedRow {
             router: new.router,
             of: new.of,
         })?;
@@ -158,22 +140,23 @@ fn put_all(ribs: &mut LocRibs, mut changes: Vec<LocRibChange>)
 /// others aren't visited.
 pub(crate) fn renew(
     alloc: Global,
+    recent: &mut RecentAttributes,
     inputs: RoutingInputs<'_>,
     all: &NetworkPeerings<'_>,
     mut ribs: LocRibs,
-    keys: &[(RouterId, Prefix)],
+    rows: &[NumberedRow],
 ) -> Result<(LocRibs, Changed), AllocError>
     requires inputs { AreRoutingInputs inputs }
     requires all { AreNetworkPeerings inputs.network.now inputs.base.now inputs.sessions.now all.now }
-    requires prefixes { ribs.prefixes ≡ prefixes inputs.network.now }
-    requires keys { AreEnough inputs ribs.rows keys.now }
+    requires rows { AreEnough inputs ribs.rows (map row_key rows.now) }
+    requires numbers { AreRows ribs.prefixes rows.now }
     ensures prefixes { IfOk result (λ r. r.0.prefixes ≡ ribs.prefixes) }
     ensures table { IfOk result (λ r. r.0.rows ≡ next inputs.entry ribs.rows) }
     ensures changed { IfOk result
         (λ r. IsDifference ribs.rows r.0.rows (map row_key r.1.rows.items)) }
     ensures numbers { IfOk result (λ r. AreRows ribs.prefixes r.1.rows.items) }
 {
-    let changes = changes_of(alloc, inputs, all, &ribs, keys)?;
+    let changes = changes_of(alloc, recent, inputs, all, &ribs, rows)?;
     let rows = rows_of(alloc, &changes)?;
     put_all(&mut ribs, changes);
     let _count = ribs.count();

@@ -1,4 +1,4 @@
-ghost use Rattle.std.specs.Prelude.{◌≡◌, List, IfOk, length, map};
+ghost use Rattle.std.specs.Prelude.{◌≡◌, ◌∷◌, ◌++◌, [], All, Contains, List, IfOk, OnOk, length, map};
 ghost use Rattle.nc_tables.specs.Rounds.{BgpRowView, no_routes, prefixes};
 ghost use Rattle.nc_message.specs.Inputs.{AreRoutingInputs};
 ghost use Rattle.nc_message.specs.Peerings.{AreNetworkPeerings};
@@ -7,12 +7,12 @@ ghost use Rattle.nc_round.specs.Keys.{Key};
 ghost use Rattle.nc_round.specs.Rows.{row_key, AreRows};
 ghost use Rattle.nc_round.specs.Changes.{IsDifference, IsRoundOf};
 
-use crate::changed::Changed;
+use crate::changed::{Changed, NumberedRow};
 use crate::renewal::renew;
 use crate::waking::{begun, begun_in_order, woken_in_order};
 use nc_main_rib::in_order;
 use nc_message::{NetworkPeerings, RoutingInputs};
-use nc_tables::LocRibs;
+use nc_tables::{LocRibs, RecentAttributes};
 use nc_types::{Network, Prefix, RouterId};
 use std::alloc::{AllocError, Global};
 
@@ -36,9 +36,46 @@ fn none_chosen(alloc: Global, network: &Network) -> Result<LocRibs, AllocError>
     Ok(ribs)
 }
 
+// Adds the row of a prefix, under its number, at a router.
+fn add_row(
+    rows: &mut Vec<NumberedRow>,
+    ribs: &LocRibs,
+    key: (RouterId, Prefix),
+) -> Result<(), AllocError>
+    requires known { Contains ribs.now.prefixes key.1 }
+    requires rows { AreRows ribs.now.prefixes rows.old.items }
+    ensures key { OnOk result (map row_key rows.new.items ≡ map row_key rows.old.items ++ key ∷ []) }
+    ensures numbers { OnOk result (AreRows ribs.now.prefixes rows.new.items) }
+{
+    let (router, prefix) = key;
+    let Some(of) = ribs.numbered(prefix) else {
+        return Ok(());
+    };
+    rows.push(NumberedRow { router, of })?;
+    Ok(())
+}
+
+// Rows under the numbers of their prefixes.
+fn numbered_rows(
+    alloc: Global,
+    ribs: &LocRibs,
+    keys: &[(RouterId, Prefix)],
+) -> Result<Vec<NumberedRow>, AllocError>
+    requires { All (λ k. Contains ribs.now.prefixes k.1) keys.now }
+    ensures keys { IfOk result (λ rows. map row_key rows.items ≡ keys.now) }
+    ensures numbers { IfOk result (λ rows. AreRows ribs.now.prefixes rows.items) }
+{
+    let mut rows = Vec::with_capacity(alloc, keys.len())?;
+    'keys: for key in keys {
+        add_row(&mut rows, ribs, *key)?;
+    }
+    Ok(rows)
+}
+
 /// The first round, given the sessions of the routers.
 pub(crate) fn first_by(
     alloc: Global,
+    recent: &mut RecentAttributes,
     inputs: RoutingInputs<'_>,
     all: &NetworkPeerings<'_>,
 ) -> Result<(LocRibs, Changed), AllocError>
@@ -53,7 +90,8 @@ pub(crate) fn first_by(
 {
     let none = none_chosen(alloc, inputs.network)?;
     let keys = begun_in_order(alloc, inputs.network)?;
-    let made = renew(alloc, inputs, all, none, &keys)?;
+    let rows = numbered_rows(alloc, &none, &keys)?;
+    let made = renew(alloc, recent, inputs, all, none, &rows)?;
     Ok(made)
 }
 
@@ -75,13 +113,15 @@ pub fn first_round(
     ensures numbers { IfOk result (λ r. AreRows r.0.prefixes r.1.rows.items) }
 {
     let all = NetworkPeerings::of(alloc, &inputs)?;
-    let made = first_by(alloc, inputs, &all)?;
+    let mut recent = RecentAttributes::new(alloc)?;
+    let made = first_by(alloc, &mut recent, inputs, &all)?;
     Ok(made)
 }
 
 /// One more round, given the sessions of the routers.
 pub(crate) fn next_by(
     alloc: Global,
+    recent: &mut RecentAttributes,
     inputs: RoutingInputs<'_>,
     all: &NetworkPeerings<'_>,
     old: LocRibs,
@@ -102,8 +142,8 @@ pub(crate) fn next_by(
 {
     let _count = old.count();
     let _routers = inputs.network.routers();
-    let keys = woken_in_order(alloc, &inputs, &old, &changed.rows)?;
-    let made = renew(alloc, inputs, all, old, &keys)?;
+    let rows = woken_in_order(alloc, &inputs, &old, &changed.rows)?;
+    let made = renew(alloc, recent, inputs, all, old, &rows)?;
     Ok(made)
 }
 
@@ -135,6 +175,7 @@ pub fn round_changed(
     ensures numbers { IfOk result (λ r. AreRows old.prefixes r.1.rows.items) }
 {
     let all = NetworkPeerings::of(alloc, &inputs)?;
-    let made = next_by(alloc, inputs, &all, old, changed)?;
+    let mut recent = RecentAttributes::new(alloc)?;
+    let made = next_by(alloc, &mut recent, inputs, &all, old, changed)?;
     Ok(made)
 }

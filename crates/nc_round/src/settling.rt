@@ -4,7 +4,7 @@ ghost use Rattle.nc_message.specs.Inputs.{AreRoutingInputs};
 
 use crate::rounds::{first_by, next_by};
 use nc_message::{NetworkPeerings, RoutingInputs};
-use nc_tables::BgpTable;
+use nc_tables::{BgpTable, RecentAttributes};
 use std::alloc::{AllocError, Global};
 
 /// The first table that no round changes, if no more than so many rounds show it; `None` where each
@@ -27,12 +27,13 @@ pub fn settle_table(
         return Ok(None);
     }
     let all = NetworkPeerings::of(alloc, &inputs)?;
-    let (mut ribs, mut changed) = first_by(alloc, inputs, &all)?;
+    let mut recent = RecentAttributes::new(alloc)?;
+    let (mut ribs, mut changed) = first_by(alloc, &mut recent, inputs, &all)?;
     'rounds: for _more in 0..rounds - 1 {
         if changed.rows.is_empty() {
             return Ok(Some(ribs.into_table(alloc)?));
         }
-        let next = next_by(alloc, inputs, &all, ribs, changed)?;
+        let next = next_by(alloc, &mut recent, inputs, &all, ribs, changed)?;
         (ribs, changed) = next;
     }
     if changed.rows.is_empty() {

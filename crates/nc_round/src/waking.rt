@@ -1,18 +1,18 @@
 //! Which rows may come from rows that changed, so that they are woken.
 
-ghost use Rattle.std.specs.Prelude.{◌≡◌, ◌↔◌, ◌<◌, ◌++◌, ℕ, All, Contains, filter, length, map, IfOk, OnOk};
-ghost use Rattle.std.specs.Prelude.{slice_index_or, []};
+ghost use Rattle.std.specs.Prelude.{◌≡◌, ◌↔◌, ◌+◌, ◌<◌, ◌∷◌, ◌++◌, ℕ, [], All, AllPairs, Contains, List, filter, length, map, IfOk, OnOk};
 ghost use Rattle.std.specs.List.{flat_map, list_any};
 ghost use Rattle.nc_types.specs.Cidr.{Cidr};
 ghost use Rattle.nc_types.specs.Config.{config_view};
-ghost use Rattle.nc_tables.specs.Rounds.{is_longer_in, prefixes_in};
+ghost use Rattle.nc_tables.specs.LocRibs.{IsNumbered};
+ghost use Rattle.nc_tables.specs.Rounds.{is_longer_in, prefixes, prefixes_in};
 ghost use Rattle.nc_message.specs.Inputs.{AreRoutingInputs};
 ghost use Rattle.nc_round.specs.Keys.{Key, key, AreInOrder};
-ghost use Rattle.nc_round.specs.Rows.{listed, prefixes_of, row_key, AreListed, AreRows};
-ghost use Rattle.nc_round.specs.Waking.{aggregates_of, begun_from, affected_over, woken_at, IsWoken};
+ghost use Rattle.nc_round.specs.Rows.{listed, numbered_row, prefixes_of, row_key, AreListed, AreRows};
+ghost use Rattle.nc_round.specs.Waking.{aggregates_of, begun_from, affected_over, woken_at, AreWoken, IsWoken};
 
 use crate::by_router::{by_router, changed_at};
-use crate::changed::ChangedRow;
+use crate::changed::NumberedRow;
 use nc_message::{RoutingInputs, add_counting};
 use nc_tables::{LocRibs, Numbered, SessionRow, is_longer_in};
 use nc_types::{AggregateStatement, Network, NetworkStatement, Prefix, RouterConfig, RouterId};
@@ -32,7 +32,7 @@ fn aggregates_of(network: &Network, router: RouterId) -> &[AggregateStatement]
 // Adds the prefixes that changed at the peers of a router's sessions, where what it learns of them
 // now may count.
 fn add_affected(
-    prefixes: &mut Vec<Prefix>,
+    noted: &mut Vec<Numbered>,
     inputs: &RoutingInputs<'_>,
     ribs: &LocRibs,
     router: RouterId,
@@ -43,13 +43,15 @@ fn add_affected(
     requires ribs { length ribs.now.rows ≡ length inputs.now.network.now }
     requires numbers { AreListed ribs.now.prefixes lists.now }
     requires router { router.0 < length inputs.now.network.now }
-    ensures { OnOk result (prefixes.new.items ≡ prefixes.old.items
+    requires noted { All (IsNumbered ribs.now.prefixes) noted.old.items }
+    ensures prefixes { OnOk result (prefixes_of noted.new.items ≡ prefixes_of noted.old.items
         ++ flat_map (affected_over inputs.now ribs.now.rows (listed lists.now) router.0)
         rows.now) }
+    ensures numbers { OnOk result (All (IsNumbered ribs.now.prefixes) noted.new.items) }
 {
     'rows: for row in rows {
         let changed = changed_at(lists, row.peer);
-        add_counting(prefixes, &*inputs, &*ribs, router, row.neighbor, changed)?;
+        add_counting(noted, &*inputs, &*ribs, router, row.neighbor, changed)?;
     }
     Ok(())
 }
@@ -61,43 +63,66 @@ fn has_inside(changed: &[Numbered], outer: Prefix) -> bool
     changed.iter().any(|of| is_longer_in(of.prefix, outer))
 }
 
+// Adds a prefix under its number.
+fn add_numbered(noted: &mut Vec<Numbered>, ribs: &LocRibs, prefix: Prefix) -> Result<(), AllocError>
+    requires known { Contains ribs.now.prefixes prefix }
+    requires noted { All (IsNumbered ribs.now.prefixes) noted.old.items }
+    ensures prefixes { OnOk result
+        (prefixes_of noted.new.items ≡ prefixes_of noted.old.items ++ prefix ∷ []) }
+    ensures numbers { OnOk result (All (IsNumbered ribs.now.prefixes) noted.new.items) }
+{
+    let Some(of) = ribs.numbered(prefix) else {
+        return Ok(());
+    };
+    noted.push(of)?;
+    Ok(())
+}
+
 // Adds the prefixes of the aggregates around what changed at a router itself.
 fn add_around(
-    prefixes: &mut Vec<Prefix>,
+    noted: &mut Vec<Numbered>,
+    ribs: &LocRibs,
     aggregates: &[AggregateStatement],
     changed: &[Numbered],
 ) -> Result<(), AllocError>
-    ensures { OnOk result (prefixes.new.items ≡ prefixes.old.items ++ map (λ a. a.prefix)
-        (filter (λ a. list_any (λ q. is_longer_in q a.prefix) (prefixes_of changed.now))
-        aggregates.now)) }
+    requires known { All (λ a. Contains ribs.now.prefixes a.prefix) aggregates.now }
+    requires noted { All (IsNumbered ribs.now.prefixes) noted.old.items }
+    ensures prefixes { OnOk result (prefixes_of noted.new.items ≡ prefixes_of noted.old.items
+        ++ map (λ a. a.prefix) (filter (λ a. list_any (λ q. is_longer_in q a.prefix)
+        (prefixes_of changed.now)) aggregates.now)) }
+    ensures numbers { OnOk result (All (IsNumbered ribs.now.prefixes) noted.new.items) }
 {
     'aggregates: for aggregate in aggregates {
         if has_inside(changed, aggregate.prefix) {
-            prefixes.push(aggregate.prefix)?;
+            add_numbered(noted, ribs, aggregate.prefix)?;
         }
     }
     Ok(())
 }
 
-// Takes out what stands twice.
-fn keep_once(prefixes: &mut Vec<Prefix>)
-    ensures { (p : Cidr) → Contains prefixes.old.items p → Contains prefixes.new.items p }
+// Puts numbered prefixes in order, each once.
+fn keep_once(noted: &mut Vec<Numbered>)
+    ensures ordered { AllPairs (λ a b. a.number < b.number) noted.new.items }
+    ensures kept { (prefixes : List Cidr) → All (IsNumbered prefixes) noted.old.items
+        → (n : Numbered) → Contains noted.old.items n → Contains noted.new.items n }
+    ensures numbers { (prefixes : List Cidr) → All (IsNumbered prefixes) noted.old.items
+        → All (IsNumbered prefixes) noted.new.items }
 {
-    prefixes.sort_unstable();
-    prefixes.dedup();
+    noted.sort_unstable_by_key(|of| of.number);
+    noted.dedup_by_key(|of| of.number);
 }
 
 // Wakes the rows of prefixes at a router.
 fn wake_each(
-    woken: &mut Vec<(RouterId, Prefix)>,
+    woken: &mut Vec<NumberedRow>,
     router: RouterId,
-    prefixes: &[Prefix],
+    noted: &[Numbered],
 ) -> Result<(), AllocError>
     ensures { OnOk result (woken.new.items
-        ≡ woken.old.items ++ map (λ p. (router, p)) prefixes.now) }
+        ≡ woken.old.items ++ map (numbered_row router) noted.now) }
 {
-    'prefixes: for prefix in prefixes {
-        woken.push((router, *prefix))?;
+    'noted: for of in noted {
+        woken.push(NumberedRow { router, of: *of })?;
     }
     Ok(())
 }
@@ -105,8 +130,8 @@ fn wake_each(
 // Wakes the rows of a router that may come from rows that changed, given the prefixes of these at
 // each router. What is noted on the way is used again for the next router.
 fn wake(
-    woken: &mut Vec<(RouterId, Prefix)>,
-    noted: &mut Vec<Prefix>,
+    woken: &mut Vec<NumberedRow>,
+    noted: &mut Vec<Numbered>,
     inputs: &RoutingInputs<'_>,
     ribs: &LocRibs,
     lists: &[Vec<Numbered>],
@@ -114,20 +139,21 @@ fn wake(
 ) -> Result<(), AllocError>
     requires inputs { AreRoutingInputs inputs.now }
     requires ribs { length ribs.now.rows ≡ length inputs.now.network.now }
+    requires prefixes { ribs.now.prefixes ≡ prefixes inputs.now.network.now }
     requires numbers { AreListed ribs.now.prefixes lists.now }
     requires router { router.0 < length inputs.now.network.now }
-    ensures kept { OnOk result ((k : Key) → Contains woken.old.items k
-        → Contains woken.new.items k) }
+    requires woken { AreWoken router.0 ribs.now.prefixes woken.old.items }
+    ensures kept { OnOk result ((k : Key) → Contains (map row_key woken.old.items) k
+        → Contains (map row_key woken.new.items) k) }
     ensures woken { OnOk result ((p : Cidr) → Contains (woken_at inputs.now ribs.now.rows
-        (listed lists.now) router.0) p → Contains woken.new.items (router, p)) }
-    ensures within { OnOk result ((n : ℕ) → router.0 < n
-        → All (λ k. k.0.0 < n) woken.old.items → All (λ k. k.0.0 < n) woken.new.items) }
+        (listed lists.now) router.0) p → Contains (map row_key woken.new.items) (router, p)) }
+    ensures rows { OnOk result (AreWoken (router.0 + 1) ribs.now.prefixes woken.new.items) }
 {
     let rows = inputs.sessions.rows(router);
     let aggregates = aggregates_of(inputs.network, router);
     noted.clear();
     add_affected(noted, inputs, ribs, router, rows, lists)?;
-    add_around(noted, aggregates, changed_at(lists, router))?;
+    add_around(noted, ribs, aggregates, changed_at(lists, router))?;
     keep_once(noted);
     wake_each(woken, router, noted)?;
     Ok(())
@@ -139,34 +165,25 @@ fn woken(
     inputs: &RoutingInputs<'_>,
     ribs: &LocRibs,
     lists: &[Vec<Numbered>],
-) -> Result<Vec<(RouterId, Prefix)>, AllocError>
+) -> Result<Vec<NumberedRow>, AllocError>
     requires inputs { AreRoutingInputs inputs.now }
     requires ribs { length ribs.now.rows ≡ length inputs.now.network.now }
+    requires prefixes { ribs.now.prefixes ≡ prefixes inputs.now.network.now }
     requires numbers { AreListed ribs.now.prefixes lists.now }
-    ensures woken { IfOk result (λ keys. (router : ℕ) (p : Cidr)
+    ensures woken { IfOk result (λ rows. (router : ℕ) (p : Cidr)
         → router < length inputs.now.network.now
         → Contains (woken_at inputs.now ribs.now.rows (listed lists.now) router) p
-        → Contains keys.items (key router p)) }
-    ensures within { IfOk result (λ keys.
-        All (λ k. k.0.0 < length inputs.now.network.now) keys.items) }
+        → Contains (map row_key rows.items) (key router p)) }
+    ensures rows { IfOk result
+        (λ rows. AreWoken (length inputs.now.network.now) ribs.now.prefixes rows.items) }
 {
-    let mut keys = Vec::new(alloc);
+    let mut rows = Vec::new(alloc);
     let mut noted = Vec::new(alloc);
     'routers: for router in 0..inputs.network.routers().len() {
         let router = RouterId(router as u32);
-        wake(&mut keys, &mut noted, inputs, ribs, lists, router)?;
+        wake(&mut rows, &mut noted, inputs, ribs, lists, router)?;
     }
-    Ok(keys)
-}
-
-// Rows in order, each once.
-fn in_order(mut keys: Vec<(RouterId, Prefix)>) -> Vec<(RouterId, Prefix)>
-    ensures ordered { AreInOrder result.items }
-    ensures same { (k : Key) → Contains result.items k ↔ Contains keys.items k }
-{
-    keys.sort_unstable();
-    keys.dedup();
-    keys
+    Ok(rows)
 }
 
 /// The rows that may come from rows that changed in a table, in order, each once.
@@ -174,23 +191,23 @@ pub(crate) fn woken_in_order(
     alloc: Global,
     inputs: &RoutingInputs<'_>,
     ribs: &LocRibs,
-    changed: &[ChangedRow],
-) -> Result<Vec<(RouterId, Prefix)>, AllocError>
+    changed: &[NumberedRow],
+) -> Result<Vec<NumberedRow>, AllocError>
     requires inputs { AreRoutingInputs inputs.now }
     requires ribs { length ribs.now.rows ≡ length inputs.now.network.now }
+    requires prefixes { ribs.now.prefixes ≡ prefixes inputs.now.network.now }
     requires numbers { AreRows ribs.now.prefixes changed.now }
-    ensures ordered { IfOk result (λ keys. AreInOrder keys.items) }
-    ensures woken { IfOk result (λ keys. (router : ℕ) (p : Cidr)
+    ensures woken { IfOk result (λ rows. (router : ℕ) (p : Cidr)
         → router < length inputs.now.network.now
         → (All (λ k. k.0.0 < length inputs.now.network.now) (map row_key changed.now))
         → IsWoken inputs.now ribs.now.rows (map row_key changed.now) router p
-        → Contains keys.items (key router p)) }
-    ensures within { IfOk result (λ keys.
-        All (λ k. k.0.0 < length inputs.now.network.now) keys.items) }
+        → Contains (map row_key rows.items) (key router p)) }
+    ensures rows { IfOk result
+        (λ rows. AreWoken (length inputs.now.network.now) ribs.now.prefixes rows.items) }
 {
     let lists = by_router(alloc, inputs.network.routers().len(), changed)?;
-    let keys = woken(alloc, inputs, ribs, &lists)?;
-    Ok(in_order(keys))
+    let rows = woken(alloc, inputs, ribs, &lists)?;
+    Ok(rows)
 }
 
 // Wakes the rows of the networks of a router.
@@ -252,6 +269,16 @@ pub(crate) fn begun(alloc: Global, network: &Network) -> Result<Vec<(RouterId, P
         wake_begun(&mut woken, &routers[router], RouterId(router as u32))?;
     }
     Ok(woken)
+}
+
+// Rows in order, each once.
+fn in_order(mut keys: Vec<(RouterId, Prefix)>) -> Vec<(RouterId, Prefix)>
+    ensures ordered { AreInOrder result.items }
+    ensures same { (k : Key) → Contains result.items k ↔ Contains keys.items k }
+{
+    keys.sort_unstable();
+    keys.dedup();
+    keys
 }
 
 /// The rows of the prefixes that each router begins itself, in order, each once.

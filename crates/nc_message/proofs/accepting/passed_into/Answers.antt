@@ -27,7 +27,7 @@ returns-clause-accepted c =
     ap (λ (a : Addr). nat_lt 0 (length (hits base router a.0))) (sym c.hop_of-hop.ensures) ∙ sym c.is_resolved.ensures ∙ c.if-not-is_resolved.false in
     taken_is base router m (passing_view m.route c.in_ok-into.into)
     (sym c.is_looped.ensures ∙ c.if-is_looped.false) other leads
-    (c.in_ok-into.ensures.passed m.link.receiver.config m.route c.requires.between.receiver is.prefix (path_length k s.best.now s.out ∙ sym c.sent_length-count.ensures) (sym c.carried-held.ensures))
+    (c.in_ok-into.ensures.passed m.link.receiver.config m.route c.requires.between.receiver (is.prefix ∙ sym c.prefix-prefix.ensures) (path_length k s.best.now s.out ∙ sym c.sent_length-count.ensures) (sym c.carried-held.ensures))
 
 pub returns-clause-short : goal.returns-clause-short
 returns-clause-short c =

@@ -50,6 +50,7 @@ pub returns-clause-chosen : goal.returns-clause-chosen
 returns-clause-chosen c =
     let all = candidates_at c.args.inputs.now.network.now c.args.inputs.now.base.now c.args.inputs.now.sessions.now c.args.ribs.now.rows c.args.router.0 (process_view c.args.process.now) c.args.of.now.prefix in
     c.in_ok-chosen-2.ensures
+    ∙ c.in_ok-entries.ensures
     ∙ ap (λ (l : List Chosen). filter_map (slice_get l) c.deref-3.result.now) (c.deref-2.ensures.value ∙ c.in_ok-feasible.ensures.candidates)
     ∙ ap (filter_map (slice_get all))
     (c.deref-3.ensures.value ∙ c.in_ok-places.ensures
@@ -63,7 +64,7 @@ returns-clause-own c =
     let own : All (IsOf p) feasible = subst (All (IsOf p)) (sym c.deref-2.ensures.value) c.in_ok-feasible.ensures.own in
     let each : All (IsOf p) (filter_map (slice_get feasible) places) =
     all_by_in (IsOf p) (filter_map (slice_get feasible) places) (λ z i. let from = in_by_filter_map (slice_get feasible) places z i in all_in (IsOf p) feasible own z (in_by_get feasible from.0 z from.2)) in
-    subst (All (IsOf p)) (sym c.in_ok-chosen-2.ensures) each
+    subst (All (IsOf p)) (sym (c.in_ok-chosen-2.ensures ∙ c.in_ok-entries.ensures)) each
 
 pub returns-clause-few : goal.returns-clause-few
 returns-clause-few c =
@@ -72,4 +73,4 @@ returns-clause-few c =
     let some : length places ≤ MULTIPATH_LIMIT =
     subst (λ (l : List ℕ). length l ≤ MULTIPATH_LIMIT) (sym (c.deref-3.ensures.value ∙ c.in_ok-places.ensures))
     (choose_few _ c.args.process.now.max_paths MULTIPATH_LIMIT c.args.process.now.relax c.requires.formed.paths.1 (omega arith)) in
-    omega (arith, ap (length {A = Chosen}) c.in_ok-chosen-2.ensures, made_few (slice_get feasible) places, some)
+    omega (arith, ap (length {A = Chosen}) (c.in_ok-chosen-2.ensures ∙ c.in_ok-entries.ensures), made_few (slice_get feasible) places, some)

@@ -18,7 +18,9 @@ pub returns-then-not-link : goal.returns-then-not-link
 returns-then-not-link c = c.none.ensures ∙ sym (sent_by (advertised c.args.sent.now) false c.if-not-link.true)
 
 pub communities-requires : goal.communities-requires
-communities-requires c = subst (λ (l : List ℕ). length l ≤ COMMUNITY_LIMIT) (sent_by (advertised c.args.sent.now) true c.if-not-link.false) c.requires.few
+communities-requires c =
+    subst (λ (held : List ℕ). length (communities_by c.args.sent.now.out held) ≤ COMMUNITY_LIMIT) (sym c.communities-held.ensures)
+    (subst (λ (l : List ℕ). length l ≤ COMMUNITY_LIMIT) (sent_by (advertised c.args.sent.now) true c.if-not-link.false) c.requires.few)
 
 pub returns : goal.returns
-returns c = c.communities.ensures ∙ sym (sent_by (advertised c.args.sent.now) true c.if-not-link.false)
+returns c = c.communities.ensures ∙ ap (communities_by c.args.sent.now.out) c.communities-held.ensures ∙ sym (sent_by (advertised c.args.sent.now) true c.if-not-link.false)

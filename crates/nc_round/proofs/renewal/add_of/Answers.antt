@@ -13,8 +13,8 @@ returns-then-same_chosen-clause-rows c =
     let i = c.args.inputs in
     let t = c.args.ribs.now.rows in
     let k : Key = (c.args.router, c.args.of.now.prefix) in
-    let same : c.deref.result.now ≡ c.chosen.result.now = c.same_chosen.ensures.0 c.if-same_chosen.true in
-    let is : anew i t k ≡ chosen_at t k.0.0 k.1 = sym (c.deref.ensures.value ∙ c.in_ok-chosen.ensures.chosen) ∙ same ∙ c.chosen.ensures.chosen in
+    let same : c.as_slice.result.now ≡ c.chosen-2.result.now = c.same_chosen.ensures.0 c.if-same_chosen.true in
+    let is : anew i t k ≡ chosen_at t k.0.0 k.1 = sym (c.as_slice.ensures ∙ c.in_ok-chosen.ensures.chosen) ∙ same ∙ c.chosen-2.ensures.chosen in
     sym (ap (λ (o : Option RowChange). map row_change c.args.changes.now.items ++ cons_option o []) (change_none i t k is) ∙ append-nil (map row_change c.args.changes.now.items))
 
 pub returns-clause-rows : goal.returns-clause-rows
@@ -23,10 +23,10 @@ returns-clause-rows c =
     let t = c.args.ribs.now.rows in
     let k : Key = (c.args.router, c.args.of.now.prefix) in
     let changes = c.args.changes.now.items in
-    let chosen : c.in_ok-chosen.chosen.items ≡ anew i t k = c.in_ok-chosen.ensures.chosen in
+    let chosen : c.in_ok-chosen.chosen ≡ anew i t k = c.in_ok-chosen.ensures.chosen in
     let change : RowChange = record { key = k; chosen = anew i t k } in
     let differs : anew i t k ≡ chosen_at t k.0.0 k.1 → ⊥ = λ e.
-    let same : c.deref.result.now ≡ c.chosen.result.now = c.deref.ensures.value ∙ chosen ∙ e ∙ sym c.chosen.ensures.chosen in
+    let same : c.as_slice.result.now ≡ c.chosen-2.result.now = c.as_slice.ensures ∙ chosen ∙ e ∙ sym c.chosen-2.ensures.chosen in
     let is = c.same_chosen.ensures.1 same in
     absurd (search rules) in
     ap (map row_change) c.in_ok-push.ensures.items

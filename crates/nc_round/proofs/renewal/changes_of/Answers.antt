@@ -1,7 +1,11 @@
 use Rattle.std.proofs.Common.{◌≡◌, ℕ, ◌++◌, ◌+◌, ◌∷◌, ◌<◌, [], List, Option, Some, None, length, map, drop, append_assoc, append-nil, sym, ap, subst, ◌∙◌, arith}
 use Rattle.std.specs.List.{cons_option, filter_map}
 use Rattle.nc_types.proofs.Walks.{drop_read}
+use Rattle.nc_tables.specs.LocRibs.{IsNumbered}
+use Rattle.nc_round.specs.declared.changed.NumberedRow.{NumberedRow}
 use Rattle.nc_round.specs.Keys.{Key}
+use Rattle.nc_round.specs.Rows.{row_key}
+use Rattle.nc_round.proofs.NumberedRows.{all_under}
 use Rattle.nc_round.specs.Renewing.{RowChange, row_change, change_at}
 use Rattle.nc_round.proofs.renewal.changes_of.Goals as goal
 
@@ -13,24 +17,39 @@ more f k left rest before after all parts longer is = ap (λ (l : List RowChange
     on None = ap (λ (l : List RowChange). l ++ filter_map f rest) (append-nil before)
     on (Some x) = append_assoc before (x ∷ []) (filter_map f rest)
 
+-- the item at a place is of a router of the network
+abbrev of_network : ℕ → NumberedRow → Type 0
+of_network count r = r.router.0 < count
+
 pub get-peerings-requires : goal.get-peerings-requires
 get-peerings-requires c =
-    let keys = c.args.keys.now in
-    let k = c.keys.row-index in
-    let lt : k < length keys = omega arith in
-    let within : c.row-item.result.0.0 < length c.args.inputs.network.now = subst (λ (q : Key). q.0.0 < length c.args.inputs.network.now) (sym c.row-item.is) (c.requires.keys k c.row-item.result lt) in
+    let rows = c.args.rows.now in
+    let count = length c.args.inputs.network.now in
+    let lt : c.rows.row-index < length rows = omega arith in
+    let within : of_network count c.row-item.result = subst (of_network count) (sym c.row-item.is) (all_under row_key count rows c.requires.within c.rows.row-index c.row-item.result lt) in
     omega (arith, within, c.requires.all.count)
 
-pub add_row-requires-clause-peerings : goal.add_row-requires-clause-peerings
-add_row-requires-clause-peerings c = c.requires.all.each c.row-item.result.0.0 c.get-peerings.result.now c.get-peerings.ensures
+pub add_of-requires-clause-router : goal.add_of-requires-clause-router
+add_of-requires-clause-router c =
+    let rows = c.args.rows.now in
+    let count = length c.args.inputs.network.now in
+    subst (of_network count) (sym c.row-item.is) (all_under row_key count rows c.requires.within c.rows.row-index c.row-item.result (omega arith))
 
-pub keys-preserved : goal.keys-preserved
-keys-preserved c =
-    let keys = c.args.keys.now in
-    let k = c.keys.row-index in
-    let lt : k < length keys = omega arith in
+pub add_of-requires-clause-number : goal.add_of-requires-clause-number
+add_of-requires-clause-number c =
+    let numbered : NumberedRow → Type 0 = λ r. IsNumbered c.args.ribs.now.prefixes r.of in
+    subst numbered (sym c.row-item.is) (c.requires.numbers c.rows.row-index c.row-item.result (omega arith))
+
+pub add_of-requires-clause-peerings : goal.add_of-requires-clause-peerings
+add_of-requires-clause-peerings c = c.requires.all.each c.row-item.result.router.0 c.get-peerings.result.now c.get-peerings.ensures
+
+pub rows-preserved : goal.rows-preserved
+rows-preserved c =
+    let rows = c.args.rows.now in
+    let k = c.rows.row-index in
+    let lt : k < length rows = omega arith in
     record {
-      rows = more (change_at c.args.inputs c.args.ribs.now.rows) c.row-item.result (drop k keys) (drop (k + 1) keys) (map row_change c.keys.changes.items) (map row_change c.add_row.new.changes.items) (filter_map (change_at c.args.inputs c.args.ribs.now.rows) keys)
-          (drop_read keys k c.row-item.result c.row-item.is lt) c.in_ok-add_row.ensures.rows c.keys.invariant.rows;
-      changes = c.add_row.ensures.changes;
+      rows = more (change_at c.args.inputs c.args.ribs.now.rows) (row_key c.row-item.result) (map row_key (drop k rows)) (map row_key (drop (k + 1) rows)) (map row_change c.rows.changes.items) (map row_change c.add_of.new.changes.items) (filter_map (change_at c.args.inputs c.args.ribs.now.rows) (map row_key rows))
+          (ap (map row_key) (drop_read rows k c.row-item.result c.row-item.is lt)) c.in_ok-add_of.ensures.rows c.rows.invariant.rows;
+      changes = c.add_of.ensures.changes;
     }

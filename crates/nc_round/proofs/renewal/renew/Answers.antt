@@ -30,7 +30,7 @@ module _ (i : RoutingInputs) (table new : List (List BgpRowView)) (keys : List K
 
 is_made : (c : After-count-count) → c.put_all.new.ribs.rows ≡ next c.args.inputs c.args.ribs.rows
 is_made c =
-    made_next c.args.inputs c.args.ribs.rows c.put_all.new.ribs.rows c.args.keys.now c.in_ok-changes.changes.items c.requires.keys c.in_ok-changes.ensures.rows
+    made_next c.args.inputs c.args.ribs.rows c.put_all.new.ribs.rows (map row_key c.args.rows.now) c.in_ok-changes.changes.items c.requires.rows c.in_ok-changes.ensures.rows
     c.put_all.ensures.count c.count-count.ensures.valid c.put_all.ensures.leads
 
 pub returns-clause-table : goal.returns-clause-table
@@ -38,7 +38,7 @@ returns-clause-table c = is_made c
 
 pub returns-clause-changed : goal.returns-clause-changed
 returns-clause-changed c =
-    made_difference c.args.inputs c.args.ribs.rows c.put_all.new.ribs.rows c.args.keys.now c.in_ok-changes.changes.items c.requires.keys c.in_ok-changes.ensures.rows
+    made_difference c.args.inputs c.args.ribs.rows c.put_all.new.ribs.rows (map row_key c.args.rows.now) c.in_ok-changes.changes.items c.requires.rows c.in_ok-changes.ensures.rows
     c.deref.result.now (map row_key c.in_ok-rows.rows.items) c.deref.ensures.value c.in_ok-rows.ensures.keys (is_made c)
 
 pub returns-clause-numbers : goal.returns-clause-numbers

@@ -3,7 +3,7 @@ use Rattle.std.proofs.lemmas.List.{map_push}
 use Rattle.std.proofs.lemmas.List.Elements.{All-push}
 use Rattle.nc_types.proofs.Walks.{drop_read}
 use Rattle.nc_tables.specs.LocRibs.{IsNumbered}
-use Rattle.nc_round.specs.declared.changed.ChangedRow.{ChangedRow}
+use Rattle.nc_round.specs.declared.changed.NumberedRow.{NumberedRow}
 use Rattle.nc_round.specs.declared.loc_rib_change.LocRibChange.{LocRibChange}
 use Rattle.nc_round.specs.Keys.{Key}
 use Rattle.nc_round.specs.Renewing.{row_change, IsLocRibChange}
@@ -24,11 +24,11 @@ changes-preserved c =
     let n = c.new-item.result in
     let lt : k < length changes = omega arith in
     let rows = c.changes.rows.items in
-    let x : ChangedRow = record { router = n.router; of = n.of } in
+    let x : NumberedRow = record { router = n.router; of = n.of } in
     let items = c.in_ok-push.ensures.items in
     record {
       keys = more n (drop k changes) (drop (k + 1) changes) (map row_key rows) (map row_key c.push.new.self.items) (map (λ (m : LocRibChange). (row_change m).key) changes)
           (drop_read changes k n c.new-item.is lt) (ap (map row_key) items ∙ map_push row_key rows x) c.changes.invariant.keys;
       numbers = λ count prefixes are.
-          subst (AreRows prefixes) (sym items) (All-push (λ (r : ChangedRow). IsNumbered prefixes r.of) rows x (c.changes.invariant.numbers count prefixes are) (subst (IsLocRibChange count prefixes) (sym c.new-item.is) (are k n lt)).number);
+          subst (AreRows prefixes) (sym items) (All-push (λ (r : NumberedRow). IsNumbered prefixes r.of) rows x (c.changes.invariant.numbers count prefixes are) (subst (IsLocRibChange count prefixes) (sym c.new-item.is) (are k n lt)).number);
     }

@@ -1,9 +1,9 @@
 use Rattle.std.proofs.Common.{◌<◌, List, All, length, map, sym, subst}
-use Rattle.nc_round.specs.declared.changed.ChangedRow.{ChangedRow}
+use Rattle.nc_round.specs.declared.changed.NumberedRow.{NumberedRow}
 use Rattle.nc_round.specs.Keys.{Key}
 use Rattle.nc_round.specs.Renewing.{AreEnough}
-use Rattle.nc_round.specs.Rows.{row_key}
-use Rattle.nc_round.specs.Waking.{IsWoken}
+use Rattle.nc_round.specs.Rows.{row_key, AreRows}
+use Rattle.nc_round.specs.Waking.{AreWoken, IsWoken}
 use Rattle.nc_round.proofs.Woken.{changed_within, enough, table_count}
 use Rattle.nc_round.proofs.rounds.next_by.Goals as goal
 
@@ -12,18 +12,23 @@ woken_in_order-requires-clause-ribs c =
     let changed = map row_key c.args.changed.rows.items in
     table_count c.args.inputs c.requires.made.0 c.args.old.rows changed changed c.requires.inputs c.routers-routers.ensures.valid.each c.count-count.ensures.valid c.requires.made.1
 
-pub renew-requires-clause-keys : goal.renew-requires-clause-keys
-renew-requires-clause-keys c =
+pub renew-requires-clause-rows : goal.renew-requires-clause-rows
+renew-requires-clause-rows c =
     let inputs = c.args.inputs in
     let old = c.args.old.rows in
-    let rows = c.in_ok-keys.keys.items in
+    let rows = c.in_ok-rows.rows.items in
+    let keys : List Key = map row_key rows in
     let changed = map row_key c.args.changed.rows.items in
     let before = c.requires.made.0 in
     let round = c.requires.made.1 in
     let formed = c.routers-routers.ensures.valid.each in
-    let within = changed_within inputs before old changed rows c.requires.inputs formed c.count-count.ensures.valid round in
-    subst (AreEnough inputs old) (sym c.deref-2.ensures.value)
-    (enough inputs before old changed rows c.requires.inputs formed c.count-count.ensures.valid round c.in_ok-keys.ensures.ordered c.in_ok-keys.ensures.within
-    (λ router p lt woken. c.in_ok-keys.ensures.woken router p lt
-    (subst (λ (l : List ChangedRow). All (λ (k : Key). k.0.0 < length inputs.network.now) (map row_key l)) (sym c.deref.ensures.value) within)
-    (subst (λ (l : List ChangedRow). IsWoken inputs old (map row_key l) router p) (sym c.deref.ensures.value) woken)))
+    let woken : AreWoken (length inputs.network.now) c.args.old.prefixes rows = c.in_ok-rows.ensures.rows in
+    let within = changed_within inputs before old changed keys c.requires.inputs formed c.count-count.ensures.valid round in
+    subst (λ (l : List NumberedRow). AreEnough inputs old (map row_key l)) (sym c.deref-2.ensures.value)
+    (enough inputs before old changed keys c.requires.inputs formed c.count-count.ensures.valid round woken.ordered woken.below
+    (λ router p lt is. c.in_ok-rows.ensures.woken router p lt
+    (subst (λ (l : List NumberedRow). All (λ (k : Key). k.0.0 < length inputs.network.now) (map row_key l)) (sym c.deref.ensures.value) within)
+    (subst (λ (l : List NumberedRow). IsWoken inputs old (map row_key l) router p) (sym c.deref.ensures.value) is)))
+
+pub renew-requires-clause-numbers : goal.renew-requires-clause-numbers
+renew-requires-clause-numbers c = subst (AreRows c.args.old.prefixes) (sym c.deref-2.ensures.value) c.in_ok-rows.ensures.rows.numbers

@@ -2,15 +2,15 @@ use Rattle.std.proofs.Common.{◌≡◌, ◌==◌, ℕ, zero, suc, Bool, true, f
 use Rattle.std.proofs.lemmas.List.{length-map}
 use Rattle.nc_types.specs.Cidr.{Cidr}
 use Rattle.nc_tables.specs.Rounds.{IsStable, IsUnstable}
-use Rattle.nc_round.specs.declared.changed.ChangedRow.{ChangedRow}
+use Rattle.nc_round.specs.declared.changed.NumberedRow.{NumberedRow}
 use Rattle.nc_round.specs.Rows.{row_key, AreRows}
 use Rattle.nc_round.proofs.Settled.{at, IsRun, run_start, run_made, run_stop, run_on, run_more}
 use Rattle.nc_round.proofs.settling.settle_table.Goals as goal
 
-none_left : (rows : List ChangedRow) → length rows ≡ 0 → length (map row_key rows) ≡ 0
+none_left : (rows : List NumberedRow) → length rows ≡ 0 → length (map row_key rows) ≡ 0
 none_left rows none = length-map rows row_key ∙ none
 
-some_left : (rows : List ChangedRow) → 0 < length rows → 0 < length (map row_key rows)
+some_left : (rows : List NumberedRow) → 0 < length rows → 0 < length (map row_key rows)
 some_left rows some = omega (arith, length-map rows row_key)
 
 positive : (n : ℕ) (b : Bool) → b ≡ (n == 0) → b ≡ false → 0 < n

@@ -1,27 +1,33 @@
-use Rattle.std.proofs.Common.{◌≡◌, ◌<◌, ◌++◌, List, [], All, Contains, map, filter, slice_index_or, sym, ap, subst, ◌∙◌}
-use Rattle.std.specs.List.{flat_map, list_any}
-use Rattle.std.proofs.lemmas.List.Elements.{All-append, Contains-append_left, Contains-append_right}
+use Rattle.std.proofs.Common.{◌≡◌, ◌+◌, ◌<◌, ◌++◌, List, [], All, Contains, map, filter, slice_index_or, sym, ap, subst, ◌∙◌}
+use Rattle.std.specs.List.{AllPairs, flat_map, list_any}
+use Rattle.std.proofs.lemmas.List.Elements.{All-nil}
 use Rattle.nc_types.specs.Cidr.{Cidr}
 use Rattle.nc_types.specs.declared.config.AggregateStatement.{AggregateStatement}
-use Rattle.nc_types.specs.declared.config.RouterId.{RouterId}
-use Rattle.nc_types.proofs.Members.{in_map, in_by_contains, contains_by_in}
+use Rattle.nc_types.proofs.Members.{in_by_map, in_by_contains, contains_by_in}
 use Rattle.nc_tables.specs.declared.bgp.SessionRow.{SessionRow}
+use Rattle.nc_tables.specs.declared.ribs.Numbered.{Numbered}
+use Rattle.nc_tables.specs.LocRibs.{Ascend, IsNumbered}
 use Rattle.nc_tables.specs.Rounds.{is_longer_in}
-use Rattle.nc_round.specs.Keys.{Key}
-use Rattle.nc_round.specs.Rows.{listed, prefixes_of}
-use Rattle.nc_round.specs.Waking.{aggregates_of, affected_over}
-use Rattle.nc_round.proofs.Lists.{all_over}
+use Rattle.nc_round.specs.declared.changed.NumberedRow.{NumberedRow}
+use Rattle.nc_round.specs.Rows.{listed, numbered_row, prefixes_of, row_key}
+use Rattle.nc_round.specs.Waking.{aggregates_of, affected_over, AreWoken}
+use Rattle.nc_round.proofs.NextRows.{prefixes_up}
+use Rattle.nc_round.proofs.NumberedRows.{aggregates_known, more_woken, row_kept, row_woken}
 use Rattle.nc_round.proofs.waking.wake.Goals as goal
+
+pub add_affected-requires-clause-noted : goal.add_affected-requires-clause-noted
+add_affected-requires-clause-noted c = subst (All (IsNumbered c.args.ribs.now.prefixes)) (sym c.clear.ensures.items) (All-nil (IsNumbered c.args.ribs.now.prefixes))
+
+pub add_around-requires-clause-known : goal.add_around-requires-clause-known
+add_around-requires-clause-known c =
+    let network = c.args.inputs.now.network.now in
+    let known : List Cidr → List AggregateStatement → Type 0 = λ ps l. All (λ (a : AggregateStatement). Contains ps a.prefix) l in
+    subst (known c.args.ribs.now.prefixes) (sym c.aggregates_of-aggregates.ensures) (subst (λ (ps : List Cidr). known ps (aggregates_of network c.args.router.0)) (sym c.requires.prefixes) (aggregates_known network c.args.router.0))
 
 pub returns-clause-kept : goal.returns-clause-kept
 returns-clause-kept c k some =
-    subst (λ (l : List Key). Contains l k) (sym c.in_ok-wake_each.ensures)
-    (Contains-append_left c.args.woken.now.items (map (λ (p : Cidr). (c.args.router, p)) c.deref.result.now) k some)
-
--- the row of a prefix among others is among their rows
-row_among : (router : RouterId) (ps : List Cidr) (p : Cidr) → Contains ps p → Contains {X = Key} (map (λ (q : Cidr). (router, q)) ps) (router, p)
-row_among router ps p some =
-    contains_by_in {X = Key} (map (λ (q : Cidr). (router, q)) ps) (router, p) (in_map {Y = Key} (λ (q : Cidr). (router, q)) ps p (in_by_contains ps p some))
+    subst (λ (l : List NumberedRow). Contains (map row_key l) k) (sym c.in_ok-wake_each.ensures)
+    (row_kept c.args.ribs.now.prefixes c.args.router c.args.woken.now.items c.deref.result.now k some)
 
 -- what is noted of a router, in two parts
 abbrev around : List Cidr → List AggregateStatement → List Cidr
@@ -39,15 +45,20 @@ returns-clause-woken c p some =
     let lists : List (List Cidr) = listed c.args.lists.now in
     let i = c.args.inputs.now in
     let router = c.args.router.0 in
-    let noted = noted_is (affected_over i c.args.ribs.now.rows lists router) c.clear.new.self.items c.add_affected.new.prefixes.items c.add_around.new.prefixes.items (prefixes_of c.changed_at.result.now) (slice_index_or lists router []) c.rows-rows.result.now (slice_index_or i.sessions.now router [])
-    c.aggregates_of-aggregates.result.now (aggregates_of i.network.now router) c.clear.ensures.items c.in_ok-add_affected.ensures c.in_ok-add_around.ensures c.rows-rows.ensures.rows c.changed_at.ensures.prefixes c.aggregates_of-aggregates.ensures in
-    subst (λ (l : List Key). Contains l (c.args.router, p)) (sym c.in_ok-wake_each.ensures)
-    (Contains-append_right c.args.woken.now.items (map (λ (q : Cidr). (c.args.router, q)) c.deref.result.now) (c.args.router, p)
-    (row_among c.args.router c.deref.result.now p (subst (λ (l : List Cidr). Contains l p) (sym c.deref.ensures.value)
-    (c.keep_once.ensures p (subst (λ (l : List Cidr). Contains l p) (sym noted) some)))))
+    let all : List Numbered = c.add_around.new.noted.items in
+    let noted = noted_is (affected_over i c.args.ribs.now.rows lists router) (prefixes_of c.clear.new.self.items) (prefixes_of c.add_affected.new.noted.items) (prefixes_of all) (prefixes_of c.changed_at.result.now) (slice_index_or lists router []) c.rows-rows.result.now (slice_index_or i.sessions.now router [])
+    c.aggregates_of-aggregates.result.now (aggregates_of i.network.now router) (ap prefixes_of c.clear.ensures.items) c.in_ok-add_affected.ensures.prefixes c.in_ok-add_around.ensures.prefixes c.rows-rows.ensures.rows c.changed_at.ensures.prefixes c.aggregates_of-aggregates.ensures in
+    let at = in_by_map (λ (n : Numbered). n.prefix) all p (in_by_contains (prefixes_of all) p (subst (λ (l : List Cidr). Contains l p) (sym noted) some)) in
+    let once : Contains c.keep_once.new.noted.items at.0 = c.keep_once.ensures.kept c.args.ribs.now.prefixes c.in_ok-add_around.ensures.numbers at.0 (contains_by_in all at.0 at.1) in
+    subst (λ (l : List NumberedRow). Contains (map row_key l) (c.args.router, p)) (sym c.in_ok-wake_each.ensures)
+    (subst (λ (q : Cidr). Contains (map row_key (c.args.woken.now.items ++ map (numbered_row c.args.router) c.deref.result.now)) (c.args.router, q)) at.2
+    (row_woken c.args.ribs.now.prefixes c.args.router c.args.woken.now.items c.deref.result.now at.0 (subst (λ (l : List Numbered). Contains l at.0) (sym c.deref.ensures.value) once)))
 
-pub returns-clause-within : goal.returns-clause-within
-returns-clause-within c n lt all =
-    subst (All (λ (k : Key). k.0.0 < n)) (sym c.in_ok-wake_each.ensures)
-    (All-append (λ (k : Key). k.0.0 < n) c.args.woken.now.items (map (λ (q : Cidr). (c.args.router, q)) c.deref.result.now) all
-    (all_over (λ (k : Key). k.0.0 < n) (λ (q : Cidr). (c.args.router, q)) c.deref.result.now (λ k d less. lt)))
+pub returns-clause-rows : goal.returns-clause-rows
+returns-clause-rows c =
+    let ps = c.args.ribs.now.prefixes in
+    let up : Ascend ps = subst Ascend (sym c.requires.prefixes) (prefixes_up c.args.inputs.now.network.now) in
+    subst (AreWoken (c.args.router.0 + 1) ps) (sym c.in_ok-wake_each.ensures)
+    (more_woken ps c.args.router c.args.woken.now.items c.deref.result.now up c.requires.woken
+    (subst (AllPairs (λ (a b : Numbered). a.number < b.number)) (sym c.deref.ensures.value) c.keep_once.ensures.ordered)
+    (subst (All (IsNumbered ps)) (sym c.deref.ensures.value) (c.keep_once.ensures.numbers ps c.in_ok-add_around.ensures.numbers)))

@@ -1,18 +1,25 @@
-use Rattle.std.proofs.Common.{◌≡◌, ℕ, List, Contains, length, ap, subst, arith, inl, inr}
+use Rattle.std.proofs.Common.{◌≡◌, ℕ, List, Contains, length, map, ap, subst, sym, arith, inl, inr}
 use Rattle.std.proofs.lemmas.Bool.{cases_lt}
 use Rattle.std.proofs.lemmas.List.{length-map}
 use Rattle.nc_types.specs.Cidr.{Cidr}
 use Rattle.nc_types.specs.Config.{ConfigView, config_view}
-use Rattle.nc_round.specs.Keys.{key}
-use Rattle.nc_round.specs.Rows.{listed}
-use Rattle.nc_round.specs.Waking.{woken_at}
+use Rattle.nc_round.specs.Keys.{Key, key}
+use Rattle.nc_round.specs.Rows.{listed, row_key}
+use Rattle.nc_round.specs.Waking.{woken_at, AreWoken}
+use Rattle.nc_round.proofs.NumberedRows.{none_woken}
 use Rattle.nc_round.proofs.waking.woken.Goals as goal
+
+pub routers-init : goal.routers-init
+routers-init c = record {
+  woken = λ router p lt some. absurd (omega arith);
+  rows = subst (AreWoken 0 c.args.ribs.now.prefixes) (sym c.new-rows.ensures.items) (none_woken c.args.ribs.now.prefixes);
+}
 
 pub routers-preserved : goal.routers-preserved
 routers-preserved c =
     let number = c.routers.router in
     let W : ℕ → List Cidr = woken_at c.args.inputs.now c.args.ribs.now.rows (listed c.args.lists.now) in
-    let keys = c.wake.new.woken.items in
+    let keys : List Key = map row_key c.wake.new.woken.items in
     record {
       woken = λ router p lt some. elim (cases_lt router number) [
         | inl less ↦ c.in_ok-wake.ensures.kept (key router p) (c.routers.invariant.woken router p less some)
@@ -20,10 +27,15 @@ routers-preserved c =
             let same : number ≡ router = omega arith in
             subst (λ (r : ℕ). Contains keys (key r p)) same (c.in_ok-wake.ensures.woken p (subst (λ (r : ℕ). Contains (W r) p) (let back : router ≡ number = omega arith in back) some))
       ];
-      within = c.in_ok-wake.ensures.within (length c.args.inputs.now.network.now) (omega (arith, length-map c.routers-router-end.result.now config_view, ap (length {A = ConfigView}) c.routers-router-end.ensures.routers)) c.routers.invariant.within;
+      rows = c.in_ok-wake.ensures.rows;
     }
 
 pub returns-clause-woken : goal.returns-clause-woken
 returns-clause-woken c router p lt some =
     c.routers.invariant.woken router p
     (omega (arith, c.routers-test.false, length-map c.routers-router-end.result.now config_view, ap (length {A = ConfigView}) c.routers-router-end.ensures.routers)) some
+
+pub returns-clause-rows : goal.returns-clause-rows
+returns-clause-rows c =
+    let all : c.routers.router ≡ length c.args.inputs.now.network.now = omega (arith, c.routers-test.false, length-map c.routers-router-end.result.now config_view, ap (length {A = ConfigView}) c.routers-router-end.ensures.routers) in
+    subst (λ (n : ℕ). AreWoken n c.args.ribs.now.prefixes c.routers.rows.items) all c.routers.invariant.rows

@@ -5,7 +5,7 @@ use Rattle.std.proofs.lemmas.List.{length-map}
 use Rattle.nc_types.specs.Cidr.{Cidr}
 use Rattle.nc_types.specs.Config.{ConfigView, config_view}
 use Rattle.nc_types.specs.declared.config.AggregateStatement.{AggregateStatement}
-use Rattle.nc_types.proofs.Members.{In, in_left, in_right, in_map, in_filter, in_by_contains, contains_by_in, all_in, all_by_in, passes_some}
+use Rattle.nc_types.proofs.Members.{In, in_left, in_right, in_map, in_filter, in_by_contains, contains_by_in, all_in, passes_some}
 use Rattle.nc_tables.specs.declared.bgp.SessionRow.{SessionRow}
 use Rattle.nc_tables.specs.Rounds.{BgpRowView, is_longer_in}
 use Rattle.nc_message.specs.BestPath.{leaves_best_path}
@@ -69,12 +69,4 @@ returns-clause-woken c router p lt within woken =
     let each : (r : ℕ) → r < length network → slice_index_or lists r [] ≡ changed_at (map row_key c.args.changed.now) r =
     λ r less. subst (λ (ls : List (Vec Numbered Global)). slice_index_or (listed ls) r [] ≡ changed_at (map row_key c.args.changed.now) r) (sym c.deref.ensures.value)
     (c.in_ok-lists.ensures.each r (omega (arith, length-map c.routers.result.now config_view, ap (length {A = ConfigView}) c.routers.ensures.routers))) in
-    (c.in_order.ensures.same (key router p)).1
-    (c.in_ok-keys.ensures.woken router p lt (is_woken i c.args.ribs.now.rows (map row_key c.args.changed.now) lists within each router p woken))
-
-pub returns-clause-within : goal.returns-clause-within
-returns-clause-within c =
-    let keys = c.in_ok-keys.keys.items in
-    let rows = c.in_order.result.items in
-    all_by_in (λ (k : Key). k.0.0 < length c.args.inputs.now.network.now) rows
-    (λ k j. all_in (λ (q : Key). q.0.0 < length c.args.inputs.now.network.now) keys c.in_ok-keys.ensures.within k (in_by_contains keys k ((c.in_order.ensures.same k).0 (contains_by_in rows k j))))
+    c.in_ok-rows.ensures.woken router p lt (is_woken i c.args.ribs.now.rows (map row_key c.args.changed.now) lists within each router p woken)
