@@ -12,7 +12,7 @@ use Rattle.nc_types.specs.Communities.{has}
 use Rattle.nc_types.specs.Config.{ConfigView}
 use Rattle.nc_types.proofs.Placing.{slice_get_left, slice_get_middle}
 use Rattle.nc_policy.specs.Indexes.{place_from}
-use Rattle.nc_policy.specs.Kept.{AreAsked, AskedTable, IsApart, IsAskedOf}
+use Rattle.nc_policy.specs.Kept.{AreAsked, AskedTable, IsAskedOf}
 use Rattle.nc_policy.specs.Views.{map_names}
 
 first : (a b : Bool) → (a || b) ≡ false → a ≡ false
@@ -24,6 +24,10 @@ second true b e = absurd (cc)
 second false b e = e
 
 -- ---- communities and numbers
+
+-- communities have none of some numbers
+abbrev pub IsApart : List ℕ → List ℕ → Type 0
+IsApart numbers held = (n : ℕ) → has n numbers ≡ true → has n held ≡ false
 
 -- of communities none is among numbers: they have none of them
 pub none_of : (numbers xs : List ℕ) → list_any (λ (m : ℕ). has m numbers) xs ≡ false → (n : ℕ) → has n numbers ≡ true → has n xs ≡ false

@@ -10,11 +10,15 @@ use Rattle.std.specs.Option.{option_map, option_map_or, ForSome}
 use Rattle.std.specs.Str.{bytes_eq}
 use Rattle.nc_types.specs.Cidr.{Cidr}
 use Rattle.nc_types.specs.Config.{ClauseView, ConfigView, clause_view}
+use Rattle.nc_types.specs.declared.config.Reference.{Reference}
+use Rattle.nc_policy.specs.Passing.{map_place}
 use Rattle.nc_tables.specs.declared.policy.Names.{Names}
 use Rattle.nc_tables.specs.declared.policy.Place.{Place}
 use Rattle.nc_tables.specs.Policy.{Placed, placed_from, least, met, prefix_place, community_place, names_of, is_matching, deciding}
 use Rattle.nc_tables.specs.declared.bgp.Route.{Route}
-use Rattle.nc_policy.specs.Views.{asked, candidate_view, IsCandidate}
+use Rattle.nc_policy.proofs.Permitting.{position_map}
+use Rattle.nc_policy.specs.Indexes.{place_from}
+use Rattle.nc_policy.specs.Views.{asked, candidate_view, map_names, IsCandidate}
 use Rattle.nc_policy.specs.Decisions.{decided_by}
 use Rattle.nc_policy.specs.Kept.{asks, kept_at, lists_prefixes, AreKept, IsDecided, IsUnmet}
 use Rattle.nc_policy.specs.declared.clauses.Candidate.{Candidate}
@@ -169,6 +173,26 @@ none_passes view test (x ∷ xs) e (suc j) y at = none_passes view test xs (on (
     on true b e = cc
     on false b e = e
 
+-- ---- clauses that ask for communities
+
+-- one that isn't met in what it asks matches no route
+pub unmet_names : (c : ConfigView) (p : Cidr) (held : List ℕ) (k : ClauseView) → met (community_place c held) k.community_lists ≡ None → names_of c (asked p held) k ≡ None
+unmet_names c p held k e = ap (names_by (met (prefix_place c p) k.lists)) e ∙ on (met (prefix_place c p) k.lists)
+  where
+    on : (o : Option (Option Place)) → names_by o None ≡ None
+    on None = refl
+    on (Some entry) = refl
+
+-- a clause of a map that asks for none matches with any as without
+pub bare_alike : (c : ConfigView) (name : List ℕ) (p : Cidr) (held : List ℕ) (k : ClauseView) → asks name k ≡ false → bytes_eq name k.map_name ≡ true → names_of c (asked p []) k ≡ names_of c (asked p held) k
+bare_alike c name p held k e named =
+    let own : k.community_lists ≡ [] = no_length k.community_lists (both (not (nat_eq (length k.community_lists) 0)) (ap (λ (b : Bool). not (nat_eq (length k.community_lists) 0) && b) (sym named) ∙ e)) in
+    ap (names_by (met (prefix_place c p) k.lists)) (ap (met (community_place c [])) own ∙ sym (ap (met (community_place c held)) own))
+  where
+    both : (a : Bool) → (a && true) ≡ false → a ≡ false
+    both true e = e
+    both false e = refl
+
 -- ---- the table
 
 -- nothing is kept
@@ -178,6 +202,17 @@ nothing_kept c kept e = record { right = λ m name p d at found held unmet. absu
 -- the first of a name has it
 pub first_named : (names : List (List ℕ)) (name : List ℕ) (o : Option ℕ) (k : ℕ) → o ≡ position (bytes_eq name) names → o ≡ Some k → slice_get names k ≡ Some name
 first_named names name o k found is = named_at name names 0 k (sym (position_from-zero (bytes_eq name) names) ∙ sym found ∙ is)
+
+-- the first clause of a map by the names of the clauses' maps
+pub first_placed : (c : ConfigView) (name : List ℕ) → place_from name 0 (map_names c) ≡ position (λ (k : ClauseView). bytes_eq name k.map_name) c.clauses
+first_placed c name = sym (position_from-zero (bytes_eq name) (map_names c)) ∙ position_map (λ (k : ClauseView). k.map_name) (bytes_eq name) c.clauses
+
+-- where the map of a statement stands
+pub map_stands : (c other : ConfigView) (m : Option Reference) (reference : Reference) (name : List ℕ) (o : Option ℕ) → c ≡ other → m ≡ Some reference → name ≡ reference.name
+    → o ≡ place_from name 0 (map_names c) → o ≡ map_place other m
+map_stands c other m reference name o same is named found =
+    found ∙ first_placed c name ∙ ap (λ (n : List ℕ). position (λ (k : ClauseView). bytes_eq n k.map_name) c.clauses) named
+    ∙ ap (λ (k : ConfigView). map_place k (Some reference)) same ∙ ap (map_place other) (sym is)
 
 -- a clause whose prefix lists don't permit a prefix matches no route of it
 pub unmatched : (c : ConfigView) (p : Cidr) (held : List ℕ) (k : ClauseView) → met (prefix_place c p) k.lists ≡ None → is_matching c (asked p held) k ≡ false

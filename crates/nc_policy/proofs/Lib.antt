@@ -11,4 +11,6 @@ pub mod Asking
 pub mod Outside
 pub mod Sweeping
 pub mod Tabling
-pub mod Numbering
+pub mod Ranging
+pub mod Beating
+pub mod AskedClauses

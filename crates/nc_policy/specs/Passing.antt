@@ -1,5 +1,8 @@
 -- What the map of a statement makes of a route, from what the code tells of it without the route.
-use Rattle.std.specs.Prelude.{ℕ, List, [], ◌++◌, Option, Some, None, unwrap_or}
+use Rattle.std.specs.Prelude.{ℕ, List, [], ◌++◌, Option, Some, None, option_and_then, position, unwrap_or}
+use Rattle.std.specs.Str.{bytes_eq}
+use Rattle.nc_types.specs.Config.{ConfigView}
+use Rattle.nc_types.specs.declared.config.Reference.{Reference}
 use Rattle.nc_types.specs.declared.config.OriginCode.{OriginCode}
 use Rattle.nc_types.specs.Setting.{set_all}
 use Rattle.nc_tables.specs.declared.bgp.Route.{Route}
@@ -7,6 +10,10 @@ use Rattle.nc_tables.specs.declared.policy.Names.{Names}
 use Rattle.nc_tables.specs.Rounds.{Passed, unnamed}
 use Rattle.nc_policy.specs.declared.passing.Passing.{Passing}
 use Rattle.nc_policy.specs.declared.passing.Passing.TheVariants.{Unchanged, By}
+
+-- where the map of a statement stands, if it has one and its router has clauses of that name: the place of the first of them
+abbrev pub map_place : ConfigView → Option Reference → Option ℕ
+map_place c m = option_and_then (λ reference. position (λ k. bytes_eq reference.name k.map_name) c.clauses) m
 
 -- what goes before the path, and what becomes of the rest
 abbrev pub prepended_by : Passing → List ℕ

@@ -67,7 +67,7 @@ abbrev pub kept_table : Kept → List (Asking × Option Decided)
 kept_table x = kept_from (prefix_table x.numbers.value) 0 x.asked.items
 
 abbrev pub asked_view : Asked → AskedTable
-asked_view x = record { numbers = x.numbers; flat = x.flat }
+asked_view x = record { askers = x.askers; flat = x.flat }
 
 abbrev pub asked_table : Kept → List (Option AskedTable)
 asked_table x = map (option_map asked_view) x.asked.items

@@ -9,11 +9,12 @@ ghost use Rattle.nc_tables.specs.Policy.{prefix_place, community_place, first_pl
 ghost use Rattle.nc_tables.specs.Policy.{names_of, is_matching, deciding};
 ghost use Rattle.nc_policy.specs.Views.{asked, candidate_view, is_lower, map_names, IsCandidate};
 ghost use Rattle.nc_policy.specs.Indexes.{place_from};
-ghost use Rattle.nc_policy.specs.Kept.{IsDecided};
+ghost use Rattle.nc_policy.specs.Kept.{IsKnown};
 ghost use Rattle.nc_policy.specs.Walks.{of_map, rest_of};
 ghost use Rattle.nc_policy.specs.Seen.{IsIndexed};
 
-use crate::kept::{Asking, Decided, candidate_of};
+use crate::by_community::decided;
+use crate::kept::{Asking, Known};
 use crate::lists::{community_place, prefix_place};
 use crate::router_index::RouterIndex;
 use nc_community::Held;
@@ -200,8 +201,12 @@ fn clause_from(clauses: &[Clause], name: &[u8], from: usize) -> Option<usize>
     None
 }
 
-// The place of the first clause of a map: by the router's table, if there is one.
-fn first_clause(config: &RouterConfig, index: Option<&RouterIndex>, map: &[u8]) -> Option<usize>
+/// The place of the first clause of a map: by the router's table, if there is one.
+pub(crate) fn first_clause(
+    config: &RouterConfig,
+    index: Option<&RouterIndex>,
+    map: &[u8],
+) -> Option<usize>
     requires indexed { IfSome index (λ x. IsIndexed (config_view config.now) x.now) }
     ensures { result ≡ place_from map.now 0 (map_names (config_view config.now)) }
 {
@@ -228,28 +233,26 @@ fn clause_behind(
     }
 }
 
-// What is kept of a map and a prefix, if the router has tables and if these communities meet no clause
-// of the map that asks for some.
-fn decided(
+// What is known of a map and a prefix, if the router has tables.
+fn known<'i>(
     config: &RouterConfig,
-    index: Option<&RouterIndex>,
+    index: Option<&'i RouterIndex>,
     map: &[u8],
     first: Option<usize>,
     prefix: Prefix,
-    held: &Held,
-) -> Option<Option<Decided>>
+) -> Option<Known<'i>>
     requires indexed { IfSome index (λ x. IsIndexed (config_view config.now) x.now) }
     requires first { first ≡ place_from map.now 0 (map_names (config_view config.now)) }
-    ensures { IfSome result (IsDecided (config_view config.now) map.now (asked prefix held.now)) }
+    ensures { IfSome result (IsKnown (config_view config.now) map.now prefix) }
 {
     let index = index?;
     let first = first?;
-    index.kept.get(Asking { map: first, prefix }, held)
+    index.kept.get(Asking { map: first, prefix })
 }
 
-// Whether a prefix lies outside of what the prefix lists of a clause permit, as far as the router's
-// table says so.
-fn is_missed(index: Option<&RouterIndex>, place: usize, prefix: Prefix) -> bool
+/// Whether a prefix lies outside of what the prefix lists of a clause permit, as far as the router's
+/// table says so.
+pub(crate) fn is_missed(index: Option<&RouterIndex>, place: usize, prefix: Prefix) -> bool
     ensures { (config : ConfigView) (k : ClauseView)
         → IfSome index.entry (λ x. IsIndexed config x.now)
         → slice_get config.clauses place ≡ Some k → result ≡ true
@@ -324,23 +327,25 @@ pub(crate) fn scanned<'a>(
 }
 
 /// The clause of a map with the least number that matches a route of a prefix with communities: the
-/// one that is kept, if the router's table has one, else found by going over the clauses.
+/// one that is kept, if the router's table has one, else found by going over the clauses. The map's
+/// first clause stands at this place; `None` where it has none.
 pub(crate) fn deciding<'a>(
     config: &'a RouterConfig,
     index: Option<&RouterIndex>,
     map: &[u8],
+    first: Option<usize>,
     prefix: Prefix,
     held: &Held,
 ) -> Option<Candidate<'a>>
     requires indexed { IfSome index (λ x. IsIndexed (config_view config.now) x.now) }
+    requires first { first ≡ place_from map.now 0 (map_names (config_view config.now)) }
     requires formed { IsWellFormed (config_view config.now) }
     ensures deciding { option_map candidate_view result
         ≡ deciding (config_view config.now) map.now (asked prefix held.now) }
     ensures candidate { IfSome result (IsCandidate (config_view config.now) (asked prefix held.now)) }
 {
-    let first = first_clause(config, index, map);
-    match decided(config, index, map, first, prefix, held) {
-        Some(decided) => candidate_of(config, decided),
+    match known(config, index, map, first, prefix) {
+        Some(known) => decided(config, index, map, known, prefix, held),
         None => scanned(config, index, map, first, prefix, held),
     }
 }

@@ -1,14 +1,15 @@
 //! Without which communities a route is matched by no clause that asks for communities.
 
-ghost use Rattle.std.specs.Prelude.{◌≡◌, ℕ, List, true, false, map, IfOk, IfSome, None, OnOk, Some, slice_get};
+ghost use Rattle.std.specs.Prelude.{◌≡◌, ℕ, List, All, true, false, map, IfOk, IfSome, None, OnOk, Some, slice_get};
 ghost use Rattle.std.specs.List.{list_any};
 ghost use Rattle.nc_types.specs.Communities.{has};
 ghost use Rattle.nc_types.specs.Config.{ClauseView, CommunityListView, ConfigView, community_list_view, config_view};
 ghost use Rattle.nc_tables.specs.Policy.{community_place, first_place, is_held, met, permitting_community};
 ghost use Rattle.nc_policy.specs.Guards.{is_unheld, AreGuards};
-ghost use Rattle.nc_policy.specs.Kept.{IsApart};
+ghost use Rattle.nc_policy.specs.Kept.{is_asked_by};
 ghost use Rattle.nc_policy.specs.Seen.{IsNameIndex};
 
+use crate::askers::Asker;
 use crate::names::NameIndex;
 use nc_community::Held;
 use nc_types::{CommunityEntry, Reference, RouterConfig};
@@ -47,18 +48,24 @@ impl Guard {
         !has_one(numbers, first) && !has_one(numbers, added)
     }
 
-    /// Adds its numbers to others, where it is sound, and tells whether it is.
-    pub(crate) fn add_to(&self, numbers: &mut Vec<u32>) -> Result<bool, AllocError>
-        ensures kept { OnOk result ((n : ℕ) → has n numbers.old.items ≡ true
-            → has n numbers.new.items ≡ true) }
+    /// Adds the clause at a place by each of its numbers, where it is sound, and tells whether it is.
+    pub(crate) fn add_to(&self, askers: &mut Vec<Asker>, place: usize) -> Result<bool, AllocError>
+        ensures kept { OnOk result ((j : ℕ) (held : List ℕ) → is_asked_by askers.new.items j held ≡ false
+            → is_asked_by askers.old.items j held ≡ false) }
+        ensures own { OnOk result ((names : List (List ℕ)) (name : List ℕ) → slice_get names place ≡ Some name
+            → All (λ a. slice_get names a.place ≡ Some name) askers.old.items
+            → All (λ a. slice_get names a.place ≡ Some name) askers.new.items) }
         ensures added { IfOk result (λ sound. sound ≡ true → (held : List ℕ)
-            → IsApart numbers.new.items held → is_unheld self.now held ≡ true) }
+            → is_asked_by askers.new.items place held ≡ false → is_unheld self.now held ≡ true) }
     {
         if !self.sound {
             return Ok(false);
         }
         'numbers: for number in &self.numbers {
-            numbers.push(*number)?;
+            askers.push(Asker {
+                community: *number,
+                place,
+            })?;
         }
         Ok(true)
     }

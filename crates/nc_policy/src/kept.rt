@@ -12,15 +12,15 @@ ghost use Rattle.nc_tables.specs.declared.bgp.Route.{Route};
 ghost use Rattle.nc_policy.specs.Best.{IsRising};
 ghost use Rattle.nc_policy.specs.Decisions.{decision_or, table_in, AreRight};
 ghost use Rattle.nc_policy.specs.Indexes.{place_from, placed_in, IsPrefixTable};
-ghost use Rattle.nc_policy.specs.Kept.{lists_prefixes, AreAsked, AreKept, IsAskedOf, IsDecided, IsUnmet};
+ghost use Rattle.nc_policy.specs.Kept.{lists_prefixes, AreAsked, AreKept, IsAskedOf, IsDecided, IsKnown, IsUnmet};
 ghost use Rattle.nc_policy.specs.Seen.{asked_table, asked_view, kept_table, prefix_table, IsIndexed, IsPrefixIndex};
 ghost use Rattle.nc_policy.specs.Views.{asked, candidate_view, map_names, IsCandidate};
 
-use crate::asked::{asked_by, is_apart};
+use crate::asked::asked_by;
+use crate::askers::Askers;
 use crate::best::best_of_each;
 use crate::clauses::{Candidate, scanned};
 use crate::decisions::{Decisions, decided_of};
-use crate::numbers::Numbers;
 use crate::router_index::RouterIndex;
 use crate::statements::PrefixIndex;
 use nc_community::Held;
@@ -46,11 +46,20 @@ pub(crate) struct Decided {
     pub(crate) names: Names,
 }
 
+/// What is known of a map and a prefix.
+#[derive(Clone, Copy)]
+pub(crate) struct Known<'a> {
+    /// The clauses of the map that ask for communities.
+    pub(crate) askers: &'a Askers,
+    /// What the map decides for routes whose communities meet none of them.
+    pub(crate) decided: Option<Decided>,
+}
+
 /// What is known of a map.
 #[derive(Drop)]
 pub(crate) struct Asked {
-    /// The numbers of which communities have to have one to meet a clause that asks for some.
-    pub(crate) numbers: Numbers,
+    /// Its clauses that ask for communities.
+    pub(crate) askers: Askers,
     /// What a map that names no prefix list decides on every prefix, for routes whose communities meet
     /// no clause that asks for some.
     pub(crate) flat: Option<Option<Decided>>,
@@ -117,26 +126,25 @@ impl Kept {
         })
     }
 
-    /// What is kept of a map and a prefix, for a route with these communities. Takes no memory.
-    pub(crate) fn get(&self, asking: Asking, held: &Held) -> Option<Option<Decided>>
+    /// What is known of a map and a prefix. Takes no memory.
+    pub(crate) fn get(&self, asking: Asking) -> Option<Known<'_>>
         ensures { (config : ConfigView) (name : List ℕ) → AreAsked config (asked_table self.now)
             → AreKept config (kept_table self.now)
             → slice_get (map_names config) asking.map ≡ Some name
-            → IfSome result (IsDecided config name (asked asking.prefix held.now)) }
+            → IfSome result (IsKnown config name asking.prefix) }
     {
         let Some(Some(asked)) = self.asked.get(asking.map) else {
             return None;
         };
-        if !is_apart(&asked.numbers, held) {
-            return None;
-        }
+        let askers = &asked.askers;
         if let Some(decided) = asked.flat {
-            return Some(decided);
+            return Some(Known { askers, decided });
         }
         let Some(table) = &asked.table else {
             return None;
         };
-        decision_on(self.numbers.as_ref(), table, asking.prefix)
+        let decided = decision_on(self.numbers.as_ref(), table, asking.prefix)?;
+        Some(Known { askers, decided })
     }
 
     // Notes that a map was gone through, and what was found.
@@ -269,20 +277,20 @@ fn asked_of(
     ensures table { IfOk result (λ asked. (ps : List (Cidr × ℕ)) → IsPrefixTable prefixes.now ps
         → IfSome (table_in asked) (AreRight (config_view config.now) name.now ps)) }
 {
-    let Some(numbers) = asked_by(alloc, config, index, name, first)? else {
+    let Some(askers) = asked_by(alloc, config, index, name, first)? else {
         return Ok(None);
     };
     let flat = flat_of(config, index, name, first);
     if flat.is_some() {
         return Ok(Some(Asked {
-            numbers,
+            askers,
             flat,
             table: None,
         }));
     }
     let table = decisions_of(alloc, config, index, name, first, prefixes)?;
     Ok(Some(Asked {
-        numbers,
+        askers,
         flat: None,
         table: Some(table),
     }))

@@ -12,14 +12,16 @@
 //! What the maps of neighbor statements decide on the prefixes of the network's networks and
 //! aggregates is worked out once and kept, for routes whose communities meet no clause of the map
 //! that asks for some; a clause is asked only about the prefixes that lie between the addresses where
-//! its prefix lists permit. A table of the map says of which communities a route has to have one to meet
-//! such a clause: a route that has none of them is decided by two look-ups and one for each of its
-//! communities, however many clauses and lists there are. Of a map that names no prefix list one such
-//! decision is kept for all prefixes; of others 4 bytes are kept for each of a router's maps in use and
-//! prefix, for no more than 1,048,576 of them on a router, and each decision once where prefixes that
-//! follow one another share it. What isn't kept is found by going over the clauses. [`pass`] tells the
-//! same without making the route, without a set of communities and without memory: which clause let it
-//! pass, and by which entries. The tables find the network and the aggregate of a prefix too.
+//! its prefix lists permit. A table of the map says which clauses ask for communities, by those of
+//! which a route has to have one to meet them: a route is decided by what is kept, by one look-up for
+//! each of its communities, and by the clauses that ask for these alone, however many clauses and
+//! lists there are. Of a map that names no prefix list one such decision is kept for all prefixes; of
+//! others 4 bytes are kept for each of a router's maps in use and prefix, for no more than 1,048,576
+//! of them on a router, and each decision once where prefixes that follow one another share it. What
+//! isn't kept is found by going over the clauses. [`pass`] tells the same without making the route,
+//! without a set of communities and without memory: which clause let it pass, and by which entries;
+//! where a map stands can be found once for many routes. The tables find the network and the aggregate
+//! of a prefix too.
 //!
 //! The crate stands on `nc_types` for the configuration of a router, on `nc_tables` for routes and
 //! for the definition of what a map makes of one, and on `nc_community` for sets of communities.
@@ -27,7 +29,9 @@
 #![tactic(auto)]
 
 mod asked;
+mod askers;
 mod best;
+mod by_community;
 mod clauses;
 mod decisions;
 mod guards;
@@ -35,7 +39,6 @@ mod index;
 mod kept;
 mod lists;
 mod names;
-mod numbers;
 mod passing;
 mod policies;
 mod route_map;
@@ -47,5 +50,5 @@ mod statements;
 
 pub use nc_tables::Place;
 pub use passing::{ByClause, Passing, pass};
-pub use policies::Policies;
+pub use policies::{MapPlace, Policies};
 pub use route_map::{Verdict, apply};

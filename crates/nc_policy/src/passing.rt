@@ -8,11 +8,13 @@ ghost use Rattle.nc_types.specs.declared.TheConstants.{COMMUNITY_LIMIT, PATH_LIM
 ghost use Rattle.nc_tables.specs.Policy.{verdict};
 ghost use Rattle.nc_tables.specs.Rounds.{passed, passed_by};
 ghost use Rattle.nc_tables.specs.declared.bgp.Route.{Route};
+ghost use Rattle.nc_policy.specs.Indexes.{place_from};
 ghost use Rattle.nc_policy.specs.Seen.{IsIndexed};
+ghost use Rattle.nc_policy.specs.Views.{map_names};
 ghost use Rattle.nc_policy.specs.Passing.{prepended_by, preference_by, metric_by, origin_by};
 ghost use Rattle.nc_policy.specs.Passing.{communities_by, passing_view};
 
-use crate::clauses::deciding;
+use crate::clauses::{deciding, first_clause};
 use crate::lists::place_number;
 use crate::router_index::RouterIndex;
 use nc_community::Held;
@@ -108,17 +110,20 @@ impl<'a> Passing<'a> {
     }
 }
 
-// What a router's route map of this name makes of a route with this prefix, so many numbers in its
-// path and these communities, by the router's tables, if it has any.
+/// What a router's route map of this name makes of a route with this prefix, so many numbers in its
+/// path and these communities, by the router's tables, if it has any. The map's first clause stands at
+/// this place; `None` where it has none.
 pub(crate) fn pass_map<'a>(
     config: &'a RouterConfig,
     index: Option<&RouterIndex>,
     map: &[u8],
+    first: Option<usize>,
     prefix: Prefix,
     count: usize,
     held: &Held,
 ) -> Option<Passing<'a>>
     requires indexed { IfSome index (λ x. IsIndexed (config_view config.now) x.now) }
+    requires first { first ≡ place_from map.now 0 (map_names (config_view config.now)) }
     requires formed { IsWellFormed (config_view config.now) }
     requires few { count ≤ PATH_LIMIT }
     ensures passed { (r : Route) → r.prefix ≡ prefix → length r.path ≡ count
@@ -127,7 +132,7 @@ pub(crate) fn pass_map<'a>(
     ensures short { IfSome result (λ p. length (prepended_by p) + count ≤ PATH_LIMIT) }
     ensures few { IfSome result (λ p. length (communities_by p held.now) ≤ COMMUNITY_LIMIT) }
 {
-    let found = deciding(config, index, map, prefix, held)?;
+    let found = deciding(config, index, map, first, prefix, held)?;
     if !found.clause.permit {
         return None;
     }
@@ -164,8 +169,10 @@ pub fn pass<'a>(
     ensures few { IfSome result (λ p. length held.now ≤ COMMUNITY_LIMIT
         → length (communities_by p held.now) ≤ COMMUNITY_LIMIT) }
 {
-    match map {
-        None => Some(Passing::Unchanged),
-        Some(reference) => pass_map(config, None, reference.name.bytes(), prefix, count, held),
-    }
+    let Some(reference) = map else {
+        return Some(Passing::Unchanged);
+    };
+    let name = reference.name.bytes();
+    let first = first_clause(config, None, name);
+    pass_map(config, None, name, first, prefix, count, held)
 }

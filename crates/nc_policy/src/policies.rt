@@ -12,10 +12,12 @@ ghost use Rattle.nc_tables.specs.declared.bgp.Route.{Route};
 ghost use Rattle.nc_policy.specs.Best.{IsRising};
 ghost use Rattle.nc_policy.specs.Indexes.{ArePolicies};
 ghost use Rattle.nc_policy.specs.Seen.{IsIndexed, IsPrefixIndex};
-ghost use Rattle.nc_policy.specs.Passing.{communities_by, passing_view, prepended_by};
+ghost use Rattle.nc_policy.specs.Passing.{communities_by, map_place, passing_view, prepended_by};
 ghost use Rattle.nc_policy.specs.Statements.{aggregates_in, networks_in};
 ghost use Rattle.nc_policy.specs.Views.{verdict_view};
 
+use crate::clauses::first_clause;
+use crate::lists::place_number;
 use crate::passing::{Passing, pass_map};
 use crate::route_map::{Verdict, judge};
 use crate::router_index::RouterIndex;
@@ -27,12 +29,16 @@ use std::alloc::{AllocError, Global};
 use std::marker::Model;
 use std::rc::Rc;
 
+/// Where a route map of a router stands: the place of its first clause among the router's clauses.
+#[derive(Clone, Copy)]
+pub struct MapPlace(pub u32);
+
 /// The tables of the maps and lists of a network's routers, and of their networks and aggregates.
 /// They are made once, and by them the clauses of a map are found one behind the other, a list by
 /// its name and a network or an aggregate by its prefix at one look-up, and what a longer prefix list
 /// says of a prefix at one binary search for each length that prefixes of its entries have. What maps
 /// of neighbor statements decide on the network's prefixes is kept, for routes whose communities meet
-/// no clause of the map that asks for some.
+/// no clause of the map that asks for some, and by a community the clauses that ask for it are found.
 #[derive(Drop)]
 pub struct Policies {
     routers: Vec<RouterIndex>,
@@ -84,6 +90,14 @@ fn numbers_of(alloc: Global, prefixes: &[Prefix]) -> Result<Rc<PrefixIndex>, All
     let table = PrefixIndex::numbered(alloc, prefixes)?;
     let numbers = Rc::new(alloc, table)?;
     Ok(numbers)
+}
+
+// The place of a map's first clause, if there is such a map.
+fn first_of(place: Option<MapPlace>) -> Option<usize>
+    ensures { result ≡ option_map (λ p. p.0) place }
+{
+    let place = place?;
+    Some(place.0 as usize)
 }
 
 impl Policies {
@@ -139,6 +153,30 @@ impl Policies {
         let verdict = judge(alloc, config, self.tables(place), map, route)?;
         Ok(verdict)
     }
+
+    /// Where the map of a neighbor statement of a router stands: found once, it serves many routes by
+    /// [`Policies::pass_at`]. `None` where the statement has no map, or the router none of its name.
+    /// The tables are those of the network, which has the router. Takes no memory.
+    pub fn map_place(
+        &self,
+        network: &Network,
+        router: RouterId,
+        map: &Option<Reference>,
+    ) -> Option<MapPlace>
+        requires policies { ArePolicies network.now self.now }
+        requires router { router.0 < length network.now }
+        ensures { (c : ConfigView) → slice_get network.now router.0 ≡ Some c
+            → option_map (λ p. p.0) result ≡ map_place c map.now }
+    {
+        let Some(reference) = map else {
+            return None;
+        };
+        let number = router.0 as usize;
+        let config = &network.routers()[number];
+        let first = first_clause(config, self.tables(number), reference.name.bytes())?;
+        Some(MapPlace(place_number(config, first)))
+    }
+
     /// What the map of a neighbor statement of a router, if it has one, makes of a route with this
     /// prefix, so many numbers in its path and these communities, as [`crate::pass`] says it. The
     /// tables are those of the network, which has the router. Takes no memory.
@@ -161,13 +199,49 @@ impl Policies {
         ensures few { IfSome result (λ p. length held.now ≤ COMMUNITY_LIMIT
             → length (communities_by p held.now) ≤ COMMUNITY_LIMIT) }
     {
+        let place = self.map_place(network, router, map);
+        self.pass_at(network, router, map, place, prefix, count, held)
+    }
+
+    /// The same, where it is known where the map stands, as [`Policies::map_place`] says it.
+    pub fn pass_at<'a>(
+        &self,
+        network: &'a Network,
+        router: RouterId,
+        map: &Option<Reference>,
+        place: Option<MapPlace>,
+        prefix: Prefix,
+        count: usize,
+        held: &Held,
+    ) -> Option<Passing<'a>>
+        requires policies { ArePolicies network.now self.now }
+        requires router { router.0 < length network.now }
+        requires place { (c : ConfigView) → slice_get network.now router.0 ≡ Some c
+            → option_map (λ p. p.0) place ≡ map_place c map.now }
+        requires few { count ≤ PATH_LIMIT }
+        ensures passed { (c : ConfigView) (r : Route) → slice_get network.now router.0 ≡ Some c
+            → r.prefix ≡ prefix → length r.path ≡ count → r.communities ≡ held.now
+            → option_map (passing_view r) result ≡ passed c map.now r }
+        ensures short { IfSome result (λ p. length (prepended_by p) + count ≤ PATH_LIMIT) }
+        ensures few { IfSome result (λ p. length held.now ≤ COMMUNITY_LIMIT
+            → length (communities_by p held.now) ≤ COMMUNITY_LIMIT) }
+    {
         let Some(reference) = map else {
             return Some(Passing::Unchanged);
         };
-        let place = router.0 as usize;
-        let config = &network.routers()[place];
+        let number = router.0 as usize;
+        let config = &network.routers()[number];
         let name = reference.name.bytes();
-        pass_map(config, self.tables(place), name, prefix, count, held)
+        let first = first_of(place);
+        pass_map(
+            config,
+            self.tables(number),
+            name,
+            first,
+            prefix,
+            count,
+            held,
+        )
     }
 
     /// The place of the network statement of a prefix among those of a router; `None` where it has

@@ -7,7 +7,7 @@ ghost use Rattle.nc_tables.specs.Policy.{verdict};
 ghost use Rattle.nc_policy.specs.Views.{verdict_view};
 ghost use Rattle.nc_policy.specs.Seen.{IsIndexed};
 
-use crate::clauses::deciding;
+use crate::clauses::{deciding, first_clause};
 use crate::lists::place_number;
 use crate::router_index::RouterIndex;
 use crate::setting::set_by;
@@ -50,7 +50,8 @@ pub(crate) fn judge(
         ≡ verdict (config_view config.now) map.now route.now) }
 {
     let held = Held::of(&route.communities);
-    let Some(found) = deciding(config, index, map, route.prefix, &held) else {
+    let first = first_clause(config, index, map);
+    let Some(found) = deciding(config, index, map, first, route.prefix, &held) else {
         return Ok(Verdict::Deny);
     };
     if !found.clause.permit {

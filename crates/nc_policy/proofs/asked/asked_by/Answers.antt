@@ -1,4 +1,4 @@
-use Rattle.std.proofs.Common.{◌≡◌, ◌+◌, ◌<◌, ◌≤◌, ◌&&◌, ℕ, List, Bool, Option, Some, true, false, not, nat_eq, nat_lt, length, map, refl, sym, ap, ◌∙◌, arith, inl, inr}
+use Rattle.std.proofs.Common.{◌≡◌, ◌+◌, ◌<◌, ◌≤◌, ◌&&◌, ℕ, List, Bool, [], Option, Some, true, false, not, nat_eq, nat_lt, length, map, refl, sym, ap, ◌∙◌, arith, inl, inr, rules}
 use Rattle.std.specs.Prelude.{slice_get}
 use Rattle.std.specs.Option.{option_map}
 use Rattle.std.specs.Str.{bytes_eq}
@@ -7,7 +7,8 @@ use Rattle.std.proofs.lemmas.Bool.Decides.{nat_tests}
 use Rattle.std.proofs.lemmas.List.{length-map}
 use Rattle.std.proofs.lemmas.Option.{slice_get-map, slice_get_within}
 use Rattle.nc_types.specs.Config.{ClauseView, clause_view, config_view}
-use Rattle.nc_policy.specs.Kept.{asks, IsApart}
+use Rattle.nc_policy.specs.Kept.{asks, is_asked_by}
+use Rattle.nc_policy.proofs.Ranging.{none_bare}
 use Rattle.nc_policy.specs.Indexes.{place_from}
 use Rattle.nc_policy.specs.Views.{map_names}
 use Rattle.nc_policy.proofs.Asking.{is_past, other_between}
@@ -36,7 +37,8 @@ clauses-init c =
     let name = c.args.name.now in
     record {
       named = named_if name (map_names config) 0 (Some c.args.first) c.requires.first;
-      past = λ j k at asked past held apart. between name config.clauses 0 j k at asked (omega arith) (ap (λ (o : Option ℕ). is_past o j) (sym c.requires.first) ∙ past);
+      own = λ k d lt. absurd (let none : length c.new-askers.result.items ≡ 0 = search rules in omega arith);
+      past = λ j k at asked past held out. between name config.clauses 0 j k at asked (omega arith) (ap (λ (o : Option ℕ). is_past o j) (sym c.requires.first) ∙ past);
     }
 
 pub clauses-preserved : goal.clauses-preserved
@@ -48,16 +50,16 @@ clauses-preserved c =
     let own = at_some (λ (k : ℕ). slice_get names k ≡ Some name) c.clauses.next c.clauses.invariant.named place c.in-Some.is in
     let later = c.behind-next.result in
     let is : later ≡ place_from name (place + 1) names = c.behind-next.ensures names name c.requires.indexed.maps own in
-    let before : (held : List ℕ) → IsApart c.add_clause.new.numbers.items held → IsApart c.clauses.numbers.items held = λ held apart n e. apart n (c.in_ok-add_clause.ensures.kept n e) in
     record {
       named = named_if name names (place + 1) later is;
-      past = λ j k at asked past held apart. elim (cases_eq j place) [
+      own = c.in_ok-add_clause.ensures.own names name own c.clauses.invariant.own;
+      past = λ j k at asked past held out. elim (cases_eq j place) [
         | inl same ↦
-            c.in_ok-add_clause.ensures.clause c.if-not-branch.false k (ap (slice_get config.clauses) (sym same) ∙ at) (one_of (not (nat_eq (length k.community_lists) 0)) (bytes_eq name k.map_name) asked) held apart
+            c.in_ok-add_clause.ensures.clause c.if-not-branch.false k (ap (slice_get config.clauses) (sym same) ∙ at) (one_of (not (nat_eq (length k.community_lists) 0)) (bytes_eq name k.map_name) asked) held (ap (λ (i : ℕ). is_asked_by c.add_clause.new.askers.items i held) (sym same) ∙ out)
         | inr other ↦ elim (cases_lt j place) [
           | inl front ↦
               let low : nat_lt j place ≡ true = grind (arith, nat_tests) in
-              c.clauses.invariant.past j k at asked (ap (λ (o : Option ℕ). is_past o j) c.in-Some.is ∙ low) held (before held apart)
+              c.clauses.invariant.past j k at asked (ap (λ (o : Option ℕ). is_past o j) c.in-Some.is ∙ low) held (c.in_ok-add_clause.ensures.kept j held out)
           | inr back ↦ between name config.clauses (place + 1) j k at asked (omega arith) (ap (λ (o : Option ℕ). is_past o j) (sym is) ∙ past)
         ]
       ];
@@ -75,5 +77,15 @@ clauses-smaller c =
     let inside : place < length c.args.config.now.clauses.items = omega (arith, slice_get_within names place name own, length-map config.clauses (λ (k : ClauseView). k.map_name), length-map c.args.config.now.clauses.items clause_view) in
     fewer (length c.args.config.now.clauses.items) place c.clauses.next later c.in-Some.is inside (at_some (λ (k : ℕ). place + 1 ≤ k) later (behind_if name names (place + 1) later is))
 
-pub returns : goal.returns
-returns c = λ held apart j k at asked. c.clauses.invariant.past j k at asked (ap (λ (o : Option ℕ). is_past o j) c.in_default.is) held (λ n e. apart n (c.in_ok-numbers.ensures n e))
+pub returns-clause-askers : goal.returns-clause-askers
+returns-clause-askers c =
+    let config = config_view c.args.config.now in
+    let name = c.args.name.now in
+    record {
+      unmet = λ j k at asked held out.
+          c.clauses.invariant.past j k at asked (ap (λ (o : Option ℕ). is_past o j) c.in_default.is) held (sym (c.in_ok-askers.ensures.asked j held) ∙ out);
+      own = c.in_ok-askers.ensures.own (map_names config) name c.clauses.invariant.own;
+    }
+
+pub returns-clause-bare : goal.returns-clause-bare
+returns-clause-bare c = λ j k at asked. c.clauses.invariant.past j k at asked (ap (λ (o : Option ℕ). is_past o j) c.in_default.is) [] (none_bare c.clauses.askers.items j)

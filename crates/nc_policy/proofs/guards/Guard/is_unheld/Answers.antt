@@ -1,8 +1,7 @@
 use Rattle.std.proofs.Common.{◌≡◌, ◌&&◌, ◌||◌, ℕ, List, Bool, true, false, not, refl, ap, sym, subst, ◌∙◌, rules}
 use Rattle.std.specs.List.{list_any}
 use Rattle.nc_types.specs.Communities.{has}
-use Rattle.nc_policy.specs.Kept.{IsApart}
-use Rattle.nc_policy.proofs.Asking.{has_own, none_held_of, none_of}
+use Rattle.nc_policy.proofs.Asking.{has_own, none_held_of, none_of, IsApart}
 use Rattle.nc_policy.proofs.guards.Guard.is_unheld.Goals as goal
 
 is_not : (b : Bool) → not b ≡ true → b ≡ false

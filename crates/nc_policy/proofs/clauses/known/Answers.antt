@@ -5,7 +5,7 @@ use Rattle.nc_policy.specs.declared.router_index.RouterIndex.{RouterIndex}
 use Rattle.nc_policy.specs.Seen.{IsIndexed}
 use Rattle.nc_policy.specs.Views.{map_names}
 use Rattle.nc_policy.proofs.Deciding.{at_some, named_if}
-use Rattle.nc_policy.proofs.clauses.decided.Goals as goal
+use Rattle.nc_policy.proofs.clauses.known.Goals as goal
 
 pub returns : goal.returns
 returns c =
