@@ -1,7 +1,7 @@
 -- Nodes in slots: each is found on its way, also when more are put, and one that isn't found isn't there.
-use Rattle.std.proofs.Common.{◌≡◌, ℕ, zero, suc, ◌+◌, ◌-◌, ◌<◌, ◌≤◌, List, [], ◌∷◌, ◌++◌, length, get_or, set, take, drop, refl, sym, ap, subst, ◌∙◌, inl, inr, arith, Contains, Bool, true, ◌&&◌, ◌==◌, eq-eqb}
+use Rattle.std.proofs.Common.{◌≡◌, ℕ, zero, suc, ◌+◌, ◌-◌, ◌<◌, ◌≤◌, List, [], ◌∷◌, ◌++◌, length, get_or, set, refl, sym, ap, subst, ◌∙◌, inl, inr, arith, Contains, Bool, true, ◌&&◌, ◌==◌, eq-eqb}
 use Rattle.std.proofs.lemmas.Bool.{cases_lt, and_parts, eqb-true}
-use Rattle.std.proofs.lemmas.List.{length-append, get_or_append_left, get_or-append_right, get_or-set_other, get_or-set_same, length-set, take-append-drop}
+use Rattle.std.proofs.lemmas.List.{length-append, get_or_append_left, get_or-append_right, get_or-set_other, get_or-set_same, length-set}
 use Rattle.nc_diagram.specs.declared.node.Node.{Node}
 use Rattle.nc_diagram.proofs.Canonicity.{same_node}
 use Rattle.nc_diagram.specs.Index.{home, next, IsRun, IsFoundFrom, IsFound, IsIndexed, IsFree, IsFreeFrom}
@@ -90,16 +90,10 @@ IsIndexed-put slots nodes n at within free are k d h =
           (subst (λ j. IsFound new (length new) n j) (sym here) (IsFound-put slots (length nodes) n at within free)))
     ]
 
--- no node, the oldest ones, and one more of a list
-pub IsIndexed-none : (slots : List ℕ) → IsIndexed slots []
-IsIndexed-none slots k d h = absurd (omega (arith, h))
-
+-- the oldest nodes, and all but the newest
 IsIndexed-front : (slots : List ℕ) (nodes later : List Node) → IsIndexed slots (nodes ++ later) → IsIndexed slots nodes
 IsIndexed-front slots nodes later are k d h =
     subst (λ m. IsFound slots (length slots) m k) (get_or_append_left nodes later d k h) (are k d (omega (arith, h, length-append nodes later)))
-
-pub IsIndexed-take : (slots : List ℕ) (nodes : List Node) (count : ℕ) → IsIndexed slots nodes → IsIndexed slots (take count nodes)
-IsIndexed-take slots nodes count are = IsIndexed-front slots (take count nodes) (drop count nodes) (subst (IsIndexed slots) (sym (take-append-drop count nodes)) are)
 
 pub IsIndexed-last : (slots : List ℕ) (nodes : List Node) (n : Node) → IsIndexed slots (nodes ++ n ∷ []) → IsIndexed slots nodes
 IsIndexed-last slots nodes n are = IsIndexed-front slots nodes (n ∷ []) are

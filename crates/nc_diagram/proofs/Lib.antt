@@ -10,3 +10,6 @@ pub mod AllButLemmas
 pub mod RecentLemmas
 pub mod PartLemmas
 pub mod IndexLemmas
+pub mod WayLemmas
+pub mod SlotLemmas
+pub mod TableLemmas

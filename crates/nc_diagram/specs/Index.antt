@@ -1,5 +1,5 @@
 -- Where the nodes of a store are found by what they are: slots, each with the number of a node, counted from 1 in the order of age.
-use Rattle.std.specs.Prelude.{◌≡◌, ℕ, zero, suc, ◌+◌, ◌*◌, ◌/◌, ◌%◌, ◌^◌, ◌<◌, ◌⊎◌, ◌==◌, if◌then◌else◌, List, length, get_or}
+use Rattle.std.specs.Prelude.{◌≡◌, ℕ, zero, suc, ◌+◌, ◌*◌, ◌/◌, ◌%◌, ◌^◌, ◌<◌, ◌≤◌, ◌⊎◌, ◌==◌, if◌then◌else◌, Bool, true, false, List, length, get_or, count_by}
 use Rattle.nc_diagram.specs.declared.node.Node.{Node}
 
 -- the slot where a node's way begins, among so many
@@ -41,3 +41,19 @@ pub record IsFreeFrom (slots : List ℕ) (nodes from at : ℕ) : Type 0 where
   pub few : steps < length slots
   pub run : IsRun slots (length slots) (nodes + 1) steps from at
   pub free : IsFree slots nodes at
+
+-- a number, and not the 0 of a slot that has none
+abbrev pub is_number : ℕ → Bool
+is_number zero = false
+is_number (suc n) = true
+
+-- how many slots have a number
+abbrev pub numbered : List ℕ → ℕ
+numbered slots = count_by is_number slots
+
+-- the slots are for these nodes: each is found on its way, no more slots have a number than there are nodes, and a quarter of the slots is
+-- kept free
+pub record AreFor (slots : List ℕ) (nodes : List Node) : Type 0 where
+  pub indexed : IsIndexed slots nodes
+  pub used : numbered slots ≤ length nodes
+  pub roomy : 4 * length nodes ≤ 3 * length slots

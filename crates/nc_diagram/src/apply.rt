@@ -269,10 +269,9 @@ impl Store {
         let alloc = self.alloc;
         let mark = self.len();
         let mut known = self.lend(operator);
-        known.begin(alloc);
         match self.apply(alloc, operator, pair, &mut known) {
             Ok(place) => {
-                known.end();
+                known.end(alloc);
                 self.take_back(operator, known);
                 Ok(place)
             }

@@ -1,8 +1,7 @@
 // The nodes of a store, each once, and where one is found by what it is.
 
-ghost use Rattle.std.specs.Prelude.{◌≡◌, ℕ, ◌+◌, ◌^◌, ◌<◌, ◌≤◌, List, [], ◌∷◌, ◌++◌, length, take, get_or, slice_get, Contains, IfSome, IfNone, IfOk, OnOk, OnErr};
-ghost use Rattle.nc_diagram.specs.declared.node.Node.{Node};
-ghost use Rattle.nc_diagram.specs.Index.{home, next, IsIndexed, IsFree, IsFreeFrom};
+ghost use Rattle.std.specs.Prelude.{◌≡◌, ◌+◌, ◌*◌, ◌^◌, ◌<◌, ◌≤◌, [], ◌∷◌, ◌++◌, length, take, get_or, slice_get, Contains, IfSome, IfNone, IfOk, OnOk, OnErr};
+ghost use Rattle.nc_diagram.specs.Index.{home, next, numbered, IsIndexed, IsFree, IsFreeFrom, AreFor};
 
 use crate::node::Node;
 use std::alloc::{AllocError, Global};
@@ -23,7 +22,8 @@ const NUMBERS: u64 = 4_294_967_296;
 
 /// Nodes, the oldest first, none twice. A slot has the number of one of them, counted from 1, or is free:
 /// it has 0, or a number past the last. A node is found on its way through the slots, before the first
-/// free one, and those before its own have lower numbers. It takes no memory before the first node.
+/// free one, and those before its own have lower numbers. A quarter of the slots is kept free. It takes no
+/// memory before the first node.
 #[derive(Drop)]
 pub(crate) struct Nodes {
     list: Vec<Node>,
@@ -34,13 +34,13 @@ pub(crate) struct Nodes {
 impl Model for Nodes {
     ghost use Rattle.std.specs.Prelude.{List};
     ghost use Rattle.nc_diagram.specs.declared.node.Node.{Node};
-    ghost use Rattle.nc_diagram.specs.Index.{IsIndexed};
+    ghost use Rattle.nc_diagram.specs.Index.{AreFor};
 
     ghost Value = { List Node };
 
     ghost view = { λ n. n.list.items };
 
-    ghost invariant = { λ n. IsIndexed n.slots.items n.list.items };
+    ghost invariant = { λ n. AreFor n.slots.items n.list.items };
 }
 
 // The slot where a node's way begins, among so many.
@@ -56,7 +56,7 @@ fn home(node: Node, count: usize) -> usize
 }
 
 // The slot behind another, among so many.
-fn next(at: usize, count: usize) -> usize
+pub(crate) fn next(at: usize, count: usize) -> usize
     requires { at < 2 ^ 63 }
     ensures { result ≡ next count at }
 {
@@ -100,9 +100,12 @@ fn index_of(slots: &[u32], nodes: &[Node], node: Node) -> Option<usize>
     None
 }
 
-// The first free slot on the way that begins at one, of slots for so many nodes, or one past the end.
+// The first free slot on the way that begins at one, of slots for so many nodes.
 fn free_from(slots: &[u32], count: usize, from: usize) -> usize
-    ensures { result < length slots.now → IsFreeFrom slots.now count from result }
+    requires from { from < length slots.now }
+    requires some { numbered slots.now < length slots.now }
+    ensures within { result < length slots.now }
+    ensures first { IsFreeFrom slots.now count from result }
 {
     let mut at = from;
     'slots: for _step in 0..slots.len() {
@@ -111,71 +114,87 @@ fn free_from(slots: &[u32], count: usize, from: usize) -> usize
         };
         at = next(at, slots.len());
     }
-    slots.len()
+    unreachable!()
 }
 
-// Puts a node's number where it is found, behind so many older ones. Where no slot is free, which is so
-// only where there are no more slots than nodes, it is refused.
-fn put(slots: &mut Vec<u32>, count: usize, node: Node) -> Result<(), AllocError>
-    requires { count + 1 < 2 ^ 32 }
-    ensures found { OnOk result ((nodes : List Node) → length nodes ≡ count
-        → IsIndexed slots.old.items nodes → IsIndexed slots.new.items (nodes ++ node ∷ [])) }
-    ensures err { OnErr result (slots.new.items ≡ slots.old.items) }
+// Puts the number of the node with an index where it is found, behind the older ones.
+fn put(slots: &mut Vec<u32>, nodes: &[Node], index: usize)
+    requires within { index < length nodes.now }
+    requires narrow { index + 1 < 2 ^ 32 }
+    requires older { AreFor slots.old.items (take index nodes.now) }
+    requires room { 4 * (index + 1) ≤ 3 * length slots.old.items }
+    ensures are { AreFor slots.new.items (take (index + 1) nodes.now) }
+    ensures as_many { length slots.new.items ≡ length slots.old.items }
 {
-    let at = free_from(slots, count, home(node, slots.len()));
-    if at >= slots.len() {
-        return Err(AllocError);
-    }
-    slots[at] = count as u32 + 1;
-    Ok(())
+    let at = free_from(slots, index, home(nodes[index], slots.len()));
+    slots[at] = index as u32 + 1;
 }
 
-// So many slots for nodes.
+// So many slots for nodes, a quarter of which is free.
 fn slots_for(alloc: Global, nodes: &[Node], room: usize) -> Result<Vec<u32>, AllocError>
-    requires { length nodes.now < 2 ^ 32 }
-    ensures { IfOk result (λ slots. IsIndexed slots.items nodes.now) }
+    requires narrow { length nodes.now < 2 ^ 32 }
+    requires room { 4 * length nodes.now ≤ 3 * room }
+    ensures are { IfOk result (λ slots. AreFor slots.items nodes.now) }
+    ensures as_many { IfOk result (λ slots. length slots.items ≡ room) }
 {
     let mut slots = Vec::new(alloc);
     slots.resize(room, 0)?;
     'nodes: for index in 0..nodes.len() {
-        put(&mut slots, index, nodes[index])?;
+        put(&mut slots, nodes, index);
     }
     Ok(slots)
 }
 
-// The slot with a number on the way that begins at one, or one past the end.
-fn slot_of(slots: &[u32], number: usize, from: usize) -> usize {
+// Makes room for one more node: no more than three quarters of the slots are in use.
+fn make_room(alloc: Global, slots: &mut Vec<u32>, nodes: &[Node]) -> Result<(), AllocError>
+    requires narrow { length nodes.now < 2 ^ 32 }
+    requires are { AreFor slots.old.items nodes.now }
+    ensures are { AreFor slots.new.items nodes.now }
+    ensures room { OnOk result (4 * (length nodes.now + 1) ≤ 3 * length slots.new.items) }
+{
+    let count = slots.len();
+    if nodes.len() < count / 4 * 3 {
+        return Ok(());
+    }
+    let more = count.saturating_mul(2).max(LEAST);
+    *slots = slots_for(alloc, nodes, more)?;
+    Ok(())
+}
+
+// The slot with a number on the way that begins at one.
+fn slot_of(slots: &[u32], number: usize, from: usize) -> usize
+    requires from { from < length slots.now }
+    requires some { Contains slots.now number }
+    ensures within { result < length slots.now }
+    ensures there { get_or slots.now result 0 ≡ number }
+{
     let mut at = from;
-    'slots: for _ in 0..slots.len() {
-        if at >= slots.len() || slots[at] as usize == number {
+    'slots: for _step in 0..slots.len() {
+        if slots[at] as usize == number {
             return at;
         }
         at = next(at, slots.len());
     }
-    slots.len()
+    unreachable!()
 }
 
-// Frees the slot with a number that is past the last, where there is one on the way from another.
-fn clear(slots: &mut Vec<u32>, number: usize, from: usize)
-    ensures { (nodes : List Node) → length nodes < number
-        → IsIndexed slots.old.items nodes → IsIndexed slots.new.items nodes }
+// Frees the slot of the node with an index, the newest of those that the slots are for.
+fn clear(slots: &mut Vec<u32>, nodes: &[Node], index: usize)
+    requires within { index < length nodes.now }
+    requires newest { AreFor slots.old.items (take (index + 1) nodes.now) }
+    ensures { AreFor slots.new.items (take index nodes.now) }
 {
-    let at = slot_of(slots, number, from);
-    if at < slots.len() {
-        if slots[at] as usize == number {
-            slots[at] = 0;
-        }
-    }
+    let at = slot_of(slots, index + 1, home(nodes[index], slots.len()));
+    slots[at] = 0;
 }
 
 // Frees the slots of nodes from an index on, the newest first.
 fn clear_from(slots: &mut Vec<u32>, nodes: &[Node], count: usize)
-    ensures { (older : List Node) → length older ≤ count
-        → IsIndexed slots.old.items older → IsIndexed slots.new.items older }
+    requires { AreFor slots.old.items nodes.now }
+    ensures { AreFor slots.new.items (take count nodes.now) }
 {
-    let room = slots.len();
-    'nodes: for index in count..nodes.len() {
-        clear(slots, index + 1, home(nodes[index], room));
+    'nodes: for index in (count..nodes.len()).rev() {
+        clear(slots, nodes, index);
     }
 }
 
@@ -214,30 +233,16 @@ impl Nodes {
         index_of(&self.slots, &self.list, node)
     }
 
-    // Makes room for one more node: no more than three quarters of the slots are in use.
-    fn make_room(&mut self) -> Result<(), AllocError>
-        requires { length self.old < 2 ^ 32 }
-        ensures { self.new ≡ self.old }
-    {
-        let count = self.slots.len();
-        if self.list.len() < count / 4 * 3 {
-            return Ok(());
-        }
-        let more = count.saturating_mul(2).max(LEAST);
-        self.slots = slots_for(self.alloc, &self.list, more)?;
-        Ok(())
-    }
-
     // Adds a node that isn't one of these. At a refusal they stay as they are.
     pub(crate) fn add(&mut self, node: Node) -> Result<(), AllocError>
         requires { length self.old + 1 < 2 ^ 32 }
         ensures added { OnOk result (self.new ≡ self.old ++ node ∷ []) }
         ensures err { OnErr result (self.new ≡ self.old) }
     {
-        self.make_room()?;
+        make_room(self.alloc, &mut self.slots, &self.list)?;
         let count = self.list.len();
-        put(&mut self.slots, count, node)?;
         self.list.push(node)?;
+        put(&mut self.slots, &self.list, count);
         Ok(())
     }
 

@@ -109,8 +109,7 @@ impl<F: Copy + Eq + Hash> Graph<F> {
     /// # Errors
     ///
     /// `Full` where the facts of the graph with what the new ones are derived from are more than
-    /// the limit, and `Memory` where memory is refused, or the parents of all nodes are more than a
-    /// `u32` counts. The graph is then as it was before.
+    /// the limit, and `Memory` where memory is refused. The graph is then as it was before.
     pub fn add<I: Inference<Fact = F>>(
         &mut self,
         rules: &mut I,

@@ -1,16 +1,16 @@
 //! Lists that lie one behind the other in one vector.
-ghost use Rattle.std.specs.Prelude.{◌≡◌, ◌+◌, ◌<◌, ◌≤◌, ◌++◌, ◌∷◌, [], length, take, slice_get, IfOk, OnOk, OnErr};
+ghost use Rattle.std.specs.Prelude.{◌≡◌, ◌+◌, ◌<◌, ◌≤◌, ◌++◌, ◌∷◌, [], length, take, slice_get, OnOk, OnErr};
 ghost use Rattle.nc_graph.specs.Lists.{start_of, AreEnds};
 
 use std::alloc::{AllocError, Global};
 use std::marker::Model;
 
 /// Lists, numbered from 0, whose items lie one behind the other in one vector. A list takes what
-/// its items take and four bytes, where a vector of its own would take more than ten times that.
+/// its items take and eight bytes, where a vector of its own would take 24 and a block of memory.
 #[derive(Drop)]
 pub struct Lists<T: Copy> {
     items: Vec<T>,
-    ends: Vec<u32>,
+    ends: Vec<usize>,
 }
 
 impl<T: Copy> Model for Lists<T> {
@@ -24,33 +24,16 @@ impl<T: Copy> Model for Lists<T> {
     ghost invariant = { λ l. AreEnds 0 l.ends.items (length l.items.items) };
 }
 
-// Where a list of so many items ends. Where this is none of 32 bits, it is refused as memory is.
-fn end_of(from: usize, count: usize) -> Result<u32, AllocError>
-    ensures { IfOk result (λ end. end ≡ from + count) }
-{
-    let Some(end) = from.checked_add(count) else {
-        return Err(AllocError);
-    };
-    match u32::try_from(end) {
-        Ok(end) => Ok(end),
-        Err(_) => Err(AllocError),
-    }
-}
-
 // Where the list of a number begins: where the one before it ends.
-fn start_of(ends: &[u32], number: usize) -> usize
+fn start_of(ends: &[usize], number: usize) -> usize
     requires { number ≤ length ends.now }
     ensures { result ≡ start_of 0 ends.now number }
 {
-    if number == 0 {
-        0
-    } else {
-        ends[number - 1] as usize
-    }
+    if number == 0 { 0 } else { ends[number - 1] }
 }
 
 // Where the list of a number begins and ends, of as many items.
-fn bounds_of(ends: &[u32], number: usize, count: usize) -> (usize, usize)
+fn bounds_of(ends: &[usize], number: usize, count: usize) -> (usize, usize)
     requires number { number < length ends.now }
     requires ends { AreEnds 0 ends.now count }
     ensures from { result.0 ≡ start_of 0 ends.now number }
@@ -58,7 +41,7 @@ fn bounds_of(ends: &[u32], number: usize, count: usize) -> (usize, usize)
     ensures order { result.0 ≤ result.1 }
     ensures within { result.1 ≤ count }
 {
-    (start_of(ends, number), ends[number] as usize)
+    (start_of(ends, number), ends[number])
 }
 
 impl<T: Copy> Lists<T> {
@@ -92,16 +75,14 @@ impl<T: Copy> Lists<T> {
     ///
     /// # Errors
     ///
-    /// That memory is refused, or that all items are more than a `u32` counts. The lists are then as
-    /// before.
+    /// That memory is refused. The lists are then as before.
     pub fn push(&mut self, list: &[T]) -> Result<(), AllocError>
         ensures pushed { OnOk result (self.new ≡ self.old ++ list.now ∷ []) }
         ensures unchanged { OnErr result (self.new ≡ self.old) }
     {
-        let end = end_of(self.items.len(), list.len())?;
         self.ends.reserve(1)?;
         self.items.extend_from_slice(list)?;
-        self.ends.push(end).unwrap();
+        self.ends.push(self.items.len()).unwrap();
         Ok(())
     }
 

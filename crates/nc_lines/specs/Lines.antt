@@ -1,5 +1,5 @@
 -- The lines of a text, and the words of a line.
-use Rattle.std.specs.Prelude.{ℕ, ◌-◌, Bool, true, false, not, ◌||◌, ◌==◌, List, [], ◌∷◌, map, filter, slice_index_or, if◌then◌else◌}
+use Rattle.std.specs.Prelude.{ℕ, ◌-◌, Bool, true, false, not, ◌||◌, ◌==◌, List, [], ◌∷◌, Option, Some, None, map, filter, slice_index_or, if◌then◌else◌}
 use Rattle.std.specs.List.{slice_split}
 
 -- whether there is nothing in a list of bytes
@@ -34,6 +34,12 @@ lines_of bytes = map without_return (without_empty_last (slice_split is_feed byt
 -- the words of a line: what stands between its gaps
 unfoldable pub words_of : List ℕ → List (List ℕ)
 words_of line = filter (λ word. not (is_empty word)) (slice_split is_gap line)
+
+-- the first byte of the first of these words
+abbrev pub first_byte : List (List ℕ) → Option ℕ
+first_byte [] = None
+first_byte ([] ∷ words) = None
+first_byte ((b ∷ bs) ∷ words) = Some b
 
 -- a line that begins with a gap
 abbrev pub is_indented : List ℕ → Bool

@@ -3,7 +3,7 @@
 ghost use Rattle.std.specs.Prelude.{◌≡◌, ℕ, ◌<◌, ◌==◌, not, Bool, length, [], ◌∷◌, position, MatchOption, IfSome, IfNone};
 ghost use Rattle.std.specs.List.{slice_split};
 ghost use Rattle.nc_lines.specs.Blocks.{is_idle};
-ghost use Rattle.nc_lines.specs.Lines.{is_gap, words_of, is_indented, without_return};
+ghost use Rattle.nc_lines.specs.Lines.{is_gap, words_of, first_byte, is_indented, without_return};
 
 use memchr::memchr;
 
@@ -71,7 +71,8 @@ pub fn is_indented(line: &[u8]) -> bool
 
 /// The first byte of the first word of a line, by which a comment is told; `None` where the line is blank.
 pub fn first_byte(line: &[u8]) -> Option<u8>
-    ensures { MatchOption result (words_of line.now ≡ []) (λ byte. is_idle (words_of line.now) ≡ (byte == 33)) }
+    ensures byte { result ≡ first_byte (words_of line.now) }
+    ensures comment { MatchOption result (words_of line.now ≡ []) (λ byte. is_idle (words_of line.now) ≡ (byte == 33)) }
 {
     let start = word_place(line)?;
     Some(line[start])

@@ -1,5 +1,5 @@
 -- Sets of elements as lists, kept in a table, where each has a place.
-use Rattle.std.specs.Prelude.{◌≡◌, ℕ, ◌<◌, ◌≤◌, Bool, true, false, All, List, [], length, nat_eq, slice_index_or}
+use Rattle.std.specs.Prelude.{◌≡◌, ℕ, ◌+◌, ◌<◌, ◌≤◌, Bool, true, false, All, List, [], length, nat_eq, slice_index_or}
 use Rattle.std.specs.List.{list_any, list_all}
 use Rattle.nc_graph.specs.declared.node.NodeId.{NodeId}
 
@@ -50,12 +50,14 @@ pub record IsAt (t : Table) (place : ℕ) (passes : ℕ → Bool) : Type 0 where
 pub record ArePlaced (t : Table) (places : List ℕ) : Type 0 where
   pub each : (i : ℕ) → i < length places → slice_index_or places i 0 < length t.sets
 
--- the sets of nodes lie at their places in the table, whose set at 0 is empty, and as many elements count in all that is kept
+-- the sets of nodes lie at their places in the table, whose set at 0 is empty: there are no more than this one and one for each
+-- node, and as many elements count in all that is kept
 pub record IsTable (t : Table) (gathered : Gathering) (places : List ℕ) (elements : ℕ) : Type 0 where
   pub empty : IsAt t 0 (λ _. false)
   pub gathering : gathered.width ≡ t.width
   pub marked : elements ≡ t.width
   pub placed : ArePlaced t places
+  pub few : length t.sets ≤ length places + 1
 
 -- an element is in the set of some node, and in that of each
 abbrev pub in_some : Table → List ℕ → List NodeId → ℕ → Bool

@@ -1,6 +1,6 @@
 //! The union and the intersection of the sets of nodes. Each takes time for all of these sets
 //! together, and adds at most its result to the table.
-ghost use Rattle.std.specs.Prelude.{◌≡◌, ◌||◌, ◌&&◌, ◌<◌, ℕ, All, length, true, false, slice_index_or, IfOk, OnOk};
+ghost use Rattle.std.specs.Prelude.{◌≡◌, ◌||◌, ◌&&◌, ◌+◌, ◌<◌, ◌≤◌, ◌^◌, ℕ, All, length, true, false, slice_index_or, IfOk, OnOk};
 ghost use Rattle.nc_marks.specs.Sets.{has, has_at, Grows, IsAt, in_some, in_each};
 
 use crate::gathered::Gathered;
@@ -105,8 +105,10 @@ pub(crate) fn union_of(
     requires empty { IsAt sets.old 0 (λ _. false) }
     requires within { All (λ p. p.0 < length places.now) nodes.now }
     requires placed { All (λ p. slice_index_or places.now p.0 0 < length sets.old.sets) nodes.now }
+    requires room { length sets.old.sets < 2 ^ 32 }
     ensures width { gathered.new.width ≡ gathered.old.width }
     ensures grows { Grows sets.old sets.new }
+    ensures most { length sets.new.sets ≤ length sets.old.sets + 1 }
     ensures union { IfOk result (λ place. IsAt sets.new place
         (in_some sets.old places.now nodes.now)) }
 {
@@ -133,8 +135,10 @@ pub(crate) fn intersection_of(
     requires some { 0 < length nodes.now }
     requires within { All (λ p. p.0 < length places.now) nodes.now }
     requires placed { All (λ p. slice_index_or places.now p.0 0 < length sets.old.sets) nodes.now }
+    requires room { length sets.old.sets < 2 ^ 32 }
     ensures width { gathered.new.width ≡ gathered.old.width }
     ensures grows { Grows sets.old sets.new }
+    ensures most { length sets.new.sets ≤ length sets.old.sets + 1 }
     ensures intersection { IfOk result
         (λ place. IsAt sets.new place (in_each sets.old places.now nodes.now)) }
 {

@@ -1,5 +1,5 @@
 //! The marks of elements by one evaluation of a graph.
-ghost use Rattle.std.specs.Prelude.{◌≡◌, ◌<◌, ℕ, All, length, false, true, map, IfOk, OnOk, slice_index_or};
+ghost use Rattle.std.specs.Prelude.{◌≡◌, ◌+◌, ◌<◌, ◌≤◌, ℕ, All, length, false, true, map, IfOk, OnOk, slice_index_or};
 ghost use Rattle.nc_graph.specs.Nodes.{node_flow, IsGraph};
 ghost use Rattle.nc_graph.specs.Derivation.{strong};
 ghost use Rattle.nc_marks.specs.Marks.{AreMarks};
@@ -32,8 +32,10 @@ pub(crate) fn place_of<F: Copy + Eq + Hash>(
     requires empty { IsAt sets.old 0 (λ _. false) }
     requires placed { All (λ p. slice_index_or places.now p 0 < length sets.old.sets)
         ((node_flow graph.now).parents node.0) }
+    requires few { length sets.old.sets ≤ length places.now + 1 }
     ensures width { gathered.new.width ≡ gathered.old.width }
     ensures grows { Grows sets.old sets.new }
+    ensures most { length sets.new.sets ≤ length sets.old.sets + 1 }
     ensures placed { IfOk result (λ place. place < length sets.new.sets) }
     ensures strong { IfOk result (λ place.
         All (λ p. IsAt sets.old (slice_index_or places.now p 0) (λ e. strong (node_flow graph.now) e p))
@@ -61,6 +63,7 @@ fn places_of<F: Copy + Eq + Hash>(
     requires len { length reached.now ≡ length graph.now.facts }
     requires closed { IsClosed (node_flow graph.now) 0 reached.now }
     requires empty { IsAt sets.old 0 (λ _. false) }
+    requires few { length sets.old.sets ≤ 1 }
     ensures len { IfOk result (λ places. length places.items ≡ length graph.now.facts) }
     ensures width { OnOk result (sets.new.width ≡ sets.old.width) }
     ensures strong { IfOk result (λ places. (i : ℕ) → flag reached.now i ≡ true

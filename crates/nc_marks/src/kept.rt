@@ -1,6 +1,6 @@
 //! Marks that grow with a graph: what was worked out for its nodes is kept, so that a further test
 //! costs only what is new.
-ghost use Rattle.std.specs.Prelude.{◌≡◌, ◌<◌, ◌≤◌, ◌++◌, ◌||◌, ℕ, All, List, [], false, length, map, take, slice_index_or, IfOk, OnOk, OnErr};
+ghost use Rattle.std.specs.Prelude.{◌≡◌, ◌+◌, ◌<◌, ◌≤◌, ◌++◌, ◌||◌, ℕ, All, List, [], false, length, map, take, slice_index_or, IfOk, OnOk, OnErr};
 ghost use Rattle.nc_graph.specs.Derivation.{strong};
 ghost use Rattle.nc_graph.specs.Flow.{Flow};
 ghost use Rattle.nc_graph.specs.Nodes.{node_flow, IsGraph};
@@ -78,12 +78,14 @@ fn add_places<F: Copy + Eq + Hash>(
     requires width { gathered.old.width ≡ sets.old.width }
     requires empty { IsAt sets.old 0 (λ _. false) }
     requires within { ArePlaced sets.old places.old.items }
+    requires few { length sets.old.sets ≤ length places.old.items + 1 }
     ensures graph { IsGraph graph.now }
     ensures width { gathered.new.width ≡ gathered.old.width }
     ensures grows { Grows sets.old sets.new }
     ensures kept { take (length places.old.items) places.new.items ≡ places.old.items }
     ensures len { OnOk result (length places.new.items ≡ length graph.now.facts) }
     ensures within { ArePlaced sets.new places.new.items }
+    ensures few { OnOk result (length sets.new.sets ≤ length places.new.items + 1) }
     ensures strong { OnOk result (((i : ℕ) → i < length places.old.items
         → IsAt sets.old (slice_index_or places.old.items i 0)
         (λ e. strong (node_flow graph.now) e i))
@@ -174,6 +176,7 @@ fn extend<F: Copy + Eq + Hash>(
     requires width { nodes.old.gathered.width ≡ nodes.old.sets.width }
     requires empty { IsAt nodes.old.sets 0 (λ _. false) }
     requires placed { ArePlaced nodes.old.sets nodes.old.places.items }
+    requires few { length nodes.old.sets.sets ≤ length nodes.old.places.items + 1 }
     ensures graph { IsGraph graph.now }
     ensures width { nodes.new.gathered.width ≡ nodes.old.gathered.width }
     ensures grows { Grows nodes.old.sets nodes.new.sets }
@@ -182,6 +185,8 @@ fn extend<F: Copy + Eq + Hash>(
     ensures flags { OnErr result (take (length nodes.old.reached.items) nodes.new.reached.items
         ≡ nodes.old.reached.items) }
     ensures placed { ArePlaced nodes.new.sets nodes.new.places.items }
+    ensures few { OnOk result
+        (length nodes.new.sets.sets ≤ length nodes.new.places.items + 1) }
     ensures len { OnOk result (length nodes.new.places.items ≡ length graph.now.facts) }
     ensures all { OnOk result (length nodes.new.reached.items ≡ length graph.now.facts) }
     ensures sets { OnOk result (((i : ℕ) → i < length nodes.old.places.items

@@ -1,5 +1,5 @@
 //! A table of sets of elements, in which nodes share the sets that are equal.
-ghost use Rattle.std.specs.Prelude.{◌≡◌, ◌<◌, [], ◌∷◌, length, false, nat_eq, slice_index_or, take, IfOk, IfSome};
+ghost use Rattle.std.specs.Prelude.{◌≡◌, ◌+◌, ◌<◌, ◌≤◌, ◌^◌, [], ◌∷◌, length, false, nat_eq, slice_index_or, take, IfOk, IfSome};
 ghost use Rattle.nc_marks.specs.Sets.{has, Grows, IsAt};
 
 use nc_graph::lists::Lists;
@@ -24,16 +24,6 @@ impl Model for Sets {
     ghost Value = { Table };
 
     ghost view = { λ s. record { sets = s.sets; width = s.width } };
-}
-
-// The number of a place. There are no more sets than nodes, so that it is one of 32 bits.
-fn number(place: usize) -> Result<u32, AllocError>
-    ensures { IfOk result (λ number. number ≡ place) }
-{
-    match u32::try_from(place) {
-        Ok(number) => Ok(number),
-        Err(_) => Err(AllocError),
-    }
 }
 
 // The hash of a set, in the order in which its elements are listed.
@@ -98,16 +88,19 @@ impl Sets {
         }
     }
 
-    // Adds a copy of a set, unless it finds the set in the table, and answers its place.
+    // Adds a copy of a set, unless it finds the set in the table, and answers its place. A caller adds
+    // at most one for each node, so that a place is left.
     pub(crate) fn add(&mut self, set: &[u32]) -> Result<u32, AllocError>
+        requires room { length self.old.sets < 2 ^ 32 }
         ensures grows { Grows self.old self.new }
+        ensures most { length self.new.sets ≤ length self.old.sets + 1 }
         ensures added { IfOk result (λ place. IsAt self.new place (has set.now)) }
     {
         let hash = hash_of(set);
         if let Some(place) = self.find(hash, set) {
             return Ok(place);
         }
-        let place = number(self.sets.len())?;
+        let place = self.sets.len() as u32;
         self.sets.push(set)?;
         self.last.insert(hash, place)?;
         Ok(place)
@@ -116,7 +109,9 @@ impl Sets {
     // The place of the set of one element, or of none where the element doesn't count.
     pub(crate) fn single(&mut self, element: u32) -> Result<u32, AllocError>
         requires empty { IsAt self.old 0 (λ _. false) }
+        requires room { length self.old.sets < 2 ^ 32 }
         ensures grows { Grows self.old self.new }
+        ensures most { length self.new.sets ≤ length self.old.sets + 1 }
         ensures single { IfOk result (λ place. IsAt self.new place (λ e. nat_eq e element)) }
     {
         if element >= self.width {

@@ -1,13 +1,27 @@
-use Rattle.std.proofs.Common.{◌≡◌, ◌<◌, length, get_or, inr, arith}
-use Rattle.std.proofs.lemmas.List.{get_or_read}
-use Rattle.nc_diagram.proofs.IndexLemmas.{IsIndexed-set}
+use Rattle.std.proofs.Common.{◌≡◌, ◌+◌, ◌<◌, length, get_or, Contains, sym, subst, arith}
+use Rattle.nc_diagram.specs.declared.node.Node.{Node}
+use Rattle.nc_diagram.proofs.SlotLemmas.{AreFor-clear, AreFor-has, AreFor-some, home-within}
 use Rattle.nc_diagram.proofs.nodes.clear.Goals as goal
 
-pub returns-then-index-number : goal.returns-then-index-number
-returns-then-index-number c = λ nodes less are.
+pub slot_of-at-requires-clause-from : goal.slot_of-at-requires-clause-from
+slot_of-at-requires-clause-from c =
+    let slots = c.args.slots.now.items in
+    let nodes = c.args.nodes.now in
+    let none : Node = record { variable = 0; low = 0; high = 0 } in
+    let count_of : c.len.result ≡ length slots = omega (arith, c.len.ensures, c.args.slots.now.ok.0) in
+    let some : 0 < c.len.result = omega (arith, count_of, AreFor-some slots nodes c.args.index c.requires.within c.requires.newest) in
+    let within : c.home.result < c.len.result = subst (λ at. at < c.len.result) (sym c.home.ensures) (home-within (get_or nodes c.args.index none) c.len.result some) in
+    subst (λ all. c.home.result < length all) (sym c.deref.ensures.value) (omega (arith, within, count_of))
+
+pub slot_of-at-requires-clause-some : goal.slot_of-at-requires-clause-some
+slot_of-at-requires-clause-some c =
+    subst (λ all. Contains all (c.args.index + 1)) (sym c.deref.ensures.value)
+    (AreFor-has c.args.slots.now.items c.args.nodes.now c.args.index c.requires.within c.requires.newest)
+
+pub returns : goal.returns
+returns c =
     let slots = c.args.slots.now.items in
     let at = c.slot_of-at.result in
-    let within : at < length slots = omega (arith, c.if-at-len.true, c.len.ensures) in
-    let read : c.index.result.now ≡ get_or slots at 0 = get_or_read slots at c.index.result.now within c.index.ensures 0 in
-    let past : length nodes < get_or slots at 0 = omega (arith, less, read, c.if-index-number.true) in
-    IsIndexed-set slots nodes at 0 (inr past) are
+    let there : at < length slots = subst (λ all. at < length all) c.deref.ensures.value c.slot_of-at.ensures.within in
+    let number : get_or slots at 0 ≡ c.args.index + 1 = subst (λ all. get_or all at 0 ≡ c.args.index + 1) c.deref.ensures.value c.slot_of-at.ensures.there in
+    AreFor-clear slots c.args.nodes.now c.args.index at c.requires.within there number c.requires.newest

@@ -1,8 +1,6 @@
-use Rattle.std.proofs.Common.{List, ◌≤◌, length}
-use Rattle.nc_diagram.specs.declared.node.Node.{Node}
-use Rattle.nc_diagram.specs.Index.{IsIndexed}
+use Rattle.std.proofs.Common.{◌≡◌, ◌⊎◌, ◌≤◌, length, take}
+use Rattle.nc_diagram.specs.Index.{AreFor}
 use Rattle.nc_diagram.proofs.nodes.clear_from.Given as goal
 
 abbrev pub invariant-nodes : goal.invariant-nodes
-invariant-nodes l =
-    (older : List Node) → length older ≤ l.count → IsIndexed l.fn.slots.items older → IsIndexed l.slots.items older
+invariant-nodes l = AreFor l.slots.items (take l.index l.nodes) × ((l.count ≤ l.index) ⊎ (l.index ≡ length l.nodes))

@@ -1,4 +1,4 @@
-use Rattle.std.proofs.Common.{◌≡◌, ◌∙◌, ◌<◌, ◌+◌, true, false, length, get_or, ap, sym, subst, arith}
+use Rattle.std.proofs.Common.{◌≡◌, ◌∙◌, ◌<◌, ◌≤◌, ◌+◌, true, false, length, get_or, ap, sym, subst, arith}
 use Rattle.std.proofs.lemmas.Bool.{lt-ltb}
 use Rattle.std.proofs.lemmas.List.{length_push}
 use Rattle.nc_graph.specs.Derivation.{strong}
@@ -22,6 +22,10 @@ nodes-preserved g c =
       | then-reached-number+in_ok-place w ↦ rw w.sets-is w.place_of.ensures.grows
       | else-reached-number w ↦ rw w.sets-is (grows-none old)
     ] in
+    let most : length next.sets ≤ length old.sets + 1 = elim c.if-reached-number.branch [
+      | then-reached-number+in_ok-place w ↦ rw w.sets-is w.place_of.ensures.most
+      | else-reached-number w ↦ rw w.sets-is (omega arith)
+    ] in
     let new : flag c.args.reached.now i ≡ true → IsAt next c.if-reached-number.place (λ e. strong (node_flow n) e i) = elim c.if-reached-number.branch [
       | then-reached-number+in_ok-place w ↦ λ f. rw (w.sets-is, w.place-is) (w.in_ok-place.ensures.strong
           (all_from (λ p. IsAt old (get_or w.deref.result.now p 0) (λ e. strong (node_flow n) e p)) ((node_flow n).parents i)
@@ -38,6 +42,7 @@ nodes-preserved g c =
         | else-reached-number w ↦ rw w.gathered-is (c.nodes.invariant.gathered ∙ sym grows.width)
       ];
       empty = at-grown old next 0 (λ _. false) grows c.nodes.invariant.empty;
+      few = omega (arith, c.nodes.invariant.few);
       placed = place-more (λ j. flag c.args.reached.now j ≡ true) (λ j e. strong (node_flow n) e j) old next places c.push.new.self.items c.if-reached-number.place i c.nodes.invariant.long grows c.in_ok-push.ensures.items
           c.nodes.invariant.placed new;
     }

@@ -23,6 +23,7 @@ nodes-preserved g c =
       gathered = c.place_of.ensures.width ∙ c.nodes.invariant.gathered;
       grows = grows-on c.args.sets.now c.nodes.sets c.place_of.new.sets c.nodes.invariant.grows c.place_of.ensures.grows;
       placed = placed-more c.nodes.sets c.place_of.new.sets places c.push.new.self.items c.in_ok-place.place c.place_of.ensures.grows pushed c.nodes.invariant.placed c.in_ok-place.ensures.placed;
+      few = omega (arith, c.nodes.invariant.few, c.place_of.ensures.most);
       strong = λ before j lt. place-more (λ _. Unit {0}) (λ j e. strong (node_flow n) e j) c.nodes.sets c.place_of.new.sets places c.push.new.self.items c.in_ok-place.place i c.nodes.invariant.long c.place_of.ensures.grows pushed
           (λ j lt t. c.nodes.invariant.strong before j lt)
           (λ t. c.in_ok-place.ensures.strong (all_from (λ p. IsAt c.nodes.sets (get_or c.deref.result.now p 0) (λ e. strong (node_flow n) e p)) ((node_flow n).parents i)

@@ -103,7 +103,7 @@ combine-preserved c =
       subst (λ (d : Diagrams). IsUnderway c.args.operator (joint c.args.operator c.args.self.now.nodes c.args.pair) c.args.self.now d c.pop.new.self.items (Done c.in-Ok.made)) (sym c.remember.ensures)
           (finished c.args.operator (joint c.args.operator c.args.self.now.nodes c.args.pair) c.args.self.now c.combine.self c.pop.new.self.items c.combine.frames.items c.in-Some-High.pair c.in-Some-High.variable c.in-Some-High.low c.in-Some-High.begun c.in-Done.place (high_taken at.In-Some-High) (underway at.In-Done) c.make.new.self c.in-Ok.made c.in-Ok.ensures.made).0,
       subst (λ (d : Diagrams). AreRight d.nodes c.args.operator c.note.new.self.slots.items) (sym c.remember.ensures)
-          (c.in_ok-note-in-Some-High.ensures nodes c.args.operator right
+          (c.in_ok-note-in-Some-High.ensures.right nodes c.args.operator right
           (made_answer c.args.operator (joint c.args.operator c.args.self.now.nodes c.args.pair) c.args.self.now c.combine.self c.pop.new.self.items c.combine.frames.items c.in-Some-High.pair c.in-Some-High.variable c.in-Some-High.low c.in-Some-High.begun c.in-Done.place (high_taken at.In-Some-High) (underway at.In-Done) c.make.new.self c.in-Ok.made c.in-Ok.ensures.made)),
     )
 

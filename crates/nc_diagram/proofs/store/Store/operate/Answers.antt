@@ -5,8 +5,7 @@ use Rattle.nc_diagram.proofs.store.Store.operate.Goals as goal
 
 pub apply-requires-clause-right : goal.apply-requires-clause-right
 apply-requires-clause-right c =
-    c.begin.ensures c.lend-known.new.self.nodes c.args.operator
-    (subst (λ (d : Diagrams). AreRight d.nodes c.args.operator c.lend-known.result.slots.items) (sym c.lend-known.ensures.unchanged) c.lend-known.ensures.right)
+    subst (λ (d : Diagrams). AreRight d.nodes c.args.operator c.lend-known.result.slots.items) (sym c.lend-known.ensures.unchanged) c.lend-known.ensures.right
 
 pub take_back-requires : goal.take_back-requires
 take_back-requires c = c.end.ensures c.apply.new.self.nodes c.args.operator c.in-Ok.ensures.right
