@@ -7,6 +7,9 @@ pub mod Ranges
 pub mod BaseRows
 pub mod MainRows
 pub mod Tables
+pub mod Totals
+pub mod OnePrefix
+pub mod FewWays
 pub mod Holding
 pub mod Hops
 pub mod Steps

@@ -24,7 +24,7 @@ use Rattle.nc_tables.proofs.Ordered.{in_by_made}
 use Rattle.nc_rules_route.proofs.Members.{in_range}
 
 -- the rows of the base table on the one side, or those of BGP
-by_nearer : (bases others : List MainRow) (m : MainRow) → In m (nearer bases others) → In m bases ⊎ In m others
+pub by_nearer : (bases others : List MainRow) (m : MainRow) → In m (nearer bases others) → In m bases ⊎ In m others
 by_nearer [] others m i = inr i
 by_nearer (b ∷ bases) [] m i = inl i
 by_nearer (b ∷ bases) (o ∷ others) m i = by_test (nat_le b.distance o.distance) i

@@ -1,5 +1,5 @@
 -- The tables of a state by router.
-use Rattle.std.proofs.Common.{◌≡◌, ℕ, List, [], length, map, Option, Some, None, refl, sym, ap, subst, ◌∙◌}
+use Rattle.std.proofs.Common.{◌≡◌, ℕ, ◌+◌, ◌<◌, List, [], length, map, Option, Some, None, refl, sym, ap, subst, ◌∙◌, arith}
 use Rattle.std.specs.List.{range_with_len, slice_get, slice_index_or}
 use Rattle.std.specs.Option.{option_map, unwrap_or}
 use Rattle.std.proofs.lemmas.Option.{slice_get-map, get_or_from_slice_get, unwrap_or-slice_get}
@@ -12,14 +12,14 @@ use Rattle.nc_tables.specs.State.{StateView, state_at, IsState}
 use Rattle.nc_tables.specs.CaseRelations.{state_base}
 use Rattle.nc_fact.specs.Facts.{base_rows, main_rows}
 use Rattle.nc_types.proofs.Members.{In}
-use Rattle.nc_rules_route.proofs.Members.{in_by_router}
+use Rattle.nc_rules_route.proofs.Members.{get_by_range, in_by_router}
 use Rattle.nc_rules_route.proofs.MainRows.{IsOf, main_sound}
 
 module _ (s : StateView) (is : IsState s) where
   pub base_rows_at : (router : ℕ) (c : ConfigView) → slice_get s.routers router ≡ Some c → base_rows s router ≡ base_table c
   base_rows_at router c at = ap (λ (t : List (List BaseRow)). slice_index_or t router []) (state_base s is) ∙ get_or_from_slice_get (map base_table s.routers) router (base_table c) [] (slice_get-map base_table s.routers router ∙ ap (option_map base_table) at)
 
-  base_rows_none : (router : ℕ) → slice_get s.routers router ≡ None → base_rows s router ≡ []
+  pub base_rows_none : (router : ℕ) → slice_get s.routers router ≡ None → base_rows s router ≡ []
   base_rows_none router none =
       ap (λ (t : List (List BaseRow)). slice_index_or t router []) (state_base s is) ∙ sym (unwrap_or-slice_get (map base_table s.routers) router [])
       ∙ ap (λ (o : Option (List BaseRow)). unwrap_or o []) (slice_get-map base_table s.routers router ∙ ap (option_map base_table) none)
@@ -39,6 +39,14 @@ module _ (s : StateView) (is : IsState s) where
   main_is : s.main ≡ map Mains (range_with_len 0 (length s.routers))
   unfolding state_at
   main_is = ap (λ (t : StateView). t.main) is.tables
+
+  -- so are the main rows of a router of the network
+  pub main_rows_are : (router : ℕ) → router < length s.routers → main_rows s router ≡ main_table s.routers s.base s.bgp router
+  main_rows_are router lt =
+      let here : 0 + router ≡ router = omega arith in
+      ap (λ (t : List (List MainRow)). slice_index_or t router []) main_is
+      ∙ get_or_from_slice_get (map Mains (range_with_len 0 (length s.routers))) router (Mains (0 + router)) [] (get_by_range Mains 0 (length s.routers) router lt) ∙ ap Mains here
+      ∙ ap (λ (t : List (List BaseRow)). main_table s.routers t s.bgp router) (sym (state_base s is))
 
   in_main : (router : ℕ) (m : MainRow) → In m (main_rows s router) → In m (Mains router)
   in_main router m i = in_by_router Mains (length s.routers) router m (subst (λ (t : List (List MainRow)). In m (slice_index_or t router [])) main_is i)

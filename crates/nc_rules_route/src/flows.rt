@@ -6,7 +6,7 @@ ghost use Rattle.nc_fact.specs.declared.fact.Fact.TheVariants as fact;
 ghost use Rattle.nc_rules_route.specs.Parents.{of_passing, parents};
 
 use crate::elements::{filter_element, group_element, push_element};
-use crate::paths::number;
+use crate::paths::count_ways;
 use nc_fact::Fact;
 use nc_tables::{Passing, Stable};
 use nc_trace::FlowTo;
@@ -72,10 +72,11 @@ pub(crate) fn push_flow(
         into.push(Fact::Connected(router, iface))?;
         return Ok(());
     }
-    let count = flowing.ways(router).len();
+    let ways = flowing.ways(router);
+    let count = count_ways(state, router, to, ways);
     'ways: for place in 0..count {
-        if flowing.arrives_by(router, place, hops) {
-            into.push(Fact::FlowStep(hops, router, from, to, number(place)?))?;
+        if flowing.arrives_by(router, place as usize, hops) {
+            into.push(Fact::FlowStep(hops, router, from, to, place))?;
         }
     }
     Ok(())

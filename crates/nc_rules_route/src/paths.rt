@@ -1,11 +1,11 @@
 //! What the ways of packets over main tables follow from.
 
-ghost use Rattle.std.specs.Prelude.{◌≡◌, ◌++◌, [], ◌∷◌, length, map, take, slice_get, IfOk, OnOk};
+ghost use Rattle.std.specs.Prelude.{◌≡◌, ◌++◌, [], ◌∷◌, length, map, take, slice_get, OnOk};
 ghost use Rattle.std.specs.Option.{option_map_or};
 ghost use Rattle.nc_trace.specs.Traced.{IsIncluded, IsTracedTo};
 ghost use Rattle.nc_trace.specs.Views.{alternative_view, outcome_view};
 ghost use Rattle.nc_fact.specs.declared.fact.Fact.TheVariants as fact;
-ghost use Rattle.nc_rules_route.specs.Parents.{trace_fact, onward, let_in, let_out, let_pass, way_parents, parents};
+ghost use Rattle.nc_rules_route.specs.Parents.{trace_fact, onward, let_in, let_out, let_pass, ways_out, way_parents, parents};
 
 use crate::packet::{Packet, Trip};
 use nc_fact::Fact;
@@ -155,14 +155,18 @@ pub(crate) fn push_step(
     }
 }
 
-/// The number of a place. Where it is none of 32 bits, the list before it is larger than memory can be.
-pub(crate) fn number(place: usize) -> Result<u32, AllocError>
-    ensures { IfOk result (λ number. number ≡ place) }
+/// How many alternatives a router has for an address, given all of them: few enough for the numbers of their places.
+pub(crate) fn count_ways(state: &Stable, router: RouterId, addr: Addr, ways: &[Alternative]) -> u32
+    requires { length ways.now ≡ length (ways_out state.now router addr) }
+    ensures { result ≡ length ways.now }
 {
-    match u32::try_from(place) {
-        Ok(number) => Ok(number),
-        Err(_) => Err(AllocError),
+    let network = state.network();
+    let _elements = network.element_count();
+    if router.0 as usize >= network.routers().len() {
+        return 0;
     }
+    let _rows = state.main().rows(router);
+    ways.len() as u32
 }
 
 /// Appends what follows from any alternative by which a packet arrives: the router's own interface that has the
@@ -186,10 +190,11 @@ pub(crate) fn push_trace(
         into.push(Fact::Connected(router, iface))?;
         return Ok(());
     }
-    let count = traced.ways(router).len();
+    let ways = traced.ways(router);
+    let count = count_ways(state, router, addr, ways);
     'ways: for place in 0..count {
-        if traced.arrives_by(router, place, hops) {
-            into.push(Fact::Step(router, addr, number(place)?, hops))?;
+        if traced.arrives_by(router, place as usize, hops) {
+            into.push(Fact::Step(router, addr, place, hops))?;
         }
     }
     Ok(())
@@ -216,9 +221,10 @@ pub(crate) fn push_all_trace(
         into.push(Fact::Connected(router, iface))?;
         return Ok(());
     }
-    let count = traced.ways(router).len();
+    let ways = traced.ways(router);
+    let count = count_ways(state, router, addr, ways);
     'ways: for place in 0..count {
-        into.push(Fact::AllStep(router, addr, number(place)?, hops))?;
+        into.push(Fact::AllStep(router, addr, place, hops))?;
     }
     Ok(())
 }

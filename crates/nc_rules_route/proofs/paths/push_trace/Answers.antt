@@ -1,6 +1,8 @@
-use Rattle.std.proofs.Common.{◌≡◌, ℕ, ◌+◌, List, [], ◌∷◌, ◌++◌, length, filter, None, true, sym, ap, ◌∙◌, arith}
+use Rattle.std.proofs.Common.{◌≡◌, ℕ, ◌+◌, List, ◌++◌, length, filter, None, true, sym, ap, ◌∙◌, arith}
+use Rattle.std.proofs.lemmas.List.{length-map}
 use Rattle.nc_types.specs.Config.{ConfigView}
 use Rattle.nc_tables.specs.Reach.{own_place}
+use Rattle.nc_trace.specs.Views.{alternative_view}
 use Rattle.nc_fact.specs.declared.fact.Fact.{Fact}
 use Rattle.nc_fact.specs.declared.fact.Fact.TheVariants.{Step}
 use Rattle.nc_fact.specs.Facts.{holds}
@@ -9,7 +11,12 @@ use Rattle.nc_rules_route.specs.Parents.{steps_of, parents}
 use Rattle.nc_rules_route.proofs.Ranges.{made_between, kept_more, taken, passed_over}
 use Rattle.nc_rules_route.proofs.Steps.{all_between, without_own}
 use Rattle.nc_rules_route.proofs.paths.push_trace.Goals as goal
-use Rattle.nc_rules_route.proofs.paths.push_trace.Goals.{then-arrives_by+in_ok-number+in_ok-push-2, else-arrives_by}
+use Rattle.nc_rules_route.proofs.paths.push_trace.Goals.{then-arrives_by+in_ok-push-2, else-arrives_by}
+
+pub count_ways-count-requires : goal.count_ways-count-requires
+count_ways-count-requires c =
+    let s = c.args.state.now in
+    omega (arith, ap (λ ws. length ws) (c.ways-ways.ensures s c.args.addr.0 c.requires.traced c.requires.included), length-map c.ways-ways.result.now alternative_view)
 
 pub ways-preserved : goal.ways-preserved
 unfolding holds
@@ -23,8 +30,8 @@ ways-preserved c =
     let after = filter (holds s) (made_between step all 0 (place + 1)) in
     let passing : c.arrives_by.result ≡ holds s (step place) = c.arrives_by.ensures s c.args.addr.0 c.requires.traced c.requires.included in
     elim c.if-arrives_by.branch [
-      | then-arrives_by+in_ok-number+in_ok-push-2 w ↦
-          ap (λ v. v.items) w.into-is ∙ w.in_ok-push-2.ensures.items ∙ ap (λ (n : ℕ). c.ways.into.items ++ step n ∷ []) w.in_ok-number.ensures
+      | then-arrives_by+in_ok-push-2 w ↦
+          ap (λ v. v.items) w.into-is ∙ w.in_ok-push-2.ensures.items
           ∙ taken c.args.into.now.items c.ways.into.items before after (step place) (holds s (step place)) c.ways.invariant more (sym passing ∙ w.if-arrives_by.true)
       | else-arrives_by w ↦ ap (λ v. v.items) w.into-is ∙ passed_over c.args.into.now.items c.ways.into.items before after (step place) (holds s (step place)) c.ways.invariant more (sym passing ∙ w.if-arrives_by.false)
     ]
@@ -35,8 +42,8 @@ returns-clause-ok c =
     let s = c.args.state.now in
     let router = c.args.router in
     let addr = c.args.addr in
-    let last : c.ways.place ≡ length c.ways-count.result.now = omega (arith, c.ways-test.false, c.ways.auto.place-end) in
+    let last : c.ways.place ≡ length c.ways-ways.result.now = omega (arith, c.count_ways-count.ensures, c.ways-test.false, c.ways.auto.place-end) in
     let none : own_place s.routers router.0 addr.0 ≡ None = ap (λ (cs : List ConfigView). own_place cs router.0 addr.0) (sym c.network.ensures.network) ∙ sym c.in_default.ensures in
     c.ways.invariant
-    ∙ ap (λ (fs : List Fact). c.args.into.now.items ++ filter (holds s) fs) (all_between s router addr BySome c.args.hops c.ways-count.result.now c.ways.place (ap (λ ws. length ws) (c.ways-count.ensures s addr.0 c.requires.traced c.requires.included)) last)
+    ∙ ap (λ (fs : List Fact). c.args.into.now.items ++ filter (holds s) fs) (all_between s router addr BySome c.args.hops c.ways-ways.result.now c.ways.place (ap (λ ws. length ws) (c.ways-ways.ensures s addr.0 c.requires.traced c.requires.included)) last)
     ∙ ap (λ (fs : List Fact). c.args.into.now.items ++ fs) (sym (without_own s router addr (filter (holds s) (steps_of s BySome router addr c.args.hops)) none))
