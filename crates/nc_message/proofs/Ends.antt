@@ -83,6 +83,14 @@ module _ (routers : List ConfigView) where
         on_session None f = absurd cc
         on_session (Some s) f = on_end s (end_at routers router place) refl f
 
+    -- behind the last statement there is none
+    pub none_linked_past : (router place : ℕ) → length (statements_of routers router) ≤ place → None ≡ link_at routers sessions router place
+    none_linked_past router place past = on (link_at routers sessions router place) refl
+      where
+        on : (o : Option Link) → link_at routers sessions router place ≡ o → None ≡ o
+        on None is = refl
+        on (Some k) is = absurd (omega (arith, linked_within router place k is))
+
     -- so something is known of its sender
     row_known : (router : ℕ) (row : List (Option Sender)) → AreOfSessions routers sessions router row → (place : ℕ) (k : Link) → link_at routers sessions router place ≡ Some k → is_some (option_and_then (λ (o : Option Sender). o) (slice_get row place)) ≡ true
     row_known router row are place k e = elim (slice_get_cases row place).1 [

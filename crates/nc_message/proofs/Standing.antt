@@ -1,7 +1,8 @@
 -- The session of a neighbor statement, found among those of its router.
 use Rattle.std.proofs.Common.{◌≡◌, ℕ, ◌<◌, ◌≤◌, List, [], length, Option, Some, None, option_and_then, slice_get, refl, sym, ap, subst, ◌∙◌, arith, inl, inr}
 use Rattle.std.specs.Option.{option_map_or}
-use Rattle.std.proofs.lemmas.Option.{slice_get_cases}
+use Rattle.std.proofs.lemmas.Bool.{cases_lt}
+use Rattle.std.proofs.lemmas.Option.{slice_get_cases, slice_get_past}
 use Rattle.nc_types.specs.Config.{ConfigView, ProcessView}
 use Rattle.nc_types.specs.declared.config.Neighbor.{Neighbor}
 use Rattle.nc_tables.specs.declared.base.BaseRow.{BaseRow}
@@ -10,6 +11,7 @@ use Rattle.nc_tables.specs.Sessions.{process_of}
 use Rattle.nc_sessions.specs.Statements.{statements_of}
 use Rattle.nc_message.specs.declared.adjacencies.Peering.{Peering}
 use Rattle.nc_message.specs.Peerings.{ArePeerings, IsPeeringAt}
+use Rattle.nc_message.proofs.Ends.{none_linked_past}
 use Rattle.nc_message.proofs.Processes.{has_config}
 
 module _ (routers : List ConfigView) (tables : List (List BaseRow)) (sessions : List (List SessionRow)) (router : ℕ) (peerings : List (Option Peering)) (are : ArePeerings routers tables sessions router peerings) where
@@ -20,6 +22,16 @@ module _ (routers : List ConfigView) (tables : List (List BaseRow)) (sessions : 
         let same : r.0 ≡ o = sym (is ∙ ap (option_and_then (λ (q : Option Peering). q)) r.2) in
         subst (IsPeeringAt routers tables sessions router place) same (are.each place r.0 r.2)
     | inr r ↦ let past : length peerings ≤ place = r.0 in absurd (omega arith)
+  ]
+
+  -- at any place: behind the last statement nothing stands
+  pub stands_or_none : (place : ℕ) (o : Option Peering) → o ≡ option_and_then (λ (q : Option Peering). q) (slice_get peerings place) → IsPeeringAt routers tables sessions router place o
+  stands_or_none place o is = elim (cases_lt place (length peerings)) [
+    | inl lt ↦ stands_at place lt o is
+    | inr past ↦
+        let none : o ≡ None = is ∙ ap (option_and_then (λ (q : Option Peering). q)) (slice_get_past peerings place past) in
+        subst (IsPeeringAt routers tables sessions router place) (sym none)
+        (record { peering = tt; own = tt; none = none_linked_past routers sessions router place (omega (arith, past, are.count)) })
   ]
 
   -- there is one for each statement of the router's process

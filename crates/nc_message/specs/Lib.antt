@@ -1,5 +1,6 @@
 pub mod Inputs
 pub mod Adjacencies
+pub mod Maps
 pub mod Views
 pub mod Beginning
 pub mod Feasible

@@ -8,13 +8,16 @@ use Rattle.nc_sessions.specs.Statements.{statements_of}
 use Rattle.nc_sessions.specs.Views.{link_view}
 use Rattle.nc_message.specs.Inputs.{IsBetween}
 use Rattle.nc_message.specs.Adjacencies.{IsAdjacency}
+use Rattle.nc_message.specs.Maps.{AreMapsOf}
 use Rattle.nc_message.specs.declared.adjacencies.Peering.{Peering}
 
--- the ends are those of the session of the neighbor statement at this place of a router, and what is known of the sender is so
+-- the ends are those of the session of the neighbor statement at this place of a router, what is known of the sender is so, and the
+-- session's maps stand where it says
 pub record IsPeering (routers : List ConfigView) (tables : List (List BaseRow)) (sessions : List (List SessionRow)) (router : ℕ) (p : Peering) : Type 0 where
   pub link : Some (link_view p.adjacency.link) ≡ link_at routers sessions router p.place
   pub between : IsBetween routers router (link_view p.adjacency.link)
   pub known : IsAdjacency tables router p.adjacency
+  pub maps : AreMapsOf (link_view p.adjacency.link) p.maps
 
 -- what stands for the session of the neighbor statement at a place of a router, if it has one, is so
 pub record IsPeeringAt (routers : List ConfigView) (tables : List (List BaseRow)) (sessions : List (List SessionRow)) (router place : ℕ) (o : Option Peering) : Type 0 where

@@ -11,16 +11,18 @@ ghost use Rattle.nc_tables.specs.Rounds.{accepted_at, accepted_of, is_looped, me
 ghost use Rattle.nc_sessions.specs.Views.{link_view};
 ghost use Rattle.nc_message.specs.Inputs.{AreRoutingInputs, IsBetween};
 ghost use Rattle.nc_message.specs.Adjacencies.{IsAdjacency};
+ghost use Rattle.nc_message.specs.Maps.{IsMapIn};
 ghost use Rattle.nc_message.specs.Views.{advertised, accepted_by, message_view, accepted_view};
 ghost use Rattle.nc_message.specs.Views.{IsKnown, IsAdvertised, IsAccepted};
 
 use crate::adjacencies::Adjacency;
 use crate::inputs::RoutingInputs;
+use crate::maps::map_in;
 use crate::messages::{
     AdvertisedRoute, Advertisement, carried, message_at, message_of, sent_length,
 };
 use crate::rows::is_own;
-use nc_policy::Passing;
+use nc_policy::{MapPlace, Passing};
 use nc_sessions::Link;
 use nc_tables::{BgpFrom, BgpTable, RibEntry};
 use nc_types::{Addr, Prefix, RouterId};
@@ -139,15 +141,18 @@ fn is_resolved(inputs: &RoutingInputs, router: RouterId, sent: &AdvertisedRoute,
     }
 }
 
-/// How a message to a router passes its neighbor statement, where the message is accepted.
+/// How a message to a router passes its neighbor statement, whose map stands at a place, where the
+/// message is accepted.
 pub(crate) fn passed_into<'a>(
     inputs: &RoutingInputs<'a>,
     router: RouterId,
+    place: Option<MapPlace>,
     sent: &AdvertisedRoute<'_>,
 ) -> Option<Passing<'a>>
     requires inputs { AreRoutingInputs inputs.now }
     requires between { IsBetween inputs.now.network.now router.0 (link_view sent.now.link.now) }
     requires known { IsKnown inputs.now.base.now router.0 (advertised sent.now) }
+    requires map { IsMapIn (link_view sent.now.link.now) place }
     requires feasible { IsAdvertised (advertised sent.now) }
     requires other { list_any (λ n. n == sent.now.link.now.receiver.process.now.asn)
         sent.now.best.now.route.path ≡ false }
@@ -175,7 +180,7 @@ pub(crate) fn passed_into<'a>(
     let held = carried(sent);
     let into = inputs
         .policies
-        .pass(inputs.network, router, map, prefix, count, &held)?;
+        .pass_at(inputs.network, router, map, place, prefix, count, &held)?;
     Some(into)
 }
 
@@ -204,7 +209,8 @@ fn accepted_of<'a>(
         best: sent.best,
         out: sent.out,
     };
-    let into = passed_into(inputs, router, &parts)?;
+    let place = map_in(inputs.network, inputs.policies, router, &sent.link);
+    let into = passed_into(inputs, router, place, &parts)?;
     Some(AcceptedRoute { sent, into })
 }
 

@@ -2,7 +2,7 @@
 
 ghost use Rattle.std.specs.Prelude.{◌≡◌, ◌<◌, ◌++◌, All, filter, length, not, true, OnOk};
 ghost use Rattle.std.specs.List.{list_any};
-ghost use Rattle.std.specs.Option.{option_map_or};
+ghost use Rattle.std.specs.Option.{option_map, option_map_or};
 ghost use Rattle.nc_types.specs.Config.{process_view};
 ghost use Rattle.nc_tables.specs.Choice.{is_learnt};
 ghost use Rattle.nc_tables.specs.LocRibs.{IsNumbered};
@@ -10,12 +10,13 @@ ghost use Rattle.nc_tables.specs.Rounds.{entry_at};
 ghost use Rattle.nc_sessions.specs.Views.{link_view};
 ghost use Rattle.nc_message.specs.Inputs.{AreRoutingInputs};
 ghost use Rattle.nc_message.specs.BestPath.{is_beaten, is_from, leaves_best_path, IsOutranked};
-ghost use Rattle.nc_message.specs.Peerings.{IsPeering, IsPeeringAt};
+ghost use Rattle.nc_message.specs.Peerings.{ArePeerings, IsPeering, IsPeeringAt};
 
 use crate::adjacencies::Peering;
 use crate::compared::Compared;
 use crate::feasible::{FeasibleRoute, feasible_over};
-use crate::inputs::{RoutingInputs, peering_of};
+use crate::inputs::RoutingInputs;
+use crate::peerings::Peerings;
 use crate::rows::best_of;
 use nc_select::{Candidate, is_equal_to, preference_cmp};
 use nc_sessions::Link;
@@ -122,7 +123,7 @@ fn leaves_best_path(
     ribs: &LocRibs,
     router: RouterId,
     place: u32,
-    peering: &Option<Peering<'_>>,
+    peering: Option<&Peering<'_>>,
     of: &Numbered,
 ) -> bool
     requires inputs { AreRoutingInputs inputs.now }
@@ -130,7 +131,7 @@ fn leaves_best_path(
     requires router { router.0 < length inputs.now.network.now }
     requires number { IsNumbered ribs.now.prefixes of.now }
     requires peering { IsPeeringAt inputs.now.network.now inputs.now.base.now
-        inputs.now.sessions.now router.0 place peering.now }
+        inputs.now.sessions.now router.0 place (option_map (λ p. p.now) peering) }
     ensures { result ≡ leaves_best_path inputs.now.network.now inputs.now.base.now inputs.now.sessions.now
         ribs.now.rows router.0 place of.now.prefix }
 {
@@ -153,20 +154,24 @@ fn leaves_best_path(
 /// Adds those of some prefixes of which what a router learns now, by the neighbor statement at a
 /// place, may change what stands chosen. It doesn't where nothing that stands comes from the
 /// neighbor, and the neighbor's message isn't accepted or the best that stands beats what is learnt
-/// from it. Each table has a list for each router of the network, which has the router.
+/// from it. Each table has a list for each router of the network, which has the router, and the
+/// sessions are those of the router.
 ///
 /// # Errors
 ///
 /// Memory that runs out; no more of it is taken than the list needs.
-pub fn add_counting<'a>(
+pub fn add_counting(
     noted: &mut Vec<Numbered>,
-    inputs: &RoutingInputs<'a>,
-    ribs: &'a LocRibs,
+    inputs: &RoutingInputs<'_>,
+    peerings: &Peerings<'_>,
+    ribs: &LocRibs,
     router: RouterId,
     place: u32,
     changed: &[Numbered],
 ) -> Result<(), AllocError>
     requires inputs { AreRoutingInputs inputs.now }
+    requires peerings { ArePeerings inputs.now.network.now inputs.now.base.now
+        inputs.now.sessions.now router.0 peerings.now }
     requires ribs { length ribs.now.rows ≡ length inputs.now.network.now }
     requires router { router.0 < length inputs.now.network.now }
     requires numbers { All (IsNumbered ribs.now.prefixes) changed.now }
@@ -174,12 +179,9 @@ pub fn add_counting<'a>(
         ++ filter (λ n. not (leaves_best_path inputs.now.network.now inputs.now.base.now
         inputs.now.sessions.now ribs.now.rows router.0 place n.prefix)) changed.now) }
 {
-    if changed.is_empty() {
-        return Ok(());
-    }
-    let peering = peering_of(inputs, router, place);
+    let peering = peerings.get(place);
     'changed: for of in changed {
-        if !leaves_best_path(inputs, ribs, router, place, &peering, of) {
+        if !leaves_best_path(inputs, ribs, router, place, peering, of) {
             noted.push(*of)?;
         }
     }

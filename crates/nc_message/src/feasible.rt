@@ -220,14 +220,14 @@ pub(crate) fn feasible_over<'a>(
     if holds_receiver(link, best) {
         return None;
     }
-    let out = sent_out(inputs, link, best)?;
+    let out = sent_out(inputs, link, peering.maps.out, best)?;
     let sent = AdvertisedRoute {
         link,
         sender: adjacency.sender,
         best,
         out,
     };
-    let into = passed_into(inputs, router, &sent)?;
+    let into = passed_into(inputs, router, peering.maps.into, &sent)?;
     Some(FeasibleRoute::learnt(peering.place, LearntRoute { sent, into }))
 }
 

@@ -7,6 +7,7 @@ ghost use Rattle.nc_message.specs.Adjacencies.{IsAdjacency, IsSenderAt};
 ghost use Rattle.nc_message.specs.Peerings.{IsPeeringAt};
 
 use crate::adjacencies::{Adjacencies, Adjacency, Peering, Sender};
+use crate::maps::SessionMaps;
 use nc_policy::Policies;
 use nc_sessions::link_at;
 use nc_tables::{BaseTables, Sessions};
@@ -67,5 +68,10 @@ pub(crate) fn peering_of<'a>(
         router.0 place result }
 {
     let adjacency = adjacency_of(inputs, router, place)?;
-    Some(Peering { place, adjacency })
+    let maps = SessionMaps::of(inputs.network, inputs.policies, router, &adjacency.link);
+    Some(Peering {
+        place,
+        adjacency,
+        maps,
+    })
 }

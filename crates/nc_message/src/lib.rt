@@ -6,12 +6,14 @@
 //! [`chosen_anew`] chooses among what is accepted so, with the router's own networks and active
 //! aggregates, and makes in memory what is chosen alone; where a process uses one route alone none
 //! is kept but the best so far, and no map runs for what that outranks, nor for a path that
-//! holds the router's own system. The sessions are found once, as [`NetworkPeerings`]. [`add_counting`] tells by a look at the
-//! best path that stands which messages of a neighbor can't change it. The crate stands on
-//! `nc_types` for the network, on `nc_tables` for the tables and the definitions, on `nc_sessions` for the ends of a session, on
-//! `nc_policy` and `nc_community` for maps and communities, on `nc_underlay` for where base tables
-//! lead, and on `nc_select` for the choice. Its contract promises exactly the message, the
-//! acceptance and the choice of the definitions.
+//! holds the router's own system. The sessions are found once, as [`NetworkPeerings`], each with
+//! where its two maps stand: no message looks up its session or a map by its name. [`add_counting`]
+//! tells by a look at the best path that stands which messages of a neighbor can't change it.
+//!
+//! The crate stands on `nc_types` for the network, on `nc_tables` for the tables and the definitions,
+//! on `nc_sessions` for the ends of a session, on `nc_policy` and `nc_community` for maps and
+//! communities, on `nc_underlay` for where base tables lead, and on `nc_select` for the choice. Its
+//! contract promises exactly the message, the acceptance and the choice of the definitions.
 #![tactic(auto)]
 
 mod accepting;
@@ -24,6 +26,7 @@ mod compared;
 mod feasible;
 mod inputs;
 mod learnt;
+mod maps;
 mod messages;
 mod peerings;
 mod rows;

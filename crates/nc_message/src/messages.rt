@@ -8,13 +8,15 @@ ghost use Rattle.nc_tables.specs.Rounds.{best_at, is_held_back, message_at, mess
 ghost use Rattle.nc_policy.specs.Passing.{communities_by, prepended_by};
 ghost use Rattle.nc_sessions.specs.Views.{link_view};
 ghost use Rattle.nc_message.specs.Inputs.{AreRoutingInputs, IsBetween};
+ghost use Rattle.nc_message.specs.Maps.{IsMapOut};
 ghost use Rattle.nc_message.specs.Peers.{best_over};
 ghost use Rattle.nc_message.specs.Views.{advertised, message_view, message_by, out_view, IsKnown, IsAdvertised};
 
 use crate::adjacencies::{Adjacency, Sender};
 use crate::inputs::{RoutingInputs, adjacency_of};
+use crate::maps::map_out;
 use nc_community::Held;
-use nc_policy::Passing;
+use nc_policy::{MapPlace, Passing};
 use nc_sessions::Link;
 use nc_tables::{BgpTable, RibEntry, is_longer_in};
 use nc_types::{PATH_LIMIT, Prefix, Process, RouterId};
@@ -85,15 +87,18 @@ fn is_held_back(process: &Process, prefix: Prefix) -> bool
         && is_longer_in(prefix, aggregate.prefix))
 }
 
-// How the best candidate passes the sender's statement for the receiver. Mostly there is no map.
+// How the best candidate passes the sender's statement for the receiver, given where its map stands.
+// Mostly there is no map.
 fn out_of<'a>(
     inputs: &RoutingInputs<'a>,
     link: &Link<'a>,
+    place: Option<MapPlace>,
     best: &'a RibEntry,
 ) -> Option<Passing<'a>>
     requires inputs { AreRoutingInputs inputs.now }
     requires sender { slice_get inputs.now.network.now link.now.session.peer.0
         ≡ Some (link_view link.now).sender.config }
+    requires map { IsMapOut (link_view link.now) place }
     ensures out { option_map (out_view (link_view link.now) best.now) result
         ≡ out_of (link_view link.now) best.now }
     ensures short { IfSome result
@@ -108,9 +113,15 @@ fn out_of<'a>(
         return Some(Passing::Unchanged);
     };
     let peer = link.session.peer;
-    inputs
-        .policies
-        .pass(inputs.network, peer, map, best.prefix(), count, &held)
+    inputs.policies.pass_at(
+        inputs.network,
+        peer,
+        map,
+        place,
+        best.prefix(),
+        count,
+        &held,
+    )
 }
 
 /// How many numbers the path has of a route as it is sent: toward another system the sender's own
@@ -138,15 +149,18 @@ pub(crate) fn carried<'a>(sent: &AdvertisedRoute<'a>) -> Held<'a>
     sent.out.communities(held)
 }
 
-/// How the sender's best candidate passes its statement, where a message is sent of it over a session.
+/// How the sender's best candidate passes its statement, whose map stands at a place, where a message
+/// is sent of it over a session.
 pub(crate) fn sent_out<'a>(
     inputs: &RoutingInputs<'a>,
     link: &Link<'a>,
+    place: Option<MapPlace>,
     best: &'a RibEntry,
 ) -> Option<Passing<'a>>
     requires inputs { AreRoutingInputs inputs.now }
     requires sender { slice_get inputs.now.network.now link.now.session.peer.0
         ≡ Some (link_view link.now).sender.config }
+    requires map { IsMapOut (link_view link.now) place }
     ensures message { option_map (message_by (link_view link.now) best.now) result
         ≡ message_of (link_view link.now) best.now }
     ensures short { IfSome result (λ p.
@@ -160,7 +174,7 @@ pub(crate) fn sent_out<'a>(
     if link.session.internal && best.is_internal() {
         return None;
     }
-    let out = out_of(inputs, link, best)?;
+    let out = out_of(inputs, link, place, best)?;
     if sent_length(link.session.internal, best, &out) > PATH_LIMIT {
         return None;
     }
@@ -184,7 +198,8 @@ pub(crate) fn message_of<'a>(
     ensures feasible { IfSome result IsAdvertised }
 {
     let Adjacency { link, sender } = adjacency;
-    let out = sent_out(inputs, &link, best)?;
+    let place = map_out(inputs.network, inputs.policies, &link);
+    let out = sent_out(inputs, &link, place, best)?;
     Some(Advertisement {
         link,
         sender,

@@ -13,7 +13,7 @@ use std::alloc::{AllocError, Global};
 use std::marker::Model;
 
 /// The sessions over which one router learns: of each of its neighbor statements both ends of its
-/// session, if it has one, and what is known of the sender.
+/// session, if it has one, what is known of the sender, and where their maps stand.
 #[derive(Drop)]
 pub struct Peerings<'a> {
     peerings: Vec<Option<Peering<'a>>>,
@@ -29,7 +29,7 @@ impl<'a> Model for Peerings<'a> {
 }
 
 /// The sessions over which the routers of a network learn, found once for all rounds: no message then
-/// looks up its session.
+/// looks up its session or its maps.
 #[derive(Drop)]
 pub struct NetworkPeerings<'a> {
     routers: Vec<Peerings<'a>>,
@@ -73,6 +73,18 @@ impl<'a> Peerings<'a> {
             Some(peering) => Some(peering),
             None => None,
         }
+    }
+
+    /// The same at any place: `None` behind the last statement too.
+    pub(crate) fn get(&self, place: u32) -> Option<&Peering<'a>>
+        ensures { option_map (λ p. p.now) result
+            ≡ option_and_then (λ o. o) (slice_get self.now place) }
+    {
+        let place = place as usize;
+        if place >= self.peerings.len() {
+            return None;
+        }
+        self.at(place)
     }
 }
 

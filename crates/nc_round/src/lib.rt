@@ -5,13 +5,15 @@
 //! rows are made anew that may differ: those of a prefix at the routers that hear of a row of it
 //! that changed, and those of the aggregates around such a row. Each router looks at what changed at
 //! the peers of its sessions, and a row stays as it is where what a peer advertises of it now isn't
-//! accepted or is beaten by what stands, and what it advertised before wasn't chosen. The crate
-//! stands on `nc_types` for the network, on `nc_tables` for the tables and for the definition of a
-//! round, on `nc_policy` for the policies, and on `nc_message` for what is chosen anew of one row
-//! and for what leaves the best path as it is; the proofs take the laws of lists in order from
-//! `nc_base_rib` and `nc_main_rib`. Its contract promises that [`round_changed`] gives exactly the
-//! next table and the rows in which it differs, and that [`settle_table`] gives the first table that
-//! no round changes.
+//! accepted or is beaten by what stands, and what it advertised before wasn't chosen. The sessions
+//! are found once, for what is woken as for what is chosen anew.
+//!
+//! The crate stands on `nc_types` for the network, on `nc_tables` for the tables and for the
+//! definition of a round, on `nc_policy` for the policies, and on `nc_message` for what is chosen
+//! anew of one row and for what leaves the best path as it is; the proofs take the laws of lists in
+//! order from `nc_base_rib` and `nc_main_rib`. Its contract promises that [`round_changed`] gives
+//! exactly the next table and the rows in which it differs, and that [`settle_table`] gives the first
+//! table that no round changes.
 #![tactic(auto)]
 
 mod by_router;

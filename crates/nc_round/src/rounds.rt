@@ -142,7 +142,7 @@ pub(crate) fn next_by(
 {
     let _count = old.count();
     let _routers = inputs.network.routers();
-    let rows = woken_in_order(alloc, &inputs, &old, &changed.rows)?;
+    let rows = woken_in_order(alloc, &inputs, all, &old, &changed.rows)?;
     let made = renew(alloc, recent, inputs, all, old, &rows)?;
     Ok(made)
 }

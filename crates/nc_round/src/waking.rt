@@ -7,13 +7,14 @@ ghost use Rattle.nc_types.specs.Config.{config_view};
 ghost use Rattle.nc_tables.specs.LocRibs.{IsNumbered};
 ghost use Rattle.nc_tables.specs.Rounds.{is_longer_in, prefixes, prefixes_in};
 ghost use Rattle.nc_message.specs.Inputs.{AreRoutingInputs};
+ghost use Rattle.nc_message.specs.Peerings.{AreNetworkPeerings, ArePeerings};
 ghost use Rattle.nc_round.specs.Keys.{Key, key, AreInOrder};
 ghost use Rattle.nc_round.specs.Rows.{listed, numbered_row, prefixes_of, row_key, AreListed, AreRows};
 ghost use Rattle.nc_round.specs.Waking.{aggregates_of, begun_from, affected_over, woken_at, AreWoken, IsWoken};
 
 use crate::by_router::{by_router, changed_at};
 use crate::changed::NumberedRow;
-use nc_message::{RoutingInputs, add_counting};
+use nc_message::{NetworkPeerings, Peerings, RoutingInputs, add_counting};
 use nc_tables::{LocRibs, Numbered, SessionRow, is_longer_in};
 use nc_types::{AggregateStatement, Network, NetworkStatement, Prefix, RouterConfig, RouterId};
 use std::alloc::{AllocError, Global};
@@ -34,12 +35,15 @@ fn aggregates_of(network: &Network, router: RouterId) -> &[AggregateStatement]
 fn add_affected(
     noted: &mut Vec<Numbered>,
     inputs: &RoutingInputs<'_>,
+    peerings: &Peerings<'_>,
     ribs: &LocRibs,
     router: RouterId,
     rows: &[SessionRow],
     lists: &[Vec<Numbered>],
 ) -> Result<(), AllocError>
     requires inputs { AreRoutingInputs inputs.now }
+    requires peerings { ArePeerings inputs.now.network.now inputs.now.base.now
+        inputs.now.sessions.now router.0 peerings.now }
     requires ribs { length ribs.now.rows ≡ length inputs.now.network.now }
     requires numbers { AreListed ribs.now.prefixes lists.now }
     requires router { router.0 < length inputs.now.network.now }
@@ -51,7 +55,7 @@ fn add_affected(
 {
     'rows: for row in rows {
         let changed = changed_at(lists, row.peer);
-        add_counting(noted, &*inputs, &*ribs, router, row.neighbor, changed)?;
+        add_counting(noted, inputs, peerings, ribs, router, row.neighbor, changed)?;
     }
     Ok(())
 }
@@ -133,11 +137,14 @@ fn wake(
     woken: &mut Vec<NumberedRow>,
     noted: &mut Vec<Numbered>,
     inputs: &RoutingInputs<'_>,
+    all: &NetworkPeerings<'_>,
     ribs: &LocRibs,
     lists: &[Vec<Numbered>],
     router: RouterId,
 ) -> Result<(), AllocError>
     requires inputs { AreRoutingInputs inputs.now }
+    requires all { AreNetworkPeerings inputs.now.network.now inputs.now.base.now
+        inputs.now.sessions.now all.now }
     requires ribs { length ribs.now.rows ≡ length inputs.now.network.now }
     requires prefixes { ribs.now.prefixes ≡ prefixes inputs.now.network.now }
     requires numbers { AreListed ribs.now.prefixes lists.now }
@@ -149,10 +156,11 @@ fn wake(
         (listed lists.now) router.0) p → Contains (map row_key woken.new.items) (router, p)) }
     ensures rows { OnOk result (AreWoken (router.0 + 1) ribs.now.prefixes woken.new.items) }
 {
+    let peerings = all.get(router);
     let rows = inputs.sessions.rows(router);
     let aggregates = aggregates_of(inputs.network, router);
     noted.clear();
-    add_affected(noted, inputs, ribs, router, rows, lists)?;
+    add_affected(noted, inputs, peerings, ribs, router, rows, lists)?;
     add_around(noted, ribs, aggregates, changed_at(lists, router))?;
     keep_once(noted);
     wake_each(woken, router, noted)?;
@@ -163,10 +171,13 @@ fn wake(
 fn woken(
     alloc: Global,
     inputs: &RoutingInputs<'_>,
+    all: &NetworkPeerings<'_>,
     ribs: &LocRibs,
     lists: &[Vec<Numbered>],
 ) -> Result<Vec<NumberedRow>, AllocError>
     requires inputs { AreRoutingInputs inputs.now }
+    requires all { AreNetworkPeerings inputs.now.network.now inputs.now.base.now
+        inputs.now.sessions.now all.now }
     requires ribs { length ribs.now.rows ≡ length inputs.now.network.now }
     requires prefixes { ribs.now.prefixes ≡ prefixes inputs.now.network.now }
     requires numbers { AreListed ribs.now.prefixes lists.now }
@@ -181,19 +192,23 @@ fn woken(
     let mut noted = Vec::new(alloc);
     'routers: for router in 0..inputs.network.routers().len() {
         let router = RouterId(router as u32);
-        wake(&mut rows, &mut noted, inputs, ribs, lists, router)?;
+        wake(&mut rows, &mut noted, inputs, all, ribs, lists, router)?;
     }
     Ok(rows)
 }
 
-/// The rows that may come from rows that changed in a table, in order, each once.
+/// The rows that may come from rows that changed in a table, in order, each once, given the sessions of
+/// the routers.
 pub(crate) fn woken_in_order(
     alloc: Global,
     inputs: &RoutingInputs<'_>,
+    all: &NetworkPeerings<'_>,
     ribs: &LocRibs,
     changed: &[NumberedRow],
 ) -> Result<Vec<NumberedRow>, AllocError>
     requires inputs { AreRoutingInputs inputs.now }
+    requires all { AreNetworkPeerings inputs.now.network.now inputs.now.base.now
+        inputs.now.sessions.now all.now }
     requires ribs { length ribs.now.rows ≡ length inputs.now.network.now }
     requires prefixes { ribs.now.prefixes ≡ prefixes inputs.now.network.now }
     requires numbers { AreRows ribs.now.prefixes changed.now }
@@ -206,7 +221,7 @@ pub(crate) fn woken_in_order(
         (λ rows. AreWoken (length inputs.now.network.now) ribs.now.prefixes rows.items) }
 {
     let lists = by_router(alloc, inputs.network.routers().len(), changed)?;
-    let rows = woken(alloc, inputs, ribs, &lists)?;
+    let rows = woken(alloc, inputs, all, ribs, &lists)?;
     Ok(rows)
 }
 

@@ -1,4 +1,4 @@
-use Rattle.std.proofs.Common.{◌≡◌, ℕ, Bool, true, false, not, ◌&&◌, List, [], ◌∷◌, Option, Some, None, slice_get, IfNone, IfSome, refl, sym, ap, subst, ◌∙◌}
+use Rattle.std.proofs.Common.{◌≡◌, ℕ, Bool, Bor, true, false, not, ◌&&◌, List, [], ◌∷◌, Option, Some, None, slice_get, IfNone, IfSome, refl, sym, ap, subst, ◌∙◌}
 use Rattle.std.specs.List.{list_any}
 use Rattle.std.specs.Option.{option_map, option_map_or, option_and_then}
 use Rattle.nc_types.specs.Cidr.{Cidr}
@@ -82,7 +82,7 @@ returns-in_default-peering c =
     let routers = i.network.now in
     let at = config_at routers c.routers.result.now c.args.router.0 c.index-routers-router.result c.routers.ensures.routers c.requires.router c.index-routers-router.is in
     let p = process_view c.in-Some-process.process in
-    let none : None ≡ link_at routers i.sessions.now c.args.router.0 c.args.place = subst (λ (o : Option Peering). IfNone o (None ≡ link_at routers i.sessions.now c.args.router.0 c.args.place)) c.in_default-peering.is c.requires.peering.none in
+    let none : None ≡ link_at routers i.sessions.now c.args.router.0 c.args.place = subst (λ (o : Option (Bor Peering)). IfNone (option_map (λ (q : Bor Peering). q.now) o) (None ≡ link_at routers i.sessions.now c.args.router.0 c.args.place)) c.in_default-peering.is c.requires.peering.none in
     sym (cannot_win_alone routers i.base.now i.sessions.now c.args.ribs.now.rows c.args.router.0 c.args.place c.args.of.now.prefix c.in-Some.best.now p (sym none))
     ∙ idle_if_beaten i.network.now i.base.now i.sessions.now c.args.ribs.now.rows c.args.router.0 c.args.place c.args.of.now.prefix c.chosen-chosen.result.now c.chosen-chosen.ensures.chosen p
     (ap process_in at ∙ ap (option_map process_view) (ap (λ (r : RouterConfig). r.process) c.index-routers-router.is ∙ c.in-Some-process.is)) c.in-Some.best.now c.in-Some.ensures.value (sym c.has_from.ensures ∙ c.if-has_from.false)
@@ -90,7 +90,7 @@ returns-in_default-peering c =
 pub cannot_win-requires-clause-peering : goal.cannot_win-requires-clause-peering
 cannot_win-requires-clause-peering c =
     let i = c.args.inputs.now in
-    subst (λ (o : Option Peering). IfSome o (IsPeering i.network.now i.base.now i.sessions.now c.args.router.0)) c.in-Some-peering.is c.requires.peering.peering
+    subst (λ (o : Option (Bor Peering)). IfSome (option_map (λ (q : Bor Peering). q.now) o) (IsPeering i.network.now i.base.now i.sessions.now c.args.router.0)) c.in-Some-peering.is c.requires.peering.peering
 
 pub returns : goal.returns
 returns c =
@@ -98,7 +98,7 @@ returns c =
     let routers = i.network.now in
     let at = config_at routers c.routers.result.now c.args.router.0 c.index-routers-router.result c.routers.ensures.routers c.requires.router c.index-routers-router.is in
     let p = process_view c.in-Some-process.process in
-    let own : c.in-Some-peering.peering.place ≡ c.args.place = subst (λ (o : Option Peering). IfSome o (λ q. q.place ≡ c.args.place)) c.in-Some-peering.is c.requires.peering.own in
+    let own : c.in-Some-peering.peering.now.place ≡ c.args.place = subst (λ (o : Option (Bor Peering)). IfSome (option_map (λ (q : Bor Peering). q.now) o) (λ q. q.place ≡ c.args.place)) c.in-Some-peering.is c.requires.peering.own in
     c.cannot_win.ensures
     ∙ ap (λ (n : ℕ). option_map_or (is_beaten p c.in-Some.best.now) (entry_at routers i.base.now i.sessions.now c.args.ribs.now.rows c.args.router.0 n c.args.of.now.prefix) true) own
     ∙ idle_if_beaten i.network.now i.base.now i.sessions.now c.args.ribs.now.rows c.args.router.0 c.args.place c.args.of.now.prefix c.chosen-chosen.result.now c.chosen-chosen.ensures.chosen p

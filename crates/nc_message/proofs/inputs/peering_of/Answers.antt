@@ -10,7 +10,7 @@ returns-in_err-adjacency c =
 
 pub returns : goal.returns
 returns c = record {
-  peering = record { link = c.in_ok-adjacency.ensures.link; between = c.in_ok-adjacency.ensures.between; known = c.in_ok-adjacency.ensures.sender };
+  peering = record { link = c.in_ok-adjacency.ensures.link; between = c.in_ok-adjacency.ensures.between; known = c.in_ok-adjacency.ensures.sender; maps = c.of-maps.ensures };
   own = refl;
   none = tt;
 }

@@ -1,4 +1,4 @@
-use Rattle.std.proofs.Common.{◌≡◌, ◌+◌, ◌<◌, ◌++◌, List, [], All, Contains, map, filter, slice_index_or, sym, ap, subst, ◌∙◌}
+use Rattle.std.proofs.Common.{◌≡◌, ◌+◌, ◌<◌, ◌++◌, List, [], All, Contains, map, filter, slice_index_or, sym, ap, subst, ◌∙◌, arith}
 use Rattle.std.specs.List.{AllPairs, flat_map, list_any}
 use Rattle.std.proofs.lemmas.List.Elements.{All-nil}
 use Rattle.nc_types.specs.Cidr.{Cidr}
@@ -14,6 +14,12 @@ use Rattle.nc_round.specs.Waking.{aggregates_of, affected_over, AreWoken}
 use Rattle.nc_round.proofs.NextRows.{prefixes_up}
 use Rattle.nc_round.proofs.NumberedRows.{aggregates_known, more_woken, row_kept, row_woken}
 use Rattle.nc_round.proofs.waking.wake.Goals as goal
+
+pub get-peerings-requires : goal.get-peerings-requires
+get-peerings-requires c = omega (arith, c.requires.router, c.requires.all.count)
+
+pub add_affected-requires-clause-peerings : goal.add_affected-requires-clause-peerings
+add_affected-requires-clause-peerings c = c.requires.all.each c.args.router.0 c.get-peerings.result.now c.get-peerings.ensures
 
 pub add_affected-requires-clause-noted : goal.add_affected-requires-clause-noted
 add_affected-requires-clause-noted c = subst (All (IsNumbered c.args.ribs.now.prefixes)) (sym c.clear.ensures.items) (All-nil (IsNumbered c.args.ribs.now.prefixes))
