@@ -2,6 +2,7 @@ mod Closing
 mod Reporting
 mod Working
 mod Replying
+mod Lending
 pub mod Carrying
 pub mod Marked
 pub mod Sufficing

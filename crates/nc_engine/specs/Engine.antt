@@ -1,4 +1,4 @@
--- What an engine has, how it answers a line, how many facts it infers for it, and what it draws.
+-- What an engine has and lends, how it answers a line, how many facts it infers for it, and what it draws.
 use Rattle.std.specs.Prelude.{◌≡◌, ◌⊎◌, ℕ, ◌+◌, ◌-◌, ◌≤◌, Bool, true, false, nat_lt, List, [], ◌∷◌, ◌++◌, length, All, Contains, Option, Some, None, if◌then◌else◌, codes}
 use Rattle.nc_graph.specs.Flow.{raised}
 use Rattle.nc_graph.specs.Closure.{IsClosure, ReachesMoreThan}
@@ -26,6 +26,11 @@ pub record Progress : Type 0 where
   pub drawn : List Fact
   pub diagrams : Diagrams
   pub dead_known : Bool
+
+-- an engine: what it has come to, unless it is spent, and what it lends, which stands behind the bytes that it appended last
+pub record EngineView : Type 0 where
+  pub progress : Option Progress
+  pub lent : List ℕ
 
 -- an engine that begins: no test was accepted, no fact was inferred, nothing was drawn, for which there is room of so many
 -- parts, and nothing was told

@@ -1,7 +1,7 @@
 -- What an engine works with, and what of a session it keeps.
 use Rattle.std.specs.Prelude.{◌≡◌, ◌⊎◌, ℕ, ◌-◌, ◌≤◌, Bool, true, false, nat_lt, List, [], ◌∷◌, ◌++◌, length, map, All, Option, Some, None, is_some, slice_get, slice_index_or, if◌then◌else◌, codes}
 use Rattle.std.specs.List.{flat_map}
-use Rattle.std.specs.Option.{ForSome}
+use Rattle.std.specs.Option.{ForSome, option_map}
 use Rattle.nc_types.specs.Config.{ConfigView}
 use Rattle.nc_types.specs.Network.{element_count, router_named}
 use Rattle.nc_types.specs.declared.command.TestCommand.{TestCommand}
@@ -24,12 +24,12 @@ use Rattle.nc_engine.specs.Limits.{most_tests, most_facts, most_parts}
 use Rattle.nc_engine.specs.declared.work.Work.{Work}
 use Rattle.nc_engine.specs.declared.work.KeptTest.{KeptTest as Made}
 use Rattle.nc_engine.specs.Session.{KeptTest, State, with_test, posed_in, test_in, live_place, asked_in, live_in, router_of, has_line, IsCrowded, IsReply, Counts, Tests, Lined, Named, Forgets, Questions, Compares, Cuts, CutsNamed, Tells, Shows, TellsSuite, TellsDead}
-use Rattle.nc_report.specs.Texts.{Sheet, line_of}
+use Rattle.nc_report.specs.Texts.{Sheet, line_of, sheet_of}
 use Rattle.nc_report.specs.Sheets.{sheets_from}
 use Rattle.nc_report.specs.Views.{FileView}
 use Rattle.nc_engine.specs.File.{LoadedView}
 use Rattle.nc_engine.specs.Cuts.{unknown_among}
-use Rattle.nc_engine.specs.Engine.{Progress, Infers, InfersFor, IsRefusal, DrawsFor, asked_for, asked_about}
+use Rattle.nc_engine.specs.Engine.{Progress, EngineView, Infers, InfersFor, IsRefusal, DrawsFor, asked_for, asked_about}
 use Rattle.nc_engine.specs.DeadElements.{AreDead, dead_of}
 use Rattle.nc_engine.specs.declared.dead_elements.DeadElements.{DeadElements}
 use Rattle.nc_engine.specs.declared.dead_elements.DeadElements.TheVariants.{Known, TooMany}
@@ -74,6 +74,20 @@ progress_of files w =
       diagrams = w.store;
       dead_known = is_some w.dead;
     }
+
+-- bytes, behind which the lines of a report stand where they are lent and not copied
+abbrev pub with_lent : Bool → List Sheet → List ℕ → List ℕ
+with_lent false shown bytes = bytes
+with_lent true shown bytes = bytes ++ flat_map sheet_of shown
+
+-- what is lent of the report as it stands, unless an engine is spent
+abbrev pub lent_of : Bool → Option Work → List ℕ
+lent_of lends None = []
+lent_of lends (Some w) = with_lent lends w.shown []
+
+-- an engine of these files, with what it works with, unless it is spent, and whether it lends
+abbrev pub engine_of : List FileView → Option Work → Bool → EngineView
+engine_of files work lends = record { progress = option_map (progress_of files) work; lent = lent_of lends work }
 
 -- the graph is the closure of the facts of all tests, as the rules have them, and the marks are those of the live ones' nodes
 pub record IsMarked (s : StateView) (tests : List KeptTest) (graph : Nodes Fact) (marks : Kept) : Type 0 where

@@ -4,7 +4,7 @@ ghost use Rattle.std.specs.Prelude.{◌≡◌, ◌++◌, ◌<◌, [], if◌then�
 ghost use Rattle.nc_rules.specs.Seen.{asked_of};
 ghost use Rattle.nc_engine.specs.Session.{forgot_of, live_place, untested_of, without_test};
 ghost use Rattle.nc_report.specs.Texts.{line_of};
-ghost use Rattle.nc_engine.specs.Work.{IsWork, SameNetwork, Forgotten, kept_of, nodes_in, tests_of};
+ghost use Rattle.nc_engine.specs.Work.{IsWork, SameNetwork, Forgotten, kept_of, nodes_in, tests_of, with_lent};
 
 use crate::work::{KeptTest, Work};
 use nc_graph::node::NodeId;
@@ -88,25 +88,26 @@ impl Work {
         Ok(())
     }
 
-    /// Forgets the test of a number, if it is a live one.
+    /// Forgets the test of a number, if it is a live one, and says whether the lines of the report
+    /// are lent.
     pub(crate) fn forget(
         &mut self,
         alloc: Global,
         number: u32,
         out: &mut Vec<u8>,
-    ) -> Result<(), AllocError>
+    ) -> Result<bool, AllocError>
         requires { IsWork self.old }
         ensures work { OnOk result (IsWork self.new) }
-        ensures forgotten { OnOk result
-            (Forgotten self.old self.new number out.old.items out.new.items) }
+        ensures forgotten { IfOk result (λ lends. Forgotten self.old self.new number
+            out.old.items (with_lent lends self.new.shown out.new.items)) }
     {
         let Some(place) = self.live_place(number) else {
             push_untested(alloc, out, number)?;
-            return Ok(());
+            return Ok(false);
         };
         self.forget_at(alloc, place)?;
         push_forgot(alloc, out, number)?;
-        self.push_report(alloc, out)?;
-        Ok(())
+        let lends = self.push_report(alloc, out)?;
+        Ok(lends)
     }
 }

@@ -5,8 +5,10 @@
 //! elements, on `nc_suite` for suites and dead elements, and on `nc_command` for the lines. The contract of
 //! [`Engine::answer`] promises that each line gets the reply that the definitions of `specs/` give, that what is kept of
 //! the session moves by one step of theirs, how many facts are inferred for it, and of which tests parts are drawn for
-//! it. The definitions are public: `Marks`, `Questions`, `Cuts`, `Suites`, `DeadElements` and `Session`, in the order to
-//! read them; `Engine` says what an engine has, infers and draws.
+//! it. A reply is appended to bytes of the caller's, but for the lines of a long report, which are the most of it: the
+//! engine lends them, and they are read by [`Engine::lent`], so that they are never copied. The definitions are public:
+//! `Marks`, `Questions`, `Cuts`, `Suites`, `DeadElements` and `Session`, in the order to read them; `Engine` says what
+//! an engine has, lends, infers and draws.
 #![tactic(auto)]
 
 mod cuts;

@@ -1,4 +1,5 @@
-//! Tests of facts: what a test asks for, whether there is room for it, and its reply.
+//! Tests of facts: what a test asks for, whether there is room for it, and its reply. Each function on
+//! the way to the report says whether its lines are lent.
 
 ghost use Rattle.std.specs.Prelude.{◌≡◌, ◌++◌, ◌<◌, ◌-◌, true, Some, length, All, IfOk, OnOk, codes};
 ghost use Rattle.std.specs.Option.{option_map};
@@ -10,7 +11,7 @@ ghost use Rattle.nc_command.specs.Command.{text_of};
 ghost use Rattle.nc_engine.specs.Limits.{most_tests};
 ghost use Rattle.nc_engine.specs.Session.{accepted_of, router_of, has_line, unknown_of};
 ghost use Rattle.nc_report.specs.Texts.{line_of};
-ghost use Rattle.nc_engine.specs.Work.{IsWork, SameNetwork, kept_of, Replies, Counted, Told, TestedAt, Tested};
+ghost use Rattle.nc_engine.specs.Work.{IsWork, SameNetwork, kept_of, Replies, Counted, Told, TestedAt, Tested, with_lent};
 
 use crate::TEST_LIMIT;
 use crate::work::Work;
@@ -73,13 +74,14 @@ fn push_absent(alloc: Global, out: &mut Vec<u8>, test: &TestCommand) -> Result<(
 
 impl Work {
     // Appends the reply to the last test.
-    fn reply(&self, alloc: Global, out: &mut Vec<u8>) -> Result<(), AllocError>
+    fn reply(&self, alloc: Global, out: &mut Vec<u8>) -> Result<bool, AllocError>
         requires { IsWork self.now }
-        ensures { OnOk result (Replies self.now out.old.items out.new.items) }
+        ensures { IfOk result (λ lends. Replies self.now
+            out.old.items (with_lent lends self.now.shown out.new.items)) }
     {
         push_accepted(alloc, out, self.tests.len(), self.graph.len())?;
-        self.push_report(alloc, out)?;
-        Ok(())
+        let lends = self.push_report(alloc, out)?;
+        Ok(lends)
     }
 
     // Answers a test of facts, of which there are some.
@@ -88,26 +90,26 @@ impl Work {
         alloc: Global,
         facts: Vec<Fact>,
         out: &mut Vec<u8>,
-    ) -> Result<(), AllocError>
+    ) -> Result<bool, AllocError>
         requires work { IsWork self.old }
         requires some { 0 < length facts.items }
         requires hold { All (λ f. (flow_of (state_of self.old.rules)).holds f ≡ true) facts.items }
         ensures work { OnOk result (IsWork self.new) }
-        ensures counts { OnOk result
-            (Counted self.old self.new facts.items out.old.items out.new.items) }
+        ensures counts { IfOk result (λ lends. Counted self.old self.new facts.items
+            out.old.items (with_lent lends self.new.shown out.new.items)) }
     {
         rules_make_a_flow();
         closures_have_one_length::<Fact>();
         if self.tests.len() >= TEST_LIMIT {
             push_line(out, b"refused limit tests")?;
-            return Ok(());
+            return Ok(false);
         }
         if !self.accept(facts)? {
             push_line(out, b"refused limit facts")?;
-            return Ok(());
+            return Ok(false);
         }
-        self.reply(alloc, out)?;
-        Ok(())
+        let lends = self.reply(alloc, out)?;
+        Ok(lends)
     }
 
     // Answers a test whose router and line are there, of its facts.
@@ -117,19 +119,20 @@ impl Work {
         test: &TestCommand,
         facts: Vec<Fact>,
         out: &mut Vec<u8>,
-    ) -> Result<(), AllocError>
+    ) -> Result<bool, AllocError>
         requires work { IsWork self.old }
         requires facts { facts.items ≡ tested_facts (state_of self.old.rules) test.now }
         requires hold { All (λ f. (flow_of (state_of self.old.rules)).holds f ≡ true) facts.items }
         ensures work { OnOk result (IsWork self.new) }
-        ensures told { OnOk result (Told self.old self.new test.now out.old.items out.new.items) }
+        ensures told { IfOk result (λ lends. Told self.old self.new test.now
+            out.old.items (with_lent lends self.new.shown out.new.items)) }
     {
         if facts.is_empty() {
             push_absent(alloc, out, test)?;
-            return Ok(());
+            return Ok(false);
         }
-        self.count(alloc, facts, out)?;
-        Ok(())
+        let lends = self.count(alloc, facts, out)?;
+        Ok(lends)
     }
 
     // The facts of a test. All else stays as it is: the rules alone know more of the ways of packets.
@@ -173,21 +176,21 @@ impl Work {
         router: RouterId,
         test: &TestCommand,
         out: &mut Vec<u8>,
-    ) -> Result<(), AllocError>
+    ) -> Result<bool, AllocError>
         requires work { IsWork self.old }
         requires router { router_named (state_of self.old.rules).routers (router_of test.now)
             ≡ Some router.0 }
         ensures work { OnOk result (IsWork self.new) }
-        ensures tested { OnOk result
-            (TestedAt self.old self.new router.0 test.now out.old.items out.new.items) }
+        ensures tested { IfOk result (λ lends. TestedAt self.old self.new router.0 test.now
+            out.old.items (with_lent lends self.new.shown out.new.items)) }
     {
         if !self.has_line(router, test) {
             push_line(out, b"refused line")?;
-            return Ok(());
+            return Ok(false);
         }
         let facts = self.facts(test)?;
-        self.judge(alloc, test, facts, out)?;
-        Ok(())
+        let lends = self.judge(alloc, test, facts, out)?;
+        Ok(lends)
     }
 
     /// The router of a name.
@@ -204,18 +207,18 @@ impl Work {
         alloc: Global,
         test: &TestCommand,
         out: &mut Vec<u8>,
-    ) -> Result<(), AllocError>
+    ) -> Result<bool, AllocError>
         requires { IsWork self.old }
         ensures work { OnOk result (IsWork self.new) }
-        ensures tests { OnOk result
-            (Tested self.old self.new test.now out.old.items out.new.items) }
+        ensures tests { IfOk result (λ lends. Tested self.old self.new test.now
+            out.old.items (with_lent lends self.new.shown out.new.items)) }
     {
         let name = router_of(test);
         let Some(router) = self.router(name) else {
             push_unknown(out, name.bytes())?;
-            return Ok(());
+            return Ok(false);
         };
-        self.test_at(alloc, router, test, out)?;
-        Ok(())
+        let lends = self.test_at(alloc, router, test, out)?;
+        Ok(lends)
     }
 }

@@ -1,5 +1,6 @@
 //! What the engine works with: the rules of a network, the graph of the facts that were asked,
 //! their marks, the report as it stands, the tests, and what was drawn for questions about them.
+//! The lines of a report are lent where they are many, so that no test costs a copy of them.
 
 ghost use Rattle.std.specs.Prelude.{◌≡◌, ◌+◌, ◌++◌, ◌<◌, ◌≤◌, ◌-◌, List, true, length, All, IfOk, OnOk, OnErr, IsErrOf};
 ghost use Rattle.nc_types.specs.Network.{element_count};
@@ -15,7 +16,7 @@ ghost use Rattle.nc_engine.specs.Session.{live_in};
 ghost use Rattle.nc_report.specs.Views.{FileView};
 ghost use Rattle.nc_engine.specs.Engine.{HasReferences, begin_at};
 ghost use Rattle.nc_engine.specs.Marks.{IsReport};
-ghost use Rattle.nc_engine.specs.Work.{IsWork, SameNetwork, Takes, Appended, progress_of, tests_of};
+ghost use Rattle.nc_engine.specs.Work.{IsWork, SameNetwork, Takes, Appended, progress_of, tests_of, with_lent};
 
 use crate::dead_elements::DeadElements;
 use crate::{DIAGRAM_LIMIT, FACT_LIMIT, TEST_LIMIT};
@@ -31,6 +32,9 @@ use nc_report::Shown;
 use nc_rules::{Rules, rules_make_a_flow};
 use nc_stable::SettledNetwork;
 use std::alloc::{AllocError, Global};
+
+// How many bytes of lines are lent at least: a copy of fewer costs less than a write of their own.
+const LENT_FROM: usize = 4096;
 
 /// A test that was accepted: the facts that it tests, their nodes, and whether it is live.
 #[derive(Drop)]
@@ -182,19 +186,25 @@ impl Work {
         let _facts = self.graph.len();
     }
 
-    /// Appends the report for the live tests.
-    pub(crate) fn push_report(&self, alloc: Global, out: &mut Vec<u8>) -> Result<(), AllocError>
+    /// Appends the report for the live tests, and says whether its lines are lent: they stand behind
+    /// what was appended then, and aren't copied.
+    pub(crate) fn push_report(&self, alloc: Global, out: &mut Vec<u8>) -> Result<bool, AllocError>
         requires { IsWork self.now }
-        ensures { OnOk result (Appended
+        ensures { IfOk result (λ lends. Appended
             (IsReport (flow_of (state_of self.now.rules)) (live_in (tests_of self.now))
-            (state_of self.now.rules).routers self.now.listed) out.old.items out.new.items) }
+            (state_of self.now.rules).routers self.now.listed)
+            out.old.items (with_lent lends self.now.shown out.new.items)) }
     {
         self.marks_are_kept();
         if !self.listed {
             self.shown.push_totals(alloc, out)?;
-            return Ok(());
+            return Ok(false);
         }
-        self.shown.push_report(alloc, out)?;
-        Ok(())
+        if self.shown.lines().len() < LENT_FROM {
+            self.shown.push_report(alloc, out)?;
+            return Ok(false);
+        }
+        self.shown.push_totals(alloc, out)?;
+        Ok(true)
     }
 }

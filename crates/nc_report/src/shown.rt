@@ -1,13 +1,14 @@
 //! The report as it stands: it is kept from test to test, a test changes what changed, and a reply
-//! copies it, in one form or another.
+//! lends the lines of the routers or copies them, in one form or another.
 
 ghost use Rattle.std.specs.Prelude.{◌≡◌, ◌+◌, ◌<◌, ◌++◌, ◌&&◌, ◌^◌, ℕ, Bool, not, nat_eq, length, map, slice_index_or, string_bytes, IfOk, OnOk};
+ghost use Rattle.std.specs.List.{flat_map};
 ghost use Rattle.serde_json.specs.View.{view};
 ghost use Rattle.nc_types.specs.Network.{element_count, owner_at};
 ghost use Rattle.nc_marks.specs.Kept.{TouchesOnly};
 ghost use Rattle.nc_marks.specs.Marks.{ElementMarks, marked_elements};
 ghost use Rattle.nc_marks.specs.Sets.{has};
-ghost use Rattle.nc_report.specs.Texts.{count_of, json_of, lcov_of, letters_of, object_text, report_of, sheet_in, show_of, totals_of};
+ghost use Rattle.nc_report.specs.Texts.{count_of, json_of, lcov_of, letters_of, object_text, report_of, sheet_in, sheet_of, show_of, totals_of};
 ghost use Rattle.nc_report.specs.Sheets.{sheets_from};
 ghost use Rattle.nc_report.specs.Shown.{AreFreshBut, is_owner, one, put_letter};
 ghost use Rattle.nc_report.specs.Values.{report_data};
@@ -167,8 +168,14 @@ impl Shown {
         self.counts[sign as usize]
     }
 
-    /// Appends the report: the counts of the marks of all lines, then of each router its name and a
-    /// letter a line.
+    /// The lines of the routers, which end the report: of each its name and a letter a line.
+    pub fn lines(&self) -> &[u8]
+        ensures { result.now ≡ flat_map sheet_of self.now }
+    {
+        self.listing.text()
+    }
+
+    /// Appends the report: the counts of the marks of all lines, then the lines of the routers.
     ///
     /// # Errors
     ///
@@ -176,7 +183,7 @@ impl Shown {
     pub fn push_report(&self, alloc: Global, out: &mut Vec<u8>) -> Result<(), AllocError>
         ensures { OnOk result (out.new.items ≡ out.old.items ++ report_of self.now) }
     {
-        let lines = self.listing.text();
+        let lines = self.lines();
         out.reserve(lines.len().saturating_add(TOTALS_ROOM))?;
         self.push_totals(alloc, out)?;
         out.extend_from_slice(lines)?;

@@ -1,6 +1,6 @@
 -- Lines that are served one after another.
 use Rattle.std.proofs.Common.{◌≡◌, ℕ, ◌<◌, Bool, true, false, ◌||◌, nat_lt, cond, List, [], ◌∷◌, ◌++◌, length, Option, Some, inl, inr, refl, sym, ap, ◌∙◌, subst, append_assoc, append-nil}
-use Rattle.std.specs.Prelude.{codes, Result, Ok, Err, IfOk, OnOk}
+use Rattle.std.specs.Prelude.{codes, Result, Ok, Err, is_err, IfOk, OnOk, OnErr}
 use Rattle.std.specs.Io.KnownBytes.{Appends}
 use Rattle.std.proofs.KnownBytes.{Appends-trans, Appends-nil}
 use Rattle.std.proofs.lemmas.Bool.{lt-ltb, ltb-true, or_left, or_right, or_from}
@@ -129,6 +129,36 @@ quit_reply n line reply a b quits step = on (command_of line) quits step
     on TooLong quits answers = absurd cc
     on Unread quits answers = absurd cc
 
+-- ---- bytes that were written, or of which a front was
+
+-- what is ensured where a call failed
+pub on_err : {T E : Type 0} → (r : Result T E) (P : Type 0) → P → OnErr r P
+on_err (Ok x) P holds = tt
+on_err (Err error) P holds = holds
+
+-- a front of the first bytes is one of both
+pub front_of_first : (old new : Option (List ℕ)) (first second : List ℕ) → AppendsFront old new first → AppendsFront old new (first ++ second)
+front_of_first old new first second begun = record {
+  front = begun.front;
+  behind = begun.behind ++ second;
+  parts = ap (λ (l : List ℕ). l ++ second) begun.parts ∙ append_assoc begun.front begun.behind second;
+  written = begun.written;
+}
+
+-- and so are the first and a front of the second
+pub front_of_second : (old mid new : Option (List ℕ)) (first second : List ℕ) → Appends old mid first → AppendsFront mid new second → AppendsFront old new (first ++ second)
+front_of_second old mid new first second written begun = record {
+  front = first ++ begun.front;
+  behind = begun.behind;
+  parts = ap (λ (l : List ℕ). first ++ l) begun.parts ∙ sym (append_assoc first begun.front begun.behind);
+  written = Appends-trans old mid new first begun.front written begun.written;
+}
+
+-- all of what is pending was written
+pub part_all : (old new : Option (List ℕ)) (before after : List ℕ) → after ≡ [] → Appends old new before → AppendsPart old new before after
+part_all old new before after none written =
+    record { part = before; parts = sym (ap (λ (l : List ℕ). before ++ l) none ∙ append-nil before); written = written }
+
 -- ---- replies that are pending
 
 module _ (from : Progress) (lines : List (List ℕ)) (now : Option Progress) (pending : List ℕ) (start mid : Option (List ℕ)) (p : ArePending from lines now pending start mid) where
@@ -153,12 +183,7 @@ module _ (from : Progress) (lines : List (List ℕ)) (now : Option Progress) (pe
     replies = p.sent ++ pending;
     last = p.to.session;
     run = p.run;
-    begun = record {
-      front = p.sent ++ begun.front;
-      behind = begun.behind;
-      parts = ap (λ (l : List ℕ). p.sent ++ l) begun.parts ∙ sym (append_assoc p.sent begun.front begun.behind);
-      written = Appends-trans start mid new p.sent begun.front p.written begun.written;
-    };
+    begun = front_of_second start mid new p.sent pending p.written begun;
   }
 
   -- they were written, or the sink failed within them
@@ -168,6 +193,11 @@ module _ (from : Progress) (lines : List (List ℕ)) (now : Option Progress) (pe
   pending_ends bytes same new r (inr failed) =
       subst (λ (r : Result Flow stop.Stop). ServesLines from lines now start new r) (sym failed.0)
       (subst (λ (ls : List (List ℕ)). AreBroken from ls start new) (append-nil lines) (pending_broken [] new (subst (AppendsFront mid new) same failed.1)))
+
+  -- the sink failed within them, and that was the end
+  pub pending_fails : (new : Option (List ℕ)) (r : Result Flow stop.Stop) → is_err r ≡ true → AppendsFront mid new pending → ServesLines from lines now start new r
+  pending_fails new (Ok how) failed begun = absurd cc
+  pending_fails new (Err why) failed begun = subst (λ (ls : List (List ℕ)). AreBroken from ls start new) (append-nil lines) (pending_broken [] new begun)
 
   -- a part of them was written
   pub pending_less : (after : List ℕ) (new : Option (List ℕ)) → AppendsPart mid new pending after → ArePending from lines now after start new

@@ -23,7 +23,7 @@ use Rattle.nc_engine.specs.File.{LoadedView}
 use Rattle.nc_engine.specs.Session.{no_tests, Run, is_quit}
 use Rattle.nc_session.specs.Output.{has_quit}
 use Rattle.nc_engine.specs.Engine.{Progress, begin_at}
-use Rattle.nc_session.specs.Serving.{AppendsFront, EndsWith, AreServed, ArePending, AreEnded, AreBroken, AreAnswered, ServesLines}
+use Rattle.nc_session.specs.Serving.{AppendsFront, EndsWith, AreServed, ArePending, AreEnded, AreBroken, AreAnswered, ServesLines, AnswersLine}
 use Rattle.nc_session.specs.Leaving.{Told, told, failures, Leaves, FailsAs, stopped_as}
 use Rattle.nc_engine.specs.Session.{GoesOn}
 use Rattle.nc_session.specs.SoFar.{IsTaken, RefusesRest}
@@ -128,6 +128,16 @@ module _ (from : Progress) (xs : List ℕ) (now : Option Progress) (pending byte
         (ended_behind from (xs ++ (line ++ 10 ∷ [])) rest old new ended))
     quit_ends next line rest first quits (inr failed) =
         subst (λ (r : Result Flow Stop). ServesLines from (whole_lines_of (xs ++ (line ++ 10 ∷ rest))) next old new r) (sym failed.0) (pending_behind (line ++ 10 ∷ rest) failed.1)
+
+-- the sink failed behind a line that was answered, whether the line ends the session or doesn't
+module _ (from : Progress) (xs line rest : List ℕ) (first : list_any is_feed line ≡ false) (engine next : Option Progress) (before after : List ℕ) (old mid new : Option (List ℕ))
+    (p : ArePending from (whole_lines_of xs) engine before old mid) (begun : AppendsFront mid new after) where
+  pub answer_broken : (how : Flow) → AnswersLine from (whole_lines_of xs) (without_return (open_of xs ++ line)) next before after old mid how → AreBroken from (whole_lines_of (xs ++ (line ++ 10 ∷ rest))) old new
+  answer_broken flow.Go answers =
+      subst (λ (bs : List ℕ). AreBroken from (whole_lines_of bs) old new) (sym (fed xs line rest))
+      (pending_behind from (xs ++ (line ++ 10 ∷ [])) next after after refl old mid new
+      (subst (λ (ls : List (List ℕ)). ArePending from ls next after old mid) (lines_fed xs line first) answers) rest begun)
+  answer_broken flow.Stop quits = pending_behind from xs engine before after quits.1 old mid new p (line ++ 10 ∷ rest) begun
 
 pub held_on : (xs ys held now : List ℕ) → list_any is_feed ys ≡ false → held ≡ held_of xs → now ≡ front_of (held ++ ys) → now ≡ held_of (xs ++ ys)
 held_on xs ys held now none is e =

@@ -82,7 +82,8 @@ module _ (from : Progress) (lines : List (List ℕ)) where
     pub run : Run from.loaded from.session (until_quit lines) replies last
     pub written : Appends old new replies
 
--- how one line more is answered, while replies are pending: its reply goes to their end, or it ends the session and none is added
+-- how one line more is answered, while replies are pending: its reply goes to their end, or it ends the session and none is added;
+-- what the engine lends is pending too, behind the others
 abbrev pub AnswersLine : Progress → List (List ℕ) → List ℕ → Option Progress → List ℕ → List ℕ → Option (List ℕ) → Option (List ℕ) → Flow → Type 0
 AnswersLine from lines line now before after old new flow.Go = ArePending from (lines ++ line ∷ []) now after old new
 AnswersLine from lines line now before after old new flow.Stop = (is_quit line ≡ true) × (after ≡ before)

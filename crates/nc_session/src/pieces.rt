@@ -62,7 +62,8 @@ fn stopped(stop: Stop) -> Status
 fn finish<K: Sink>(alloc: Global, engine: &mut Engine, cutter: Cutter, output: &mut K) -> Status
     ensures leaves { (n : LoadedView) (before : Told)
         (rest : Option (List ℕ)) (room : ℕ)
-        → IsTaken (begin_at n) before (told rest (K.written output.old)) engine.old cutter room
+        → IsTaken (begin_at n) before (told rest (K.written output.old)) engine.old.progress cutter
+        room
         → IsAtEnd rest → GoesOn n → Leaves n before (told rest (K.written output.new)) result }
     ensures fails { (source : Faults) → FailsAs (failures source (K.faults output.old))
         (failures source (K.faults output.new)) result }
@@ -98,7 +99,7 @@ fn close<S: Source, K: Sink>(
 ) -> Status
     ensures leaves { (n : LoadedView) (before : Told)
         → IsTaken (begin_at n) before (told (S.rest input.old) (K.written output.old))
-        engine.old cutter 0
+        engine.old.progress cutter 0
         → GoesOn n → Leaves n before (told (S.rest input.new) (K.written output.new)) result }
     ensures fails { FailsAs (failures (S.faults input.old) (K.faults output.old))
         (failures (S.faults input.new) (K.faults output.new)) result }
@@ -124,7 +125,7 @@ fn serve_pieces<S: Source, K: Sink>(
     output: &mut K,
 ) -> Status
     ensures leaves { (n : LoadedView)
-        → engine.old ≡ Some (begin_at n) → GoesOn n
+        → engine.old.progress ≡ Some (begin_at n) → GoesOn n
         → Leaves n (told (S.rest input.old) (K.written output.old))
         (told (S.rest input.new) (K.written output.new)) result }
     ensures fails { FailsAs (failures (S.faults input.old) (K.faults output.old))

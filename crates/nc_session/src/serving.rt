@@ -1,8 +1,11 @@
 //! Serving a session: every line is answered, and the replies to the whole lines of a piece are written before it is left.
+//! Replies are gathered, so that short ones are written together; what the engine lends of a reply is written from where
+//! it stands, behind those that are pending.
 
-ghost use Rattle.std.specs.Prelude.{◌≡◌, ◌≢◌, ℕ, ◌<◌, ◌++◌, ◌∷◌, [], List, Option, Err, length, IfSome, MatchOption, IfOk, OnOk, OnErr, codes};
+ghost use Rattle.std.specs.Prelude.{◌≡◌, ◌≢◌, ◌⊎◌, ℕ, ◌<◌, ◌++◌, ◌∷◌, [], false, List, Option, Err, length, IfSome, IfNone, MatchOption, IfOk, OnOk, OnErr, codes};
+ghost use Rattle.std.specs.List.{list_any};
 ghost use Rattle.std.specs.Io.KnownBytes.{Appends};
-ghost use Rattle.nc_lines.specs.Lines.{without_return};
+ghost use Rattle.nc_lines.specs.Lines.{is_feed, without_return};
 ghost use Rattle.nc_lines.specs.WholeLines.{whole_lines_of};
 ghost use Rattle.nc_command.specs.Cutting.{cut_of, held_of};
 ghost use Rattle.nc_session.specs.declared.serving.TheConstants.{PENDING_LIMIT};
@@ -13,7 +16,7 @@ ghost use Rattle.nc_engine.specs.Engine.{Progress};
 ghost use Rattle.nc_session.specs.Serving.{AppendsFront, AppendsPart, EndsWith, AreServed, ArePending, AnswersLine, IsFirst, AnswersFirst, AnswersNone, ServesLines};
 
 use crate::reading::Stop;
-use crate::writing::write_all;
+use crate::writing::{write_all, write_both};
 use nc_command::{Cut, Cutter, cut_at_feed};
 use nc_engine::{Engine, Flow};
 use nc_lines::line_end::line_len;
@@ -35,20 +38,42 @@ fn end_with<K: Sink>(output: &mut K, pending: &[u8], end: Result<Flow, Stop>) ->
     }
 }
 
-// Writes the pending replies where they have become many.
-fn keep_few<K: Sink>(output: &mut K, pending: &mut Vec<u8>) -> Result<(), Stop>
-    ensures part { OnOk result (AppendsPart (K.written output.old) (K.written output.new)
-        pending.old.items pending.new.items) }
-    ensures few { OnOk result (length pending.new.items < PENDING_LIMIT) }
-    ensures begun { OnErr result
-        (AppendsFront (K.written output.old) (K.written output.new) pending.old.items) }
+// Writes the pending replies and what is lent behind them, and ends the loan.
+fn write_lent<K: Sink>(
+    output: &mut K,
+    engine: &mut Engine,
+    pending: &mut Vec<u8>,
+) -> Result<(), Stop>
+    ensures written { OnOk result (Appends (K.written output.old) (K.written output.new)
+        (pending.old.items ++ engine.old.lent)) }
+    ensures emptied { OnOk result (pending.new.items ≡ []) }
+    ensures ended { OnOk result (engine.new.lent ≡ []) }
+    ensures progress { engine.new.progress ≡ engine.old.progress }
+    ensures begun { OnErr result (AppendsFront (K.written output.old) (K.written output.new)
+        (pending.old.items ++ engine.old.lent)) }
     ensures cause { HasStopCause (K.faults output.old) (K.faults output.new) result }
 {
-    if pending.len() < PENDING_LIMIT {
+    write_both(output, pending, engine.lent())?;
+    pending.clear();
+    engine.let_go();
+    Ok(())
+}
+
+// Writes the pending replies, and what is lent behind them, where something is lent or they have become many.
+fn keep_few<K: Sink>(output: &mut K, engine: &mut Engine, pending: &mut Vec<u8>) -> Result<(), Stop>
+    ensures part { OnOk result (AppendsPart (K.written output.old) (K.written output.new)
+        (pending.old.items ++ engine.old.lent) pending.new.items) }
+    ensures few { OnOk result (length pending.new.items < PENDING_LIMIT) }
+    ensures ended { OnOk result (engine.new.lent ≡ []) }
+    ensures progress { engine.new.progress ≡ engine.old.progress }
+    ensures begun { OnErr result (AppendsFront (K.written output.old) (K.written output.new)
+        (pending.old.items ++ engine.old.lent)) }
+    ensures cause { HasStopCause (K.faults output.old) (K.faults output.new) result }
+{
+    if engine.lent().is_empty() && pending.len() < PENDING_LIMIT {
         return Ok(());
     }
-    write_all(output, pending)?;
-    pending.clear();
+    write_lent(output, engine, pending)?;
     Ok(())
 }
 
@@ -64,8 +89,10 @@ fn push_long(pending: &mut Vec<u8>) -> Result<Flow, AllocError>
 
 // The first line of a piece and the bytes behind it, where the piece has a line feed and nothing is held in front.
 fn first_line<'a>(cutter: &Cutter, piece: &'a [u8]) -> Option<(&'a [u8], &'a [u8])>
-    ensures { IfSome result
+    ensures first { IfSome result
         (λ cut. (cutter.now ≡ []) × IsFirst piece.now cut.0.now cut.1.now) }
+    ensures none { IfNone result
+        ((0 < length cutter.now) ⊎ (list_any is_feed piece.now ≡ false)) }
 {
     if cutter.kept() > 0 {
         return None;
@@ -75,8 +102,8 @@ fn first_line<'a>(cutter: &Cutter, piece: &'a [u8]) -> Option<(&'a [u8], &'a [u8
     Some((line, rest))
 }
 
-// Answers a line as it was cut: its reply goes to the end of the pending ones. The engine needs no byte of one that
-// is too long.
+// Answers a line as it was cut: its reply goes to the end of the pending ones, with what the engine lends behind them.
+// The engine needs no byte of one that is too long, and lends nothing then.
 fn answer_cut(
     alloc: Global,
     engine: &mut Engine,
@@ -85,19 +112,22 @@ fn answer_cut(
 ) -> Result<Flow, AllocError>
     ensures answers { (from : Progress) (lines : List (List ℕ)) (raw : List ℕ)
         (start now : Option (List ℕ)) → cut ≡ cut_of raw
-        → ArePending from lines engine.old pending.old.items start now
-        → IfOk result (AnswersLine from lines (without_return raw) engine.new
-        pending.old.items pending.new.items start now) }
+        → ArePending from lines engine.old.progress pending.old.items start now
+        → IfOk result (AnswersLine from lines (without_return raw) engine.new.progress
+        pending.old.items (pending.new.items ++ engine.new.lent) start now) }
     ensures kept { OnErr result (pending.new.items ≡ pending.old.items) }
 {
     match cut {
         Cut::Line(line) => engine.answer(alloc, line.bytes(), pending),
-        Cut::Long => push_long(pending),
+        Cut::Long => {
+            engine.let_go();
+            push_long(pending)
+        }
     }
 }
 
-// Answers the line that the first line feed of a piece ends: its reply goes to the end of the pending ones. A line
-// that stands whole in the piece needs no cutter.
+// Answers the line that the first line feed of a piece ends: its reply goes to the end of the pending ones, with what
+// the engine lends behind them. A line that stands whole in the piece needs no cutter.
 fn answer_next<'a>(
     alloc: Global,
     engine: &mut Engine,
@@ -106,10 +136,11 @@ fn answer_next<'a>(
     pending: &mut Vec<u8>,
 ) -> Result<Option<(Flow, &'a [u8])>, AllocError>
     ensures answers { IfOk result (λ next. MatchOption next
-        (AnswersNone piece.now cutter.old cutter.new engine.old engine.new
+        (AnswersNone piece.now cutter.old cutter.new engine.old.progress engine.new.progress
         pending.old.items pending.new.items)
-        (λ cut. AnswersFirst piece.now cut.1.now cutter.old cutter.new engine.old engine.new
-        pending.old.items pending.new.items cut.0)) }
+        (λ cut. AnswersFirst piece.now cut.1.now cutter.old cutter.new
+        engine.old.progress engine.new.progress
+        pending.old.items (pending.new.items ++ engine.new.lent) cut.0)) }
     ensures kept { OnErr result (pending.new.items ≡ pending.old.items) }
 {
     if let Some((line, rest)) = first_line(cutter, piece) {
@@ -132,14 +163,17 @@ pub(crate) fn answer_last<K: Sink>(
 ) -> Result<Flow, Stop>
     ensures serves { (from : Progress) (lines : List (List ℕ)) (start : Option (List ℕ))
         (raw : List ℕ) → cut ≡ cut_of raw
-        → AreServed from lines engine.old start (K.written output.old)
-        → ServesLines from (lines ++ without_return raw ∷ []) engine.new start
+        → AreServed from lines engine.old.progress start (K.written output.old)
+        → ServesLines from (lines ++ without_return raw ∷ []) engine.new.progress start
         (K.written output.new) result }
     ensures cause { HasStopCause (K.faults output.old) (K.faults output.new) result }
 {
     let mut reply = Vec::new(alloc);
     match answer_cut(alloc, engine, cut, &mut reply) {
-        Ok(Flow::Go) => end_with(output, &reply, Ok(Flow::Go)),
+        Ok(Flow::Go) => {
+            write_lent(output, engine, &mut reply)?;
+            Ok(Flow::Go)
+        }
         Ok(Flow::Stop) => Ok(Flow::Stop),
         Err(_) => Err(Stop::Memory),
     }
@@ -147,7 +181,7 @@ pub(crate) fn answer_last<K: Sink>(
 
 /// Answers the lines that a piece of a session ends, each before the next is looked at, up to one that ends the
 /// session, and says whether there is one. What the piece leaves open is held for the next. The replies are written
-/// before it returns, and earlier where many are pending.
+/// before it returns, and earlier where many are pending or one is lent.
 pub(crate) fn take_piece<K: Sink>(
     alloc: Global,
     engine: &mut Engine,
@@ -157,8 +191,8 @@ pub(crate) fn take_piece<K: Sink>(
 ) -> Result<Flow, Stop>
     ensures serves { (from : Progress) (taken : List ℕ) (start : Option (List ℕ))
         → cutter.old ≡ held_of taken
-        → AreServed from (whole_lines_of taken) engine.old start (K.written output.old)
-        → ServesLines from (whole_lines_of (taken ++ piece.now)) engine.new start
+        → AreServed from (whole_lines_of taken) engine.old.progress start (K.written output.old)
+        → ServesLines from (whole_lines_of (taken ++ piece.now)) engine.new.progress start
         (K.written output.new) result }
     ensures held { IfOk result (λ how. how ≡ flow.Go → (taken : List ℕ)
         → cutter.old ≡ held_of taken → cutter.new ≡ held_of (taken ++ piece.now)) }
@@ -173,12 +207,12 @@ pub(crate) fn take_piece<K: Sink>(
         let Some((how, behind)) = next else {
             return end_with(output, &pending, Ok(Flow::Go));
         };
+        if let Err(stop) = keep_few(output, engine, &mut pending) {
+            return Err(stop);
+        }
         match how {
             Flow::Go => rest = behind,
             Flow::Stop => return end_with(output, &pending, Ok(Flow::Stop)),
-        }
-        if let Err(stop) = keep_few(output, &mut pending) {
-            return Err(stop);
         }
     }
 }

@@ -1,6 +1,6 @@
 //! Writing replies to the sink, however few bytes it takes at once.
 
-ghost use Rattle.std.specs.Prelude.{OnOk, OnErr, IsErrOf};
+ghost use Rattle.std.specs.Prelude.{◌++◌, OnOk, OnErr, IsErrOf};
 ghost use Rattle.std.specs.Io.KnownBytes.{Appends};
 ghost use Rattle.nc_session.specs.Reading.{HasStopCause};
 ghost use Rattle.nc_session.specs.Serving.{AppendsFront};
@@ -19,5 +19,18 @@ pub(crate) fn write_all<K: Sink>(output: &mut K, bytes: &[u8]) -> Result<(), Sto
     'writing: while at < bytes.len() {
         at += output.write(bytes.split_at(at).1)?;
     }
+    Ok(())
+}
+
+/// Writes bytes and then others, as if they were one text.
+pub(crate) fn write_both<K: Sink>(output: &mut K, first: &[u8], second: &[u8]) -> Result<(), Stop>
+    ensures written { OnOk result
+        (Appends (K.written output.old) (K.written output.new) (first.now ++ second.now)) }
+    ensures begun { OnErr result
+        (AppendsFront (K.written output.old) (K.written output.new) (first.now ++ second.now)) }
+    ensures cause { HasStopCause (K.faults output.old) (K.faults output.new) result }
+{
+    write_all(output, first)?;
+    write_all(output, second)?;
     Ok(())
 }

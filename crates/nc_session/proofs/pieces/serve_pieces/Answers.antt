@@ -20,20 +20,20 @@ reading-init g c = record {
   consumed = Consumes-nil (g.S.Source.rest c.args.input.now);
   room = refl;
   taken = λ n is.
-      taken_none n (g.S.Source.rest c.args.input.now) (g.K.Sink.written c.args.output.now) c.args.engine.now c.new-cutter.result is c.new-cutter.ensures;
+      taken_none n (g.S.Source.rest c.args.input.now) (g.K.Sink.written c.args.output.now) c.args.engine.now.progress c.new-cutter.result is c.new-cutter.ensures;
 }
 
 pub returns-in-Err-clause-leaves : goal.returns-in-Err-clause-leaves
 returns-in-Err-clause-leaves g c n is goes =
     taken_fault n (told (g.S.Source.rest c.args.input.now) (g.K.Sink.written c.args.output.now)) (g.S.Source.rest c.reading.input) (g.K.Sink.written c.reading.output)
-    c.reading.engine c.reading.cutter c.reading.room (c.reading.invariant.taken n is) (g.S.Source.rest c.read_piece.new.input) c.in-Err.ensures.kept
+    c.reading.engine.progress c.reading.cutter c.reading.room (c.reading.invariant.taken n is) (g.S.Source.rest c.read_piece.new.input) c.in-Err.ensures.kept
 
 pub returns-then-count-eq0-clause-leaves : goal.returns-then-count-eq0-clause-leaves
 returns-then-count-eq0-clause-leaves g c n is goes =
     let before = told (g.S.Source.rest c.args.input.now) (g.K.Sink.written c.args.output.now) in
     let new = g.S.Source.rest c.read_piece.new.input in
     c.finish.ensures.leaves n before new c.reading.room
-    (taken_end n before (g.S.Source.rest c.reading.input) (g.K.Sink.written c.reading.output) c.reading.engine c.reading.cutter c.reading.room
+    (taken_end n before (g.S.Source.rest c.reading.input) (g.K.Sink.written c.reading.output) c.reading.engine.progress c.reading.cutter c.reading.room
     (c.reading.invariant.taken n is) new c.in-Ok.count c.read_piece.new.buffer c.if-count-eq0.true c.in-Ok.ensures.bytes)
     (c.in-Ok.ensures.ended c.if-count-eq0.true) goes
 
@@ -61,10 +61,10 @@ reading-preserved g c =
           let before = told (g.S.Source.rest c.args.input.now) (g.K.Sink.written c.args.output.now) in
           let t = c.reading.invariant.taken n is in
           let served = c.in-Ok-Go.ensures.serves (begin_at n) t.taken before.written t.held_is t.served in
-          taken_more n before (g.S.Source.rest c.reading.input) (g.K.Sink.written c.reading.output) c.reading.engine c.reading.cutter c.reading.room t
+          taken_more n before (g.S.Source.rest c.reading.input) (g.K.Sink.written c.reading.output) c.reading.engine.progress c.reading.cutter c.reading.room t
           (g.S.Source.rest c.read_piece.new.input) piece c.in-Ok.ensures.bytes (omega (arith, len, few)) (g.K.Sink.written c.take_piece.new.output)
-          c.take_piece.new.engine c.take_piece.new.cutter (c.reading.room - c.in-Ok.count)
-          (subst (λ (how : Flow). ServesLines (begin_at n) (whole_lines_of (t.taken ++ piece)) c.take_piece.new.engine before.written (g.K.Sink.written c.take_piece.new.output) (Ok how)) c.in-Ok-Go.field-0-is served)
+          c.take_piece.new.engine.progress c.take_piece.new.cutter (c.reading.room - c.in-Ok.count)
+          (subst (λ (how : Flow). ServesLines (begin_at n) (whole_lines_of (t.taken ++ piece)) c.take_piece.new.engine.progress before.written (g.K.Sink.written c.take_piece.new.output) (Ok how)) c.in-Ok-Go.field-0-is served)
           (c.in-Ok-Go.ensures.held c.in-Ok-Go.field-0-is t.taken t.held_is) (omega (arith, len, few));
     }
 
@@ -75,9 +75,9 @@ returns-in-Ok-Stop-clause-leaves g c n is goes =
     let before = told (g.S.Source.rest c.args.input.now) (g.K.Sink.written c.args.output.now) in
     let t = c.reading.invariant.taken n is in
     let served = c.in-Ok-Stop.ensures.serves (begin_at n) t.taken before.written t.held_is t.served in
-    taken_quit n before (g.S.Source.rest c.reading.input) (g.K.Sink.written c.reading.output) c.reading.engine c.reading.cutter c.reading.room t
+    taken_quit n before (g.S.Source.rest c.reading.input) (g.K.Sink.written c.reading.output) c.reading.engine.progress c.reading.cutter c.reading.room t
     (g.S.Source.rest c.read_piece.new.input) piece c.in-Ok.ensures.bytes (omega (arith, length-take c.in-Ok.count c.read_piece.new.buffer, few)) (g.K.Sink.written c.take_piece.new.output)
-    (subst (λ (how : Flow). ServesLines (begin_at n) (whole_lines_of (t.taken ++ piece)) c.take_piece.new.engine before.written (g.K.Sink.written c.take_piece.new.output) (Ok how)) c.in-Ok-Stop.field-0-is served)
+    (subst (λ (how : Flow). ServesLines (begin_at n) (whole_lines_of (t.taken ++ piece)) c.take_piece.new.engine.progress before.written (g.K.Sink.written c.take_piece.new.output) (Ok how)) c.in-Ok-Stop.field-0-is served)
 
 pub returns-in-Ok-Stop-clause-takes : goal.returns-in-Ok-Stop-clause-takes
 returns-in-Ok-Stop-clause-takes g c =
@@ -97,7 +97,7 @@ returns-in-Err-take_piece-clause-leaves g c n is goes =
     let new = g.K.Sink.written c.take_piece.new.output in
     let t = c.reading.invariant.taken n is in
     subst (Leaves n before (told (g.S.Source.rest c.read_piece.new.input) new)) (sym c.stopped.ensures)
-    (taken_broken n before (g.S.Source.rest c.reading.input) (g.K.Sink.written c.reading.output) c.reading.engine c.reading.cutter c.reading.room t
+    (taken_broken n before (g.S.Source.rest c.reading.input) (g.K.Sink.written c.reading.output) c.reading.engine.progress c.reading.cutter c.reading.room t
     (g.S.Source.rest c.read_piece.new.input) piece c.in-Ok.ensures.bytes (omega (arith, length-take c.in-Ok.count c.read_piece.new.buffer, few)) new goes c.in-Err-take_piece.stop
     (c.in-Err-take_piece.ensures.serves (begin_at n) t.taken before.written t.held_is t.served))
 
@@ -116,7 +116,7 @@ returns-clause-leaves g c n is goes =
     let before = told (g.S.Source.rest c.args.input.now) (g.K.Sink.written c.args.output.now) in
     let none : c.reading.room ≡ 0 = omega arith in
     c.close.ensures.leaves n before
-    (subst (IsTaken (begin_at n) before (told (g.S.Source.rest c.reading.input) (g.K.Sink.written c.reading.output)) c.reading.engine c.reading.cutter) none (c.reading.invariant.taken n is)) goes
+    (subst (IsTaken (begin_at n) before (told (g.S.Source.rest c.reading.input) (g.K.Sink.written c.reading.output)) c.reading.engine.progress c.reading.cutter) none (c.reading.invariant.taken n is)) goes
 
 pub returns-clause-takes : goal.returns-clause-takes
 returns-clause-takes g c =

@@ -17,9 +17,9 @@ invariant-reading g l = record {
   bytes : List ℕ;
   consumed : Consumes (g.S.Source.rest l.fn.input) (g.S.Source.rest l.input) bytes;
   room : length bytes + l.room ≡ most_session_bytes;
-  taken : (n : LoadedView) → l.fn.engine ≡ Some (begin_at n)
+  taken : (n : LoadedView) → l.fn.engine.progress ≡ Some (begin_at n)
       → IsTaken (begin_at n) (told (g.S.Source.rest l.fn.input) (g.K.Sink.written l.fn.output))
-      (told (g.S.Source.rest l.input) (g.K.Sink.written l.output)) l.engine l.cutter l.room;
+      (told (g.S.Source.rest l.input) (g.K.Sink.written l.output)) l.engine.progress l.cutter l.room;
 }
 
 abbrev pub decreases-reading : goal.decreases-reading

@@ -11,16 +11,17 @@ use Rattle.nc_session.proofs.serving.answer_next.Goals as goal
 pub returns-in-Some-clause-answers : goal.returns-in-Some-clause-answers
 returns-in-Some-clause-answers c =
     let pending = c.args.pending.now.items in
-    let after = c.answer.new.out.items in
-    let is = c.in-Some.ensures.1 in record {
+    let next = c.answer.new.self in
+    let after = c.answer.new.out.items ++ next.lent in
+    let is = c.in-Some.ensures.first.1 in record {
       front = is.front;
       parts = is.parts;
       first = is.first;
-      emptied = c.in-Some.ensures.0;
+      emptied = c.in-Some.ensures.first.0;
       answers = λ from taken old new held p.
-          subst (λ (l : List ℕ). AnswersLine from (whole_lines_of taken) l c.answer.new.self pending after old new c.in_ok-how.how)
-          (first_is taken is.front c.args.cutter.now c.in-Some.line.now c.in-Some.ensures.0 held is.line_is)
-          (line_answered from (whole_lines_of taken) c.args.engine.now pending old new p c.in-Some.line.now c.answer.new.self after c.in_ok-how.ensures.turns c.in_ok-how.how c.in_ok-how.ensures.flow);
+          subst (λ (l : List ℕ). AnswersLine from (whole_lines_of taken) l next.progress pending after old new c.in_ok-how.how)
+          (first_is taken is.front c.args.cutter.now c.in-Some.line.now c.in-Some.ensures.first.0 held is.line_is)
+          (line_answered from (whole_lines_of taken) c.args.engine.now.progress pending old new p c.in-Some.line.now next.progress after c.in_ok-how.ensures.turns c.in_ok-how.how c.in_ok-how.ensures.flow);
     }
 
 -- no line is cut

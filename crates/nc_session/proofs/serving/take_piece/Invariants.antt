@@ -13,8 +13,8 @@ invariant-lines g l = record {
   parts : l.piece ≡ front ++ l.rest;
   held : (taken : List ℕ) → l.fn.cutter ≡ held_of taken → l.cutter ≡ held_of (taken ++ front);
   served : (from : Progress) (taken : List ℕ) (start : Option (List ℕ)) → l.fn.cutter ≡ held_of taken
-      → AreServed from (whole_lines_of taken) l.fn.engine start (g.K.Sink.written l.fn.output)
-      → ArePending from (whole_lines_of (taken ++ front)) l.engine l.pending.items start (g.K.Sink.written l.output);
+      → AreServed from (whole_lines_of taken) l.fn.engine.progress start (g.K.Sink.written l.fn.output)
+      → ArePending from (whole_lines_of (taken ++ front)) l.engine.progress l.pending.items start (g.K.Sink.written l.output);
 }
 
 abbrev pub decreases-lines : goal.decreases-lines

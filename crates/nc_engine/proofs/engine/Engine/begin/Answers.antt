@@ -17,5 +17,5 @@ invariant_of-result c = λ x is.
     subst (λ (w : Work). IsWork w × AreFilesOf (state_of w.rules).routers files) (same_Some work x is)
     (c.in_ok-work.ensures.work, subst (λ (s : StateView). AreFilesOf s.routers files) (sym state) c.requires.fit)
 
-pub returns : goal.returns
-returns c = ap Some (c.in_ok-work.ensures.progress (map file_view c.args.files.items))
+pub returns-clause-progress : goal.returns-clause-progress
+returns-clause-progress c = ap Some (c.in_ok-work.ensures.progress (map file_view c.args.files.items))

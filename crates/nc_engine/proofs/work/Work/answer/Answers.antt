@@ -64,14 +64,14 @@ returns-in_ok-lcov-in-Ok-Some-Lcov-clause-answered c =
     let draws = draws-none (state_of c.args.self.now.rules) [] c.args.self.now.store in
     search rules
 
-pub returns-in_ok-test-in-Ok-Some-Test-clause-answered : goal.returns-in_ok-test-in-Ok-Some-Test-clause-answered
-returns-in_ok-test-in-Ok-Some-Test-clause-answered c =
-    let draws = draws-so c.args.self.now c.test.new.self [] c.in_ok-test-in-Ok-Some-Test.ensures.tests.draws in
+pub returns-in_ok-lends-in-Ok-Some-Test-clause-answered : goal.returns-in_ok-lends-in-Ok-Some-Test-clause-answered
+returns-in_ok-lends-in-Ok-Some-Test-clause-answered c =
+    let draws = draws-so c.args.self.now c.test.new.self [] c.in_ok-lends-in-Ok-Some-Test.ensures.tests.draws in
     search rules
 
-pub returns-in_ok-forget-in-Ok-Some-Forget-clause-answered : goal.returns-in_ok-forget-in-Ok-Some-Forget-clause-answered
-returns-in_ok-forget-in-Ok-Some-Forget-clause-answered c =
-    let draws = draws-so c.args.self.now c.forget.new.self [] c.in_ok-forget-in-Ok-Some-Forget.ensures.forgotten.draws in
+pub returns-in_ok-lends-in-Ok-Some-Forget-clause-answered : goal.returns-in_ok-lends-in-Ok-Some-Forget-clause-answered
+returns-in_ok-lends-in-Ok-Some-Forget-clause-answered c =
+    let draws = draws-so c.args.self.now c.forget.new.self [] c.in_ok-lends-in-Ok-Some-Forget.ensures.forgotten.draws in
     search rules
 
 pub returns-in_ok-question-in-Ok-Some-Implies-clause-answered : goal.returns-in_ok-question-in-Ok-Some-Implies-clause-answered

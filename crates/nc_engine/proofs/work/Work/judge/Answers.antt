@@ -18,7 +18,7 @@ returns-clause-told c =
     let text = text_of c.args.test.now in
     let before : State = kept_of old in
     let after : State = kept_of new in
-    let counted = c.in_ok-count.ensures.counts in
+    let counted = c.in_ok-lends.ensures.counts in
     let facts = c.args.facts in
     let some : 0 < length facts.items = omega (arith, facts.ok.0, eqb-false facts.len 0 (sym c.if-is_empty.ensures)) in
     record {

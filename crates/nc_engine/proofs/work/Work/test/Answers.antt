@@ -30,7 +30,7 @@ pub returns-clause-tests : goal.returns-clause-tests
 returns-clause-tests c =
     let old = c.args.self.now in
     let s = state_of old.rules in
-    let at = c.in_ok-test_at.ensures.tested in
+    let at = c.in_ok-lends.ensures.tested in
     record {
       reply = at.reply;
       answer = named s old.listed c.in-Some.router.0 c.args.test.now (kept_of old) (kept_of c.test_at.new.self) at.reply (ap (router_named s.routers) (sym c.router_of-name.ensures) ∙ sym c.router.ensures ∙ ap (option_map (λ r. r.0)) c.in-Some.is) at.answer;

@@ -4,7 +4,7 @@ use Rattle.nc_rules.specs.Seen.{state_of, asked_of}
 use Rattle.nc_engine.specs.Session.{State, has_line}
 use Rattle.nc_report.specs.Texts.{line_of}
 use Rattle.nc_engine.specs.Engine.{Infers}
-use Rattle.nc_engine.specs.Work.{tests_of, kept_of}
+use Rattle.nc_engine.specs.Work.{tests_of, kept_of, with_lent}
 use Rattle.nc_engine.proofs.Asking.{told_before}
 use Rattle.nc_engine.proofs.Answering.{lined, unlined, none-asked, none-lined}
 use Rattle.nc_engine.proofs.work.Work.test_at.Goals as goal
@@ -32,7 +32,7 @@ returns-clause-tested c =
     let old = c.args.self.now in
     let s = state_of old.rules in
     let kept = c.facts.ensures in
-    let told = told_before old c.facts.new.self c.judge.new.self c.args.test.now c.args.out.now.items c.judge.new.out.items kept.network kept.kept kept.asked kept.store c.in_ok-judge.ensures.told in
+    let told = told_before old c.facts.new.self c.judge.new.self c.args.test.now c.args.out.now.items (with_lent c.in_ok-lends.lends c.judge.new.self.shown c.judge.new.out.items) kept.network kept.kept kept.asked kept.store c.in_ok-lends.ensures.told in
     record {
       reply = told.reply;
       answer = lined s old.listed c.args.router.0 c.args.test.now (kept_of old) (kept_of c.judge.new.self) told.reply (sym c.has_line.ensures ∙ c.if-not-has_line.false) told.answer;
