@@ -1,6 +1,6 @@
 -- Access lists and flows: which addresses an entry's wildcard covers, what lists say of packets, and a packet that a list stops on one of
 -- two ways.
-use Rattle.std.specs.Prelude.{◌≡◌, ℕ, Bool, true, false, List, [], ◌∷◌, map, Some, None, codes, refl}
+use Rattle.std.specs.Prelude.{◌≡◌, ℕ, Bool, true, false, List, [], ◌∷◌, map, None, codes, refl}
 use Rattle.nc_types.specs.Config.{ConfigView}
 use Rattle.nc_types.specs.declared.filters.AddrMatch.{AddrMatch}
 use Rattle.nc_types.specs.declared.filters.FilterEntry.{FilterEntry}

@@ -10,6 +10,7 @@ pub mod Choice
 pub mod Rounds
 pub mod LocRibs
 pub mod RibEntryView
+pub mod LearntView
 pub mod HeldEntries
 pub mod Main
 pub mod Forwarding

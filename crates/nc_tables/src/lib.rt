@@ -5,7 +5,8 @@
 //! address, which session a neighbor statement has, what is chosen of a prefix, and whether a longer prefix inside
 //! another is chosen. `LocRibs` has what routers choose while a network settles, by the numbers of prefixes, and gives the
 //! table of it. What is chosen stands in entries (`RibEntry`), which share what their candidates have in common where
-//! `RecentAttributes` has seen it lately: it remembers 1,024 blocks at most. `Stable` holds a network with all its
+//! `RecentAttributes` has seen it lately: it remembers 1,024 blocks at most. One of a candidate that isn't in memory
+//! (`Learnt`) is made without making the candidate where its block is remembered. `Stable` holds a network with all its
 //! tables. It stands on `nc_types`. Its contract promises that a table has exactly the rows that it was made of, that each look-up answers as its definition does, and that the tables of a `Stable` are those of its
 //! network. What the rows of a network are is said by the definitions in `specs/`, which the crates above are
 //! proved against: `Base` and `Reach` for base tables and where they lead, `Sessions`, `Policy`, `Choice` and
@@ -20,6 +21,7 @@ mod bgp;
 mod filters;
 mod inside;
 mod laws;
+mod learnt;
 mod longest;
 mod mains;
 mod path;
@@ -37,6 +39,7 @@ pub use bgp::{BgpFrom, BgpRow, Chosen, MainFrom, MainRow, Route, SessionRow};
 pub use filters::Passing;
 pub use inside::is_longer_in;
 pub use laws::{distances_are_numbers, levels_are_lawful, settling_is_lawful};
+pub use learnt::Learnt;
 pub use longest::{HasPrefix, Rows, rows_on};
 pub use mains::MainTables;
 pub use path::{Numbers, Path};

@@ -5,6 +5,7 @@ ghost use Rattle.std.specs.List.{list_any};
 ghost use Rattle.nc_types.specs.declared.TheConstants.{PATH_LIMIT};
 ghost use Rattle.nc_tables.specs.Pieces.{own_numbers, piece_numbers, shared_numbers, IsPiece, ArePieces};
 ghost use Rattle.nc_tables.specs.SystemBits.{AreBitsOf};
+ghost use Rattle.nc_tables.specs.LearntView.{path_after};
 
 use crate::system_bits::SystemBits;
 use std::alloc::{AllocError, Global};
@@ -12,9 +13,9 @@ use std::marker::Model;
 use std::rc::Rc;
 
 // How many numbers of a path stand together. The paths of most routes are no longer and take no
-// memory of their own, and a path has 40 bytes. Going over a longer one meets other memory once for
+// memory of their own, and a path has 48 bytes. Going over a longer one meets other memory once for
 // so many numbers: more would make that faster, and each route larger.
-const PIECE_LEN: usize = 5;
+const PIECE_LEN: usize = 8;
 
 // Numbers in the middle of a path or at its end, and those behind them, which other paths may have
 // too.
@@ -107,11 +108,21 @@ impl Path {
 
     /// A number that equal paths have in common, and others mostly don't.
     pub(crate) fn digest(&self) -> u64 {
-        let mut digest = u64::from(self.count);
-        'numbers: for number in own(&self.numbers, self.start) {
-            digest = digest.wrapping_mul(31).wrapping_add(u64::from(*number));
+        let own = mixed(u64::from(self.count), own(&self.numbers, self.start));
+        own ^ shared_bits(&self.rest).digest()
+    }
+
+    /// That of the path with a number before it, where there is one.
+    pub(crate) fn digest_after(&self, number: Option<u32>) -> u64 {
+        let Some(number) = number else {
+            return self.digest();
+        };
+        let first = mixed(u64::from(self.count) + 1, &[number]);
+        let bits = shared_bits(&self.rest);
+        if self.start > 0 {
+            return mixed(first, own(&self.numbers, self.start)) ^ bits.digest();
         }
-        digest ^ shared_bits(&self.rest).digest()
+        first ^ bits.with_all(&self.numbers).digest()
     }
 
     /// Whether a number is in it.
@@ -135,6 +146,33 @@ impl Path {
         are_same(&self.rest, &other.rest)
     }
 
+    // Whether it is another path with a number before it. Of the numbers that both share only as many are
+    // compared as stand behind those of their own.
+    fn is_longer_by(&self, number: u32, other: &Path) -> bool
+        ensures { result ≡ true → self.now ≡ number ∷ other.now }
+    {
+        let Some((first, behind)) = own(&self.numbers, self.start).split_first() else {
+            return false;
+        };
+        if *first != number {
+            return false;
+        }
+        if other.start > 0 {
+            return behind == own(&other.numbers, other.start) && are_same(&self.rest, &other.rest);
+        }
+        behind.is_empty() && begin_with(&self.rest, &other.numbers, &other.rest)
+    }
+
+    /// Whether it is another path, with a number before it where there is one.
+    pub(crate) fn is_after(&self, number: Option<u32>, other: &Path) -> bool
+        ensures { result ≡ true → self.now ≡ path_after number other.now }
+    {
+        match number {
+            None => self.is_same(other),
+            Some(number) => self.is_longer_by(number, other),
+        }
+    }
+
     /// The same path. It takes no memory, for it shares the numbers.
     ///
     /// # Errors
@@ -153,6 +191,27 @@ impl Path {
             count: self.count,
             rest,
         })
+    }
+
+    /// The same path with a number before it, where there is one.
+    ///
+    /// # Errors
+    ///
+    /// Memory that runs out.
+    pub(crate) fn shared_after(
+        &self,
+        alloc: Global,
+        number: Option<u32>,
+    ) -> Result<Path, AllocError>
+        requires { length (path_after number self.now) ≤ PATH_LIMIT }
+        ensures { IfOk result (λ path. path ≡ path_after number self.now) }
+    {
+        let path = self.share()?;
+        let Some(number) = number else {
+            return Ok(path);
+        };
+        let path = path.behind(alloc, number)?;
+        Ok(path)
     }
 
     /// The path with numbers before it, the first of them nearest.
@@ -210,6 +269,31 @@ fn own(numbers: &[u32; PIECE_LEN], start: u16) -> &[u32]
     ensures { result.now ≡ drop start numbers.now }
 {
     &numbers[start as usize..]
+}
+
+// A number that goes on with others.
+fn mixed(digest: u64, numbers: &[u32]) -> u64 {
+    let mut digest = digest;
+    'numbers: for number in numbers {
+        digest = digest.wrapping_mul(31).wrapping_add(u64::from(*number));
+    }
+    digest
+}
+
+// Whether the first of some pieces has these numbers, and what is behind it is what a path shares with others.
+fn begin_with(
+    pieces: &Option<Rc<Piece>>,
+    numbers: &[u32; PIECE_LEN],
+    rest: &Option<Rc<Piece>>,
+) -> bool
+    requires pieces { ArePieces pieces.now }
+    requires rest { ArePieces rest.now }
+    ensures { result ≡ true → shared_numbers pieces.now ≡ numbers.now ++ shared_numbers rest.now }
+{
+    let Some(piece) = pieces else {
+        return false;
+    };
+    piece.numbers == *numbers && are_same(&piece.rest, rest)
 }
 
 // The bits of the numbers that a path shares with others.

@@ -1,9 +1,13 @@
 //! Entries of a Loc-RIB, which share what their candidates have in common.
 
-ghost use Rattle.std.specs.Prelude.{◌≡◌, ◌↔◌, IfOk, IfSome, IsTrue};
+ghost use Rattle.std.specs.Prelude.{◌≡◌, ◌↔◌, ◌≤◌, [], true, length, IfOk, IfSome, IsTrue};
+ghost use Rattle.std.specs.Option.{option_map_or};
+ghost use Rattle.nc_types.specs.declared.TheConstants.{PATH_LIMIT};
+ghost use Rattle.nc_tables.specs.LearntView.{learnt_view, path_after};
 ghost use Rattle.nc_tables.specs.RibEntryView.{entry_of};
 
 use crate::bgp::{BgpFrom, Chosen, Route};
+use crate::learnt::Learnt;
 use crate::path::Path;
 use nc_types::{Addr, Communities, OriginCode, Prefix};
 use std::alloc::{AllocError, Global};
@@ -86,16 +90,89 @@ impl Attributes {
             && self.communities.numbers() == other.communities.numbers()
     }
 
-    // Where they are remembered: by the path and by where they come from.
+    // Where they are remembered.
     fn place(&self) -> usize {
-        let from = match self.source.from {
-            BgpFrom::Origin(place) => place,
-            BgpFrom::Aggregate(place) => place,
-            BgpFrom::Entry(place) => place,
-        };
-        let mixed = (self.path.digest() ^ u64::from(from)).wrapping_mul(0x9e37_79b9_7f4a_7c15);
-        (mixed >> 54) as usize
+        place_of(self.path.digest(), self.source.from)
     }
+
+    // Those of a candidate that isn't in memory.
+    fn made(alloc: Global, learnt: &Learnt<'_>) -> Result<Attributes, AllocError>
+        requires { length (path_after learnt.now.system learnt.now.path.now) ≤ PATH_LIMIT }
+        ensures { IfOk result (λ made. entry_of learnt.now.prefix made ≡ learnt_view learnt.now) }
+    {
+        Ok(Attributes {
+            path: learnt.path.shared_after(alloc, learnt.system)?,
+            communities: copied(alloc, learnt.communities)?,
+            next_hop: learnt.next_hop,
+            preference: learnt.preference,
+            metric: learnt.metric,
+            source: source_of(learnt),
+        })
+    }
+
+    // Whether they are those of a candidate that isn't in memory.
+    fn are_of(&self, learnt: &Learnt<'_>) -> bool
+        ensures { result ≡ true → entry_of learnt.now.prefix self.now ≡ learnt_view learnt.now }
+    {
+        self.source == source_of(learnt)
+            && self.next_hop == learnt.next_hop
+            && self.preference == learnt.preference
+            && self.metric == learnt.metric
+            && self.path.is_after(learnt.system, learnt.path)
+            && self.communities.numbers() == numbers_of(learnt.communities)
+    }
+}
+
+// Where attributes are remembered: by the path and by where they come from.
+fn place_of(digest: u64, from: BgpFrom) -> usize {
+    let from = match from {
+        BgpFrom::Origin(place) => place,
+        BgpFrom::Aggregate(place) => place,
+        BgpFrom::Entry(place) => place,
+    };
+    let mixed = (digest ^ u64::from(from)).wrapping_mul(0x9e37_79b9_7f4a_7c15);
+    (mixed >> 54) as usize
+}
+
+// Where a candidate that isn't in memory comes from.
+fn source_of(learnt: &Learnt<'_>) -> Source
+    ensures { result ≡ record {
+      from = learnt.now.from;
+      sender_id = learnt.now.sender_id;
+      sender = learnt.now.sender;
+      origin = learnt.now.origin;
+      internal = learnt.now.internal;
+    } }
+{
+    Source {
+        from: learnt.from,
+        sender_id: learnt.sender_id,
+        sender: learnt.sender,
+        origin: learnt.origin,
+        internal: learnt.internal,
+    }
+}
+
+// The numbers of communities, if there are any.
+fn numbers_of<'a>(communities: Option<&'a Communities>) -> &'a [u32]
+    ensures { result.now ≡ option_map_or (λ c. c.now) communities.entry [] }
+{
+    match communities {
+        Some(communities) => communities.numbers(),
+        None => &[],
+    }
+}
+
+// The same communities in memory of their own.
+fn copied(alloc: Global, communities: Option<&Communities>) -> Result<Communities, AllocError>
+    ensures { IfOk result (λ copy. copy ≡ option_map_or (λ c. c.now) communities.entry []) }
+{
+    let Some(communities) = communities else {
+        return Ok(Communities::new(alloc));
+    };
+    let numbers = Vec::from_slice(alloc, communities.numbers())?;
+    let copy = Communities::of(alloc, numbers)?;
+    Ok(copy)
 }
 
 /// An entry of a Loc-RIB (RFC 4271, section 3.2): a candidate for a prefix that was chosen. It has 16
@@ -116,19 +193,6 @@ impl Model for RibEntry {
 }
 
 impl RibEntry {
-    /// The entry of a candidate, which shares nothing.
-    ///
-    /// # Errors
-    ///
-    /// Memory that runs out.
-    pub fn new(alloc: Global, chosen: Chosen) -> Result<RibEntry, AllocError>
-        ensures { IfOk result (λ entry. entry ≡ chosen) }
-    {
-        let (prefix, made) = Attributes::of(chosen);
-        let attributes = Rc::new(alloc, made)?;
-        Ok(RibEntry { prefix, attributes })
-    }
-
     /// The prefix.
     pub fn prefix(&self) -> Prefix
         ensures { result ≡ self.now.route.prefix }
@@ -246,6 +310,19 @@ impl RecentAttributes {
         None
     }
 
+    // The block that is remembered of the attributes of a candidate that isn't in memory.
+    fn block_of(&self, learnt: &Learnt<'_>) -> Option<&Rc<Attributes>>
+        ensures { IfSome result
+            (λ known. entry_of learnt.now.prefix known.now.value ≡ learnt_view learnt.now) }
+    {
+        let place = place_of(learnt.path.digest_after(learnt.system), learnt.from);
+        let known = self.blocks.get(place)?.as_ref()?;
+        if known.are_of(learnt) {
+            return Some(known);
+        }
+        None
+    }
+
     // Remembers a block in place of the one that stands at its place.
     fn remember(&mut self, attributes: &Rc<Attributes>) -> Result<(), AllocError> {
         if let Some(block) = self.blocks.get_mut(attributes.place()) {
@@ -268,6 +345,27 @@ impl RecentAttributes {
             return Ok(RibEntry { prefix, attributes });
         }
         let attributes = Rc::new(alloc, made)?;
+        self.remember(&attributes)?;
+        Ok(RibEntry { prefix, attributes })
+    }
+
+    /// The entry of a candidate that isn't in memory, whose path has no more than
+    /// [`nc_types::PATH_LIMIT`] numbers: as [`RecentAttributes::entry`] makes it, but where its block is
+    /// shared nothing is made of it.
+    ///
+    /// # Errors
+    ///
+    /// Memory that runs out.
+    pub fn learnt(&mut self, alloc: Global, learnt: &Learnt<'_>) -> Result<RibEntry, AllocError>
+        requires { length (path_after learnt.now.system learnt.now.path.now) ≤ PATH_LIMIT }
+        ensures { IfOk result (λ entry. entry ≡ learnt_view learnt.now) }
+    {
+        let prefix = learnt.prefix;
+        if let Some(known) = self.block_of(learnt) {
+            let attributes = known.clone()?;
+            return Ok(RibEntry { prefix, attributes });
+        }
+        let attributes = Rc::new(alloc, Attributes::made(alloc, learnt)?)?;
         self.remember(&attributes)?;
         Ok(RibEntry { prefix, attributes })
     }

@@ -4,7 +4,7 @@ use Rattle.nc_types.specs.Cidr.{Cidr, IsCidr}
 use Rattle.std.proofs.lemmas.List.{at_drop_more, drop_all}
 use Rattle.std.proofs.lemmas.Bool.{cases_lt}
 use Rattle.std.proofs.lemmas.Grind.{common_steps}
-use Rattle.nc_tables.specs.LocRibs.{row_before, rows_by}
+use Rattle.nc_tables.specs.LocRibs.{rows_by}
 use Rattle.nc_tables.specs.Rounds.{BgpRowView, bgp_row_view, AreBgpRows}
 use Rattle.nc_tables.proofs.Choices.{one_more, rows_valid}
 use Rattle.nc_tables.proofs.ribs.rows_of.Goals as goal

@@ -1,6 +1,4 @@
-use Rattle.std.proofs.Common.{◌≡◌, List, Vec, Global, [], All, length, replicate, get_or, ap, ◌∙◌, arith}
-use Rattle.std.proofs.lemmas.List.{length-map}
-use Rattle.std.proofs.lemmas.List.Elements.{All-map}
+use Rattle.std.proofs.Common.{◌≡◌, List, Vec, Global, [], length, replicate, get_or, ap, ◌∙◌, arith}
 use Rattle.nc_tables.specs.declared.bgp.Chosen.{Chosen}
 use Rattle.nc_tables.specs.LocRibs.{rows_by}
 use Rattle.nc_tables.specs.Rounds.{BgpRowView}

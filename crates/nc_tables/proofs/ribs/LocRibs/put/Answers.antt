@@ -3,7 +3,7 @@ use Rattle.std.proofs.lemmas.List.{length-map}
 use Rattle.nc_tables.specs.declared.bgp.Chosen.{Chosen}
 use Rattle.nc_tables.specs.LocRibs.{rows_by, AreChoices, LocRibsView}
 use Rattle.nc_tables.specs.Rounds.{BgpRowView, chosen_at, chosen_in}
-use Rattle.std.proofs.Common.{◌==◌, ◌&&◌, cond, set}
+use Rattle.std.proofs.Common.{◌==◌, ◌&&◌, cond}
 use Rattle.std.proofs.lemmas.List.{get_or-map}
 use Rattle.std.proofs.lemmas.List.Elements.{All-set}
 use Rattle.nc_tables.specs.Base.{same_prefix}
