@@ -3,8 +3,10 @@ pub mod Deciding
 pub mod Few
 pub mod Verdicts
 pub mod Spots
+pub mod Numbering
 pub mod Naming
 pub mod Tables
+pub mod KeyOrder
 pub mod SpotOrder
 pub mod Keeping
 pub mod Asking
@@ -14,3 +16,4 @@ pub mod Tabling
 pub mod Ranging
 pub mod Beating
 pub mod AskedClauses
+pub mod Raising

@@ -82,22 +82,20 @@ all_lengths same low high len n place old within = ap (option_or old) (elim (cas
 -- ---- entries added one after the other
 
 -- the first that is found so far, or else among those that are left
-pub one_entry_more : (q : Cidr) (n : ℕ) (entries : List ListEntry) (place : ℕ) (entry : ListEntry) (found : Option ℕ) → entry ≡ get_or entries place entry → place < length entries
-    → option_or (option_or found (cond (is_at q n entry) (Some place) None)) (position_from (is_at q n) (place + 1) (drop (place + 1) entries))
-    ≡ option_or found (position_from (is_at q n) place (drop place entries))
-one_entry_more q n entries place entry found read inside =
-    let later = position_from (is_at q n) (place + 1) (drop (place + 1) entries) in
-    or_assoc found (cond (is_at q n entry) (Some place) None) later
-    ∙ ap (option_or found) (on (is_at q n entry) later ∙ sym (ap (position_from (is_at q n) place) (drop_read entries place entry read inside)))
+pub one_more_from : {X : Type 0} (f : X → Bool) (xs : List X) (place : ℕ) (x : X) (found : Option ℕ) → x ≡ get_or xs place x → place < length xs
+    → option_or (option_or found (cond (f x) (Some place) None)) (position_from f (place + 1) (drop (place + 1) xs)) ≡ option_or found (position_from f place (drop place xs))
+one_more_from f xs place x found read inside =
+    let later = position_from f (place + 1) (drop (place + 1) xs) in
+    or_assoc found (cond (f x) (Some place) None) later
+    ∙ ap (option_or found) (on (f x) later ∙ sym (ap (position_from f place) (drop_read xs place x read inside)))
   where
     on : (b : Bool) (later : Option ℕ) → option_or (cond b (Some place) None) later ≡ cond b (Some place) later
     on true later = refl
     on false later = refl
 
 -- none is left
-pub all_entries : (q : Cidr) (n : ℕ) (entries : List ListEntry) (place : ℕ) (found : Option ℕ) → length entries ≤ place
-    → option_or found (position_from (is_at q n) place (drop place entries)) ≡ found
-all_entries q n entries place found most = ap (λ (es : List ListEntry). option_or found (position_from (is_at q n) place es)) (drop_all place entries most) ∙ or_none found
+pub all_from : {X : Type 0} (f : X → Bool) (xs : List X) (place : ℕ) (found : Option ℕ) → length xs ≤ place → option_or found (position_from f place (drop place xs)) ≡ found
+all_from {X} f xs place found most = ap (λ (ys : List X). option_or found (position_from f place ys)) (drop_all place xs most) ∙ or_none found
 
 -- ---- keys
 

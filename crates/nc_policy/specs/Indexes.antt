@@ -12,6 +12,7 @@ use Rattle.nc_policy.specs.Statements.{aggregates_in, networks_in}
 use Rattle.nc_policy.specs.Kept.{AreAsked, AreKept, AskedTable}
 use Rattle.nc_policy.specs.Spans.{AreSpans}
 use Rattle.nc_policy.specs.Guards.{AreGuards}
+use Rattle.nc_policy.specs.Preferences.{AreHighest}
 use Rattle.nc_policy.specs.declared.guards.Guard.{Guard}
 use Rattle.nc_policy.specs.declared.spans.Span.{Span}
 use Rattle.nc_policy.specs.declared.kept.Asking.{Asking}
@@ -97,6 +98,7 @@ pub record RouterTables : Type 0 where
   pub aggregates : List (Cidr × ℕ)
   pub spans : List Span
   pub guards : List Guard
+  pub highest : List ℕ
   pub kept : List (Asking × Option Decided)
   pub asked : List (Option AskedTable)
 
@@ -114,6 +116,7 @@ pub record AreTablesOf (c : ConfigView) (t : RouterTables) : Type 0 where
   pub aggregates : IsPrefixTable (map (λ a. a.prefix) (aggregates_in c)) t.aggregates
   pub spans : AreSpans c t.spans
   pub guards : AreGuards c t.guards
+  pub highest : AreHighest c t.highest
   pub kept : AreKept c t.kept
   pub asked : AreAsked c t.asked
 

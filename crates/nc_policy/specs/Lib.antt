@@ -10,3 +10,4 @@ pub mod Guards
 pub mod Walks
 pub mod Best
 pub mod Decisions
+pub mod Preferences

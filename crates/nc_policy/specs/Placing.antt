@@ -1,10 +1,12 @@
--- The places of entries by their prefix and a length.
+-- The places of entries by their prefix and a length, and of prefixes.
 use Rattle.std.specs.Prelude.{ℕ, Bool, ◌&&◌, nat_eq, List, map, Option}
 use Rattle.std.specs.Map.{lookup}
 use Rattle.std.specs.Ordering.{nat_cmp, ordering_then}
 use Rattle.std.specs.declared.cmp.Ordering.{Ordering}
 use Rattle.nc_policy.specs.declared.spot_table.Spot.{Spot}
 use Rattle.nc_policy.specs.declared.spot_table.Placed.{Placed}
+use Rattle.nc_types.specs.Cidr.{Cidr, same_prefix}
+use Rattle.nc_policy.specs.declared.prefix_places.PlacedPrefix.{PlacedPrefix}
 
 -- two keys are the same
 abbrev pub same_spot : Spot → Spot → Bool
@@ -17,3 +19,7 @@ spot_cmp s t = ordering_then (nat_cmp s.addr.0 t.addr.0) (ordering_then (nat_cmp
 -- the place of the first item that has a key
 abbrev pub place_at : Spot → List Placed → Option ℕ
 place_at s items = lookup (same_spot s) (map (λ x. (x.spot, x.place)) items)
+
+-- the same of a prefix
+abbrev pub prefix_place_at : Cidr → List PlacedPrefix → Option ℕ
+prefix_place_at p items = lookup (same_prefix p) (map (λ x. (x.prefix, x.place)) items)

@@ -56,7 +56,7 @@ IsNameIndex names index = IsNameTable names (name_table index)
 -- ---- prefixes
 
 abbrev pub prefix_table : PrefixIndex → List (Cidr × ℕ)
-prefix_table x = x.first.entries
+prefix_table x = map (λ e. (e.prefix, e.place)) x.first
 
 abbrev pub IsPrefixIndex : List Cidr → PrefixIndex → Type 0
 IsPrefixIndex prefixes index = IsPrefixTable prefixes (prefix_table index)
@@ -85,6 +85,7 @@ router_tables x =
       aggregates = prefix_table x.aggregates;
       spans = x.spans.items;
       guards = x.guards.items;
+      highest = x.highest.items;
       kept = kept_table x.kept;
       asked = asked_table x.kept;
     }

@@ -20,8 +20,8 @@
 //! of them on a router, and each decision once where prefixes that follow one another share it. What
 //! isn't kept is found by going over the clauses. [`pass`] tells the same without making the route,
 //! without a set of communities and without memory: which clause let it pass, and by which entries;
-//! where a map stands can be found once for many routes. The tables find the network and the aggregate
-//! of a prefix too.
+//! where a map stands can be found once for many routes, and how high a preference its clauses set. The
+//! tables find the network and the aggregate of a prefix too, by a binary search.
 //!
 //! The crate stands on `nc_types` for the configuration of a router, on `nc_tables` for routes and
 //! for the definition of what a map makes of one, and on `nc_community` for sets of communities.
@@ -41,6 +41,8 @@ mod lists;
 mod names;
 mod passing;
 mod policies;
+mod preferences;
+mod prefix_places;
 mod route_map;
 mod router_index;
 mod setting;

@@ -12,6 +12,7 @@ ghost use Rattle.nc_tables.specs.declared.bgp.Route.{Route};
 ghost use Rattle.nc_policy.specs.Best.{IsRising};
 ghost use Rattle.nc_policy.specs.Indexes.{ArePolicies};
 ghost use Rattle.nc_policy.specs.Seen.{IsIndexed, IsPrefixIndex};
+ghost use Rattle.nc_policy.specs.Preferences.{highest_preference};
 ghost use Rattle.nc_policy.specs.Passing.{communities_by, map_place, passing_view, prepended_by};
 ghost use Rattle.nc_policy.specs.Statements.{aggregates_in, networks_in};
 ghost use Rattle.nc_policy.specs.Views.{verdict_view};
@@ -35,10 +36,11 @@ pub struct MapPlace(pub u32);
 
 /// The tables of the maps and lists of a network's routers, and of their networks and aggregates.
 /// They are made once, and by them the clauses of a map are found one behind the other, a list by
-/// its name and a network or an aggregate by its prefix at one look-up, and what a longer prefix list
-/// says of a prefix at one binary search for each length that prefixes of its entries have. What maps
-/// of neighbor statements decide on the network's prefixes is kept, for routes whose communities meet
-/// no clause of the map that asks for some, and by a community the clauses that ask for it are found.
+/// its name at one look-up, a network or an aggregate by its prefix at one binary search, and what a
+/// longer prefix list says of a prefix at one binary search for each length that prefixes of its
+/// entries have. What maps of neighbor statements decide on the network's prefixes is kept, for routes
+/// whose communities meet no clause of the map that asks for some, and by a community the clauses that
+/// ask for it are found.
 #[derive(Drop)]
 pub struct Policies {
     routers: Vec<RouterIndex>,
@@ -175,6 +177,31 @@ impl Policies {
         let config = &network.routers()[number];
         let first = first_clause(config, self.tables(number), reference.name.bytes())?;
         Some(MapPlace(place_number(config, first)))
+    }
+
+    /// The highest local preference that clauses of the map of a neighbor statement of a router set,
+    /// where it is known where the map stands, as [`Policies::map_place`] says it; 0 where none sets one,
+    /// and where there is no map. A route whose preference isn't above this leaves the map with none
+    /// above it. The tables are those of the network, which has the router. Takes no memory.
+    pub fn highest_preference(
+        &self,
+        network: &Network,
+        router: RouterId,
+        map: &Option<Reference>,
+        place: Option<MapPlace>,
+    ) -> u32
+        requires policies { ArePolicies network.now self.now }
+        requires router { router.0 < length network.now }
+        requires place { (c : ConfigView) → slice_get network.now router.0 ≡ Some c
+            → option_map (λ p. p.0) place ≡ map_place c map.now }
+        ensures { (c : ConfigView) → slice_get network.now router.0 ≡ Some c
+            → result ≡ highest_preference c map.now }
+    {
+        let Some(first) = first_of(place) else {
+            return 0;
+        };
+        let tables = &self.routers[router.0 as usize];
+        tables.highest_at(first)
     }
 
     /// What the map of a neighbor statement of a router, if it has one, makes of a route with this

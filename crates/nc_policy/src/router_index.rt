@@ -1,6 +1,6 @@
 //! The tables of one router: of its lists and maps, and of its networks and aggregates.
 
-ghost use Rattle.std.specs.Prelude.{◌<◌, ◌^◌, length, map, All, IfOk, IfSome};
+ghost use Rattle.std.specs.Prelude.{◌≡◌, ◌<◌, ◌^◌, length, map, slice_index_or, All, IfOk, IfSome};
 ghost use Rattle.std.specs.Option.{option_map};
 ghost use Rattle.nc_types.specs.Config.{config_view, list_view};
 ghost use Rattle.nc_types.specs.WellFormed.{IsWellFormed};
@@ -12,6 +12,7 @@ use crate::guards::{Guard, clause_guards};
 use crate::index::ListIndex;
 use crate::kept::{Kept, kept_of};
 use crate::names::NameIndex;
+use crate::preferences::highest_preferences;
 use crate::spans::{Span, clause_spans};
 use crate::statements::{PrefixIndex, aggregates_in, networks_in};
 use nc_types::{Prefix, PrefixList, Reference, RouterConfig};
@@ -30,6 +31,8 @@ pub(crate) struct RouterIndex {
     pub(crate) lists: Vec<Option<ListIndex>>,
     pub(crate) spans: Vec<Span>,
     pub(crate) guards: Vec<Guard>,
+    /// Of each map, by the place of its first clause, the highest preference that it sets.
+    pub(crate) highest: Vec<u32>,
     pub(crate) kept: Kept,
 }
 
@@ -114,6 +117,7 @@ impl RouterIndex {
         let lists = list_indexes(alloc, &config.lists, &asked)?;
         let spans = clause_spans(alloc, config, &names)?;
         let guards = clause_guards(alloc, config, &community_names)?;
+        let highest = highest_preferences(alloc, config, &maps)?;
         let networks = PrefixIndex::new(alloc, networks_in(config))?;
         let aggregates = PrefixIndex::new(alloc, aggregates_in(config))?;
         let kept = Kept::with_room(alloc, numbers, 0)?;
@@ -126,6 +130,7 @@ impl RouterIndex {
             lists,
             spans,
             guards,
+            highest,
             kept,
         })
     }
@@ -146,5 +151,15 @@ impl RouterIndex {
         let mut tables = RouterIndex::bare(alloc, config, numbers.clone()?)?;
         tables.kept = kept_of(alloc, config, &tables, prefixes, numbers)?;
         Ok(tables)
+    }
+
+    /// The highest preference that a map sets, whose first clause stands at this place.
+    pub(crate) fn highest_at(&self, first: usize) -> u32
+        ensures { result ≡ slice_index_or self.now.highest.items first 0 }
+    {
+        match self.highest.get(first) {
+            Some(highest) => *highest,
+            None => 0,
+        }
     }
 }

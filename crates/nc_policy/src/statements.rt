@@ -8,9 +8,9 @@ ghost use Rattle.nc_policy.specs.Statements.{aggregates_in, networks_in};
 ghost use Rattle.nc_policy.specs.Indexes.{placed_in};
 ghost use Rattle.nc_policy.specs.Seen.{prefix_table, IsPrefixIndex};
 
+use crate::prefix_places::{PlacedPrefix, PrefixPlaces};
 use nc_types::{AggregateStatement, NetworkStatement, Prefix, RouterConfig};
 use std::alloc::{AllocError, Global};
-use std::collections::HashMap;
 
 /// What has a prefix.
 pub(crate) trait Prefixed {
@@ -56,37 +56,44 @@ pub(crate) fn aggregates_in(config: &RouterConfig) -> &[AggregateStatement]
     }
 }
 
+// The prefixes of these.
+fn prefixes_of<T: Prefixed>(alloc: Global, items: &[T]) -> Result<Vec<Prefix>, AllocError>
+    ensures { IfOk result (λ prefixes. prefixes.items ≡ map T.prefix_of items.now) }
+{
+    let mut prefixes = Vec::with_capacity(alloc, items.len())?;
+    'items: for item in items {
+        prefixes.push(item.prefix())?;
+    }
+    Ok(prefixes)
+}
+
 /// A table of prefixes.
 #[derive(Drop)]
 pub(crate) struct PrefixIndex {
     /// The place of the first that has a prefix.
-    pub(crate) first: HashMap<Prefix, usize>,
+    pub(crate) first: PrefixPlaces,
 }
 
 impl PrefixIndex {
-    /// The table of the prefixes of these, made from the last to the first, so that the first stays.
+    /// The table of the prefixes of these.
     pub(crate) fn new<T: Prefixed>(alloc: Global, items: &[T]) -> Result<PrefixIndex, AllocError>
         ensures { IfOk result (IsPrefixIndex (map T.prefix_of items.now)) }
     {
-        let mut first = HashMap::new(alloc);
-        let mut place = items.len();
-        'items: while place > 0 {
-            place -= 1;
-            first.insert(items[place].prefix(), place)?;
-        }
-        Ok(PrefixIndex { first })
+        let prefixes = prefixes_of(alloc, items)?;
+        let index = PrefixIndex::numbered(alloc, &prefixes)?;
+        Ok(index)
     }
 
     /// The table of these prefixes.
     pub(crate) fn numbered(alloc: Global, prefixes: &[Prefix]) -> Result<PrefixIndex, AllocError>
         ensures { IfOk result (IsPrefixIndex prefixes.now) }
     {
-        let mut first = HashMap::new(alloc);
-        let mut place = prefixes.len();
-        'prefixes: while place > 0 {
-            place -= 1;
-            first.insert(prefixes[place], place)?;
+        let mut placed = Vec::with_capacity(alloc, prefixes.len())?;
+        'prefixes: for place in 0..prefixes.len() {
+            let prefix = prefixes[place];
+            placed.push(PlacedPrefix { prefix, place })?;
         }
+        let first = PrefixPlaces::of(placed)?;
         Ok(PrefixIndex { first })
     }
 
@@ -94,6 +101,6 @@ impl PrefixIndex {
     pub(crate) fn place(&self, prefix: Prefix) -> Option<usize>
         ensures { result ≡ placed_in (prefix_table self.now) prefix }
     {
-        self.first.get(&prefix).copied()
+        self.first.get(prefix)
     }
 }

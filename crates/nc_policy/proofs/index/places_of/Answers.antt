@@ -5,7 +5,7 @@ use Rattle.std.proofs.lemmas.Iterator.Adapters.{position_from-zero}
 use Rattle.nc_policy.specs.declared.spot_table.Placed.{Placed}
 use Rattle.nc_policy.specs.Indexes.{is_at}
 use Rattle.nc_policy.specs.Seen.{spot_in}
-use Rattle.nc_policy.proofs.Spots.{one_entry_more, all_entries}
+use Rattle.nc_policy.proofs.Spots.{one_more_from, all_from}
 use Rattle.nc_policy.proofs.index.places_of.Goals as goal
 
 pub entries-init : goal.entries-init
@@ -21,9 +21,9 @@ entries-preserved c = λ q n few.
     let found = spot_in c.entries.items.items q n in
     let later = position_from (is_at q n) (place + 1) (drop (place + 1) entries) in
     ap (λ (o : Option ℕ). option_or o later) (c.in_ok-put.ensures q n few)
-    ∙ one_entry_more q n entries place entry found c.index-entries-place.is c.entries-test.true
+    ∙ one_more_from (is_at q n) entries place entry found c.index-entries-place.is c.entries-test.true
     ∙ c.entries.invariant q n few
 
 pub returns : goal.returns
 returns c = λ q n few.
-    sym (all_entries q n c.args.entries.now c.entries.place (spot_in c.entries.items.items q n) c.entries-test.false) ∙ c.entries.invariant q n few
+    sym (all_from (is_at q n) c.args.entries.now c.entries.place (spot_in c.entries.items.items q n) c.entries-test.false) ∙ c.entries.invariant q n few

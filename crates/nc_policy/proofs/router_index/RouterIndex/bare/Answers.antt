@@ -27,6 +27,7 @@ returns c =
       aggregates = subst (λ (gs : List AggregateStatement). IsPrefixIndex (map (λ a. a.prefix) gs) c.in_ok-aggregates.aggregates) c.aggregates_in.ensures c.in_ok-aggregates.ensures;
       spans = c.in_ok-spans.ensures;
       guards = c.in_ok-guards.ensures;
+      highest = c.in_ok-highest.ensures;
       kept = nothing_kept (config_view config) (kept_table c.in_ok-kept.kept) c.in_ok-kept.ensures.kept;
       asked = c.in_ok-kept.ensures.asked (config_view config);
     }
@@ -45,3 +46,6 @@ list_indexes-requires c = λ k d lt.
     let lists = c.deref-4.result.now in
     let at = seen_at list_view config.lists.items lists k (get_or lists k d) c.deref-4.ensures.value lt (get_or_default lists k d (get_or lists k d) lt) in
     omega (arith, few_of_list config c.requires k (list_view (get_or lists k d)) at)
+
+pub highest_preferences-requires : goal.highest_preferences-requires
+highest_preferences-requires c = names_seen (λ (k : ClauseView). k.map_name) clause_view c.deref-3.result.now c.args.config.now.clauses.items c.deref-3.ensures.value c.in_ok-maps.maps c.in_ok-maps.ensures

@@ -1,39 +1,37 @@
-use Rattle.std.proofs.Common.{◌≡◌, ◌+◌, ◌-◌, ◌<◌, ℕ, List, Some, cond, length, drop, ap, sym, ◌∙◌, arith}
+use Rattle.std.proofs.Common.{ℕ, ◌+◌, List, Bool, cond, drop, Option, Some, None, sym, ap, ◌∙◌}
 use Rattle.std.specs.List.{position_from}
-use Rattle.std.specs.Map.{lookup}
+use Rattle.std.specs.Option.{option_or}
 use Rattle.std.proofs.lemmas.Iterator.Adapters.{position_from-zero}
-use Rattle.std.proofs.lemmas.List.{drop_all}
 use Rattle.nc_types.specs.Cidr.{Cidr, same_prefix}
-use Rattle.nc_types.proofs.Walks.{drop_read}
+use Rattle.nc_policy.specs.Placing.{prefix_place_at}
+use Rattle.nc_policy.specs.declared.prefix_places.PlacedPrefix.{PlacedPrefix}
+use Rattle.nc_policy.proofs.Numbering.{place_pushed, same_either}
+use Rattle.nc_policy.proofs.Spots.{one_more_from, all_from}
 use Rattle.nc_policy.proofs.statements.PrefixIndex.numbered.Goals as goal
 
 pub prefixes-init : goal.prefixes-init
-prefixes-init c =
+prefixes-init c = λ p.
     let ps = c.args.prefixes.now in
-    record {
-      within = omega arith;
-      first = λ p.
-          ap (λ (es : List (Cidr × ℕ)). lookup (same_prefix p) es) c.new-first.ensures.empty
-          ∙ sym (ap (position_from (λ q. same_prefix q p) (length ps)) (drop_all (length ps) ps (omega arith)));
-    }
+    ap (λ (l : List PlacedPrefix). option_or (prefix_place_at p l) (position_from (λ q. same_prefix q p) 0 ps)) c.in_ok-placed.ensures.items ∙ sym (position_from-zero (λ q. same_prefix q p) ps)
 
 pub prefixes-preserved : goal.prefixes-preserved
-prefixes-preserved c =
+prefixes-preserved c = λ p.
     let ps = c.args.prefixes.now in
-    let place = c.prefixes.place - 1 in
-    let item = c.index-prefixes-place.result in
-    let next : place + 1 ≡ c.prefixes.place = omega arith in
-    let within : place < length ps = omega arith in
-    record {
-      within = omega arith;
-      first = λ p.
-          c.in_ok-insert.ensures.updates.0 p
-          ∙ ap (cond (same_prefix item p) (Some place)) (c.prefixes.invariant.first p ∙ ap (λ (n : ℕ). position_from (λ q. same_prefix q p) n (drop n ps)) (sym next))
-          ∙ sym (ap (position_from (λ q. same_prefix q p) place) (drop_read ps place item c.index-prefixes-place.is within));
-    }
+    let place = c.prefixes.place in
+    let prefix = c.index-prefixes-place.result in
+    let old = c.prefixes.placed.items in
+    let new : PlacedPrefix = record { prefix = prefix; place = place } in
+    let later = position_from (λ q. same_prefix q p) (place + 1) (drop (place + 1) ps) in
+    ap (λ (l : List PlacedPrefix). option_or (prefix_place_at p l) later) c.in_ok-push.ensures.items
+    ∙ ap (λ (o : Option ℕ). option_or o later) (place_pushed old new p ∙ ap (λ (b : Bool). option_or (prefix_place_at p old) (cond b (Some place) None)) (same_either p prefix))
+    ∙ one_more_from (λ (q : Cidr). same_prefix q p) ps place prefix (prefix_place_at p old) c.index-prefixes-place.is c.prefixes-test.true
+    ∙ c.prefixes.invariant p
 
 pub returns : goal.returns
-returns c =
-    let ps = c.args.prefixes.now in
-    let done : c.prefixes.place ≡ 0 = omega arith in
-    record { first = λ p. c.prefixes.invariant.first p ∙ ap (λ (k : ℕ). position_from (λ q. same_prefix q p) k (drop k ps)) done ∙ sym (position_from-zero (λ q. same_prefix q p) ps) }
+returns c = record {
+  first = λ p.
+      let ps = c.args.prefixes.now in
+      c.in_ok-first.ensures p
+      ∙ sym (all_from (λ (q : Cidr). same_prefix q p) ps c.prefixes.place (prefix_place_at p c.prefixes.placed.items) c.prefixes-test.false)
+      ∙ c.prefixes.invariant p;
+}
