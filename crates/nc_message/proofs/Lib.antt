@@ -1,14 +1,6 @@
 pub mod Lists
 pub mod Sending
-pub mod Making
-pub mod Picking
-pub mod Distinct
-pub mod Processes
 pub mod Ends
 pub mod Own
-pub mod Beside
-pub mod Outranked
-pub mod Preferred
 pub mod PeerFirst
-pub mod Standing
 pub mod Holding

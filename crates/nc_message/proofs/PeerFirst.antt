@@ -8,7 +8,7 @@ use Rattle.nc_types.specs.Network.{up_at}
 use Rattle.nc_tables.specs.declared.base.BaseRow.{BaseRow}
 use Rattle.nc_tables.specs.declared.bgp.Chosen.{Chosen}
 use Rattle.nc_tables.specs.declared.bgp.SessionRow.{SessionRow}
-use Rattle.nc_tables.specs.Rounds.{BgpRowView, Link, Message, accepted_of, best_at, chosen_in, entry_at, learnt_from, link_at, message_at, accepted_at, message_of, session_by}
+use Rattle.nc_tables.specs.Rounds.{BgpRowView, Link, accepted_of, best_at, chosen_in, entry_at, learnt_from, link_at, message_at, accepted_at, message_of, session_by}
 use Rattle.nc_tables.specs.Sessions.{end_at, first_of, session_in}
 use Rattle.nc_message.specs.Peers.{best_over}
 

@@ -2,9 +2,4 @@ pub mod Inputs
 pub mod Adjacencies
 pub mod Maps
 pub mod Views
-pub mod Beginning
-pub mod Feasible
-pub mod BestPath
-pub mod Peerings
-pub mod Compared
 pub mod Peers

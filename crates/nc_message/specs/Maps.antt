@@ -4,7 +4,6 @@ use Rattle.std.specs.Option.{option_map}
 use Rattle.nc_tables.specs.Rounds.{Link}
 use Rattle.nc_policy.specs.Passing.{map_place}
 use Rattle.nc_policy.specs.declared.policies.MapPlace.{MapPlace}
-use Rattle.nc_message.specs.declared.maps.SessionMaps.{SessionMaps}
 
 -- the map of the sender's statement for the receiver stands here, if there is one
 abbrev pub IsMapOut : Link → Option MapPlace → Type 0
@@ -13,7 +12,3 @@ IsMapOut k place = option_map (λ p. p.0) place ≡ map_place k.sender.config k.
 -- the same of the map of the receiver's statement for the sender
 abbrev pub IsMapIn : Link → Option MapPlace → Type 0
 IsMapIn k place = option_map (λ p. p.0) place ≡ map_place k.receiver.config k.receiver.statement.map_in
-
-pub record AreMapsOf (k : Link) (m : SessionMaps) : Type 0 where
-  pub out : IsMapOut k m.out
-  pub into : IsMapIn k m.into

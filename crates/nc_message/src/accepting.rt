@@ -37,9 +37,9 @@ pub struct AcceptedRoute<'a> {
 
 /// The same with the ends of the session where they stand.
 #[derive(Clone, Copy)]
-pub(crate) struct LearntRoute<'a> {
-    pub(crate) sent: AdvertisedRoute<'a>,
-    pub(crate) into: Passing<'a>,
+pub struct LearntRoute<'a> {
+    pub sent: AdvertisedRoute<'a>,
+    pub into: Passing<'a>,
 }
 
 // Whether a number is among others.
@@ -59,7 +59,7 @@ fn has_own_sender(link: &Link) -> bool
 
 /// Whether the path of a peer's candidate holds the receiver's own system. What is sent of it holds
 /// it too, and isn't accepted (RFC 4271, 9.1.2): no map is asked about it.
-pub(crate) fn holds_receiver(link: &Link, best: &RibEntry) -> bool
+pub fn holds_receiver(link: &Link, best: &RibEntry) -> bool
     ensures { result ≡ list_any (λ n. n == link.now.receiver.process.now.asn) best.now.route.path }
 {
     best.path().contains(link.receiver.process.asn)
@@ -100,7 +100,7 @@ pub fn next_hop(sent: &Advertisement) -> Addr
 }
 
 /// The same of a message with the ends of the session where they stand.
-pub(crate) fn hop_of(sent: &AdvertisedRoute) -> Addr
+pub fn hop_of(sent: &AdvertisedRoute) -> Addr
     ensures { result ≡ (message_view (advertised sent.now)).route.next_hop }
 {
     let link = sent.link;
@@ -143,7 +143,7 @@ fn is_resolved(inputs: &RoutingInputs, router: RouterId, sent: &AdvertisedRoute,
 
 /// How a message to a router passes its neighbor statement, whose map stands at a place, where the
 /// message is accepted.
-pub(crate) fn passed_into<'a>(
+pub fn passed_into<'a>(
     inputs: &RoutingInputs<'a>,
     router: RouterId,
     place: Option<MapPlace>,
@@ -185,6 +185,7 @@ pub(crate) fn passed_into<'a>(
 }
 
 // What is accepted of a message to a router.
+#[inline(always)]
 fn accepted_of<'a>(
     inputs: &RoutingInputs<'a>,
     router: RouterId,

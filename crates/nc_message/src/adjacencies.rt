@@ -7,7 +7,6 @@ ghost use Rattle.nc_message.specs.Inputs.{IsBetween};
 ghost use Rattle.nc_message.specs.Adjacencies.{sender_in, AreAdjacencies, AreOfSessions, AreSenders};
 ghost use Rattle.nc_message.specs.Adjacencies.{HasEachSender, IsSender, IsSenderAt};
 
-use crate::maps::SessionMaps;
 use crate::rows::is_own;
 use nc_sessions::{Link, link_at, router_id, statements};
 use nc_tables::{BaseTables, Sessions};
@@ -32,15 +31,6 @@ pub struct Sender {
 pub struct Adjacency<'a> {
     pub link: Link<'a>,
     pub sender: Option<Sender>,
-}
-
-/// A session over which a router learns: the place of its neighbor statement, both ends, and where
-/// their maps stand.
-#[derive(Clone, Copy)]
-pub(crate) struct Peering<'a> {
-    pub(crate) place: u32,
-    pub(crate) adjacency: Adjacency<'a>,
-    pub(crate) maps: SessionMaps,
 }
 
 /// What is known of the senders of a network's sessions. It is made once, and by it a message from

@@ -4,10 +4,8 @@ ghost use Rattle.nc_tables.specs.Rounds.{link_at};
 ghost use Rattle.nc_sessions.specs.Views.{link_view};
 ghost use Rattle.nc_message.specs.Inputs.{AreRoutingInputs, IsBetween};
 ghost use Rattle.nc_message.specs.Adjacencies.{IsAdjacency, IsSenderAt};
-ghost use Rattle.nc_message.specs.Peerings.{IsPeeringAt};
 
-use crate::adjacencies::{Adjacencies, Adjacency, Peering, Sender};
-use crate::maps::SessionMaps;
+use crate::adjacencies::{Adjacencies, Adjacency, Sender};
 use nc_policy::Policies;
 use nc_sessions::link_at;
 use nc_tables::{BaseTables, Sessions};
@@ -55,23 +53,4 @@ pub fn adjacency_of<'a>(
     let link = link_at(inputs.network, inputs.sessions, router, place)?;
     let sender = known_of(inputs, router, place);
     Some(Adjacency { link, sender })
-}
-
-/// The session of the neighbor statement at a place of a router, if it has one.
-pub(crate) fn peering_of<'a>(
-    inputs: &RoutingInputs<'a>,
-    router: RouterId,
-    place: u32,
-) -> Option<Peering<'a>>
-    requires { AreRoutingInputs inputs.now }
-    ensures { IsPeeringAt inputs.now.network.now inputs.now.base.now inputs.now.sessions.now
-        router.0 place result }
-{
-    let adjacency = adjacency_of(inputs, router, place)?;
-    let maps = SessionMaps::of(inputs.network, inputs.policies, router, &adjacency.link);
-    Some(Peering {
-        place,
-        adjacency,
-        maps,
-    })
 }

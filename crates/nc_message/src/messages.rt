@@ -35,11 +35,11 @@ pub struct Advertisement<'a> {
 /// The same with the ends of the session where they stand: they are most of a message, and are not
 /// copied for each.
 #[derive(Clone, Copy)]
-pub(crate) struct AdvertisedRoute<'a> {
-    pub(crate) link: &'a Link<'a>,
-    pub(crate) sender: Option<Sender>,
-    pub(crate) best: &'a RibEntry,
-    pub(crate) out: Passing<'a>,
+pub struct AdvertisedRoute<'a> {
+    pub link: &'a Link<'a>,
+    pub sender: Option<Sender>,
+    pub best: &'a RibEntry,
+    pub out: Passing<'a>,
 }
 
 // The best candidate that a router has chosen of a prefix.
@@ -126,7 +126,7 @@ fn out_of<'a>(
 
 /// How many numbers the path has of a route as it is sent: toward another system the sender's own
 /// number goes before it.
-pub(crate) fn sent_length(internal: bool, best: &RibEntry, out: &Passing) -> usize
+pub fn sent_length(internal: bool, best: &RibEntry, out: &Passing) -> usize
     requires { length (prepended_by out.now) + length best.now.route.path ≤ PATH_LIMIT }
     ensures { result ≡ (if internal then 0 else 1)
         + (length (prepended_by out.now) + length best.now.route.path) }
@@ -137,7 +137,7 @@ pub(crate) fn sent_length(internal: bool, best: &RibEntry, out: &Passing) -> usi
 
 /// The communities with which the route of a message is sent: where the sender's statement says so,
 /// those that its map left.
-pub(crate) fn carried<'a>(sent: &AdvertisedRoute<'a>) -> Held<'a>
+pub fn carried<'a>(sent: &AdvertisedRoute<'a>) -> Held<'a>
     requires { IsAdvertised (advertised sent.now) }
     ensures { result ≡ (message_view (advertised sent.now)).route.communities }
 {
@@ -151,7 +151,7 @@ pub(crate) fn carried<'a>(sent: &AdvertisedRoute<'a>) -> Held<'a>
 
 /// How the sender's best candidate passes its statement, whose map stands at a place, where a message
 /// is sent of it over a session.
-pub(crate) fn sent_out<'a>(
+pub fn sent_out<'a>(
     inputs: &RoutingInputs<'a>,
     link: &Link<'a>,
     place: Option<MapPlace>,
@@ -182,6 +182,7 @@ pub(crate) fn sent_out<'a>(
 }
 
 /// The message over a session of the sender's best candidate.
+#[inline(always)]
 pub(crate) fn message_of<'a>(
     inputs: &RoutingInputs<'a>,
     adjacency: Adjacency<'a>,

@@ -18,7 +18,7 @@ use Rattle.nc_tables.specs.Sessions.{first_of, process_of}
 use Rattle.nc_tables.specs.Rounds.{BgpRowView, Link, Message, made_from, chosen_in, chosen_at, is_active, is_longer_in, session_by, link_at, message_of, message_at, accepted_of, accepted_at, learnt_from, entry_at, begun, origin_at, aggregate_at, candidates_at, chosen_by, chosen_anew, row_of, row_at}
 use Rattle.nc_tables.proofs.ByPrefix.{same_itself}
 use Rattle.nc_tables.proofs.InOrder.{HaveSome, at_head, past_head}
-use Rattle.nc_message.proofs.Beside.{chosen_by_process}
+use Rattle.nc_decision.proofs.Beside.{chosen_by_process}
 use Rattle.nc_message.proofs.PeerFirst.{link_session}
 use Rattle.nc_round.specs.Waking.{aggregates_of}
 use Rattle.nc_round.specs.Changes.{HaveCandidates, ReadAlike}

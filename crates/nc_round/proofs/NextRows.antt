@@ -26,7 +26,7 @@ use Rattle.nc_tables.proofs.Ordered.{in_its_order}
 use Rattle.nc_tables.proofs.InOrder.{Up, IsBelow, HaveSome, at_head, past_head}
 use Rattle.nc_base_rib.proofs.Members.{Rises}
 use Rattle.nc_main_rib.proofs.Ascending.{distinct_ascend, in_distinct}
-use Rattle.nc_message.proofs.Distinct.{made_few}
+use Rattle.nc_decision.proofs.Distinct.{made_few}
 use Rattle.nc_round.proofs.Lists.{among, in_flat_map, all_made, pairs_made, made_at, made_past}
 
 -- ---- what is made anew of prefixes

@@ -22,10 +22,10 @@ use Rattle.nc_tables.specs.Sessions.{first_of, process_of}
 use Rattle.nc_tables.specs.Rounds.{BgpRowView, AreBgpRows, Link, Message, Accepted, chosen_at, is_active, link_at, message_of, message_at, accepted_of, accepted_at, learnt_from, entry_at, begun, aggregate_at, candidates_at, chosen_by, chosen_anew, prefixes_in, prefixes, row_of, row_at, rows_anew, round, after}
 use Rattle.nc_main_rib.proofs.Ascending.{of_distinct}
 use Rattle.nc_message.specs.Inputs.{IsOf}
-use Rattle.nc_message.proofs.Distinct.{choose_few, made_few}
+use Rattle.nc_decision.proofs.Distinct.{choose_few, made_few}
 use Rattle.nc_message.proofs.Own.{AreOwn, row_own}
-use Rattle.nc_message.proofs.Making.{made_all, kept_all}
-use Rattle.nc_message.proofs.Processes.{has_config}
+use Rattle.nc_decision.proofs.Making.{made_all, kept_all}
+use Rattle.nc_decision.proofs.Processes.{has_config}
 use Rattle.nc_types.proofs.Options.{then_some}
 use Rattle.nc_round.proofs.KeptPrefixes.{message_keeps, accepted_keeps}
 use Rattle.nc_round.proofs.Lists.{all_at, all_made, made_at}

@@ -18,8 +18,8 @@ use Rattle.nc_tables.proofs.ByPrefix.{same_itself}
 use Rattle.nc_message.specs.declared.inputs.RoutingInputs.{RoutingInputs}
 use Rattle.nc_round.specs.Keys.{Key, key, AreInOrder}
 use Rattle.nc_message.specs.Inputs.{AreRoutingInputs}
-use Rattle.nc_message.specs.BestPath.{leaves_best_path}
-use Rattle.nc_message.proofs.Beside.{same_beside}
+use Rattle.nc_decision.specs.BestPath.{leaves_best_path}
+use Rattle.nc_decision.proofs.Beside.{same_beside}
 use Rattle.nc_round.specs.Next.{next}
 use Rattle.nc_round.specs.Waking.{aggregates_of, begun_from, IsWoken}
 use Rattle.nc_round.specs.Changes.{IsRoundOf}

@@ -8,7 +8,7 @@ use Rattle.nc_types.specs.declared.config.AggregateStatement.{AggregateStatement
 use Rattle.nc_tables.specs.declared.bgp.SessionRow.{SessionRow}
 use Rattle.nc_tables.specs.Rounds.{BgpRowView, is_longer_in, prefixes_in}
 use Rattle.nc_tables.specs.Sessions.{process_of}
-use Rattle.nc_message.specs.BestPath.{leaves_best_path}
+use Rattle.nc_decision.specs.BestPath.{leaves_best_path}
 use Rattle.nc_message.specs.declared.inputs.RoutingInputs.{RoutingInputs}
 use Rattle.nc_round.specs.declared.changed.NumberedRow.{NumberedRow}
 use Rattle.nc_round.specs.Keys.{Key, key, AreInOrder}

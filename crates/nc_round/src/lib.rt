@@ -9,9 +9,9 @@
 //! are found once, for what is woken as for what is chosen anew.
 //!
 //! The crate stands on `nc_types` for the network, on `nc_tables` for the tables and for the
-//! definition of a round, on `nc_policy` for the policies, and on `nc_message` for what is chosen
-//! anew of one row and for what leaves the best path as it is; the proofs take the laws of lists in
-//! order from `nc_base_rib` and `nc_main_rib`. Its contract promises that [`round_changed`] gives
+//! definition of a round, on `nc_policy` for the policies, on `nc_message` for what messages are told
+//! by, and on `nc_decision` for what is chosen anew of one row and for what leaves the best path as it
+//! is; the proofs take the laws of lists in order from `nc_base_rib` and `nc_main_rib`. Its contract promises that [`round_changed`] gives
 //! exactly the next table and the rows in which it differs, and that [`settle_table`] gives the first
 //! table that no round changes.
 #![tactic(auto)]

@@ -7,7 +7,7 @@ ghost use Rattle.nc_tables.specs.declared.bgp.Chosen.{Chosen};
 ghost use Rattle.nc_tables.specs.LocRibs.{IsNumbered};
 ghost use Rattle.nc_tables.specs.Rounds.{chosen_at};
 ghost use Rattle.nc_message.specs.Inputs.{AreRoutingInputs};
-ghost use Rattle.nc_message.specs.Peerings.{AreNetworkPeerings, ArePeerings};
+ghost use Rattle.nc_decision.specs.Peerings.{AreNetworkPeerings, ArePeerings};
 ghost use Rattle.nc_round.specs.Next.{next};
 ghost use Rattle.nc_round.specs.Changes.{IsDifference};
 ghost use Rattle.nc_round.specs.Rows.{row_key, AreRows};
@@ -15,7 +15,8 @@ ghost use Rattle.nc_round.specs.Renewing.{row_change, change_at, AreEnough, IsLo
 
 use crate::changed::{Changed, NumberedRow};
 use crate::loc_rib_change::LocRibChange;
-use nc_message::{NetworkPeerings, Peerings, RoutingInputs, chosen_anew};
+use nc_decision::{NetworkPeerings, Peerings, chosen_anew};
+use nc_message::RoutingInputs;
 use nc_tables::{LocRibs, Numbered, RecentAttributes, RibEntry};
 use nc_types::RouterId;
 use std::alloc::{AllocError, Global};

@@ -3,7 +3,8 @@ ghost use Rattle.nc_tables.specs.Rounds.{IsStable, IsUnstable};
 ghost use Rattle.nc_message.specs.Inputs.{AreRoutingInputs};
 
 use crate::rounds::{first_by, next_by};
-use nc_message::{NetworkPeerings, RoutingInputs};
+use nc_decision::NetworkPeerings;
+use nc_message::RoutingInputs;
 use nc_tables::{BgpTable, RecentAttributes};
 use std::alloc::{AllocError, Global};
 

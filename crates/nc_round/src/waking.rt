@@ -7,14 +7,15 @@ ghost use Rattle.nc_types.specs.Config.{config_view};
 ghost use Rattle.nc_tables.specs.LocRibs.{IsNumbered};
 ghost use Rattle.nc_tables.specs.Rounds.{is_longer_in, prefixes, prefixes_in};
 ghost use Rattle.nc_message.specs.Inputs.{AreRoutingInputs};
-ghost use Rattle.nc_message.specs.Peerings.{AreNetworkPeerings, ArePeerings};
+ghost use Rattle.nc_decision.specs.Peerings.{AreNetworkPeerings, ArePeerings};
 ghost use Rattle.nc_round.specs.Keys.{Key, key, AreInOrder};
 ghost use Rattle.nc_round.specs.Rows.{listed, numbered_row, prefixes_of, row_key, AreListed, AreRows};
 ghost use Rattle.nc_round.specs.Waking.{aggregates_of, begun_from, affected_over, woken_at, AreWoken, IsWoken};
 
 use crate::by_router::{by_router, changed_at};
 use crate::changed::NumberedRow;
-use nc_message::{NetworkPeerings, Peerings, RoutingInputs, add_counting};
+use nc_decision::{NetworkPeerings, Peerings, add_counting};
+use nc_message::RoutingInputs;
 use nc_tables::{LocRibs, Numbered, SessionRow, is_longer_in};
 use nc_types::{AggregateStatement, Network, NetworkStatement, Prefix, RouterConfig, RouterId};
 use std::alloc::{AllocError, Global};

@@ -1,4 +1,4 @@
-use Rattle.std.proofs.Common.{◌≡◌, ◌||◌, ◌==◌, ◌&&◌, not, true, false, Bool, sym, ap, refl, ◌∙◌}
+use Rattle.std.proofs.Common.{◌≡◌, ◌||◌, ◌&&◌, not, true, false, Bool, sym, ap, refl, ◌∙◌}
 use Rattle.std.specs.List.{list_any}
 use Rattle.nc_policy.specs.Passing.{prepended_by}
 use Rattle.nc_sessions.specs.Views.{link_view}

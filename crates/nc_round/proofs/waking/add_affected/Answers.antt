@@ -6,7 +6,7 @@ use Rattle.nc_types.specs.Cidr.{Cidr}
 use Rattle.nc_tables.specs.declared.bgp.SessionRow.{SessionRow}
 use Rattle.nc_tables.specs.declared.ribs.Numbered.{Numbered}
 use Rattle.nc_tables.specs.LocRibs.{IsNumbered}
-use Rattle.nc_message.specs.BestPath.{leaves_best_path}
+use Rattle.nc_decision.specs.BestPath.{leaves_best_path}
 use Rattle.nc_round.specs.Rows.{listed, prefixes_of}
 use Rattle.nc_round.specs.Waking.{affected_over}
 use Rattle.nc_round.proofs.waking.add_affected.Goals as goal

@@ -8,7 +8,7 @@ use Rattle.nc_types.specs.declared.config.AggregateStatement.{AggregateStatement
 use Rattle.nc_types.proofs.Members.{In, in_left, in_right, in_map, in_filter, in_by_contains, contains_by_in, all_in, passes_some}
 use Rattle.nc_tables.specs.declared.bgp.SessionRow.{SessionRow}
 use Rattle.nc_tables.specs.Rounds.{BgpRowView, is_longer_in}
-use Rattle.nc_message.specs.BestPath.{leaves_best_path}
+use Rattle.nc_decision.specs.BestPath.{leaves_best_path}
 use Rattle.nc_message.specs.declared.inputs.RoutingInputs.{RoutingInputs}
 use Rattle.nc_tables.specs.declared.ribs.Numbered.{Numbered}
 use Rattle.nc_round.specs.Rows.{listed, row_key}

@@ -1,0 +1,6 @@
+pub mod SessionMaps
+pub mod Beginning
+pub mod Feasible
+pub mod BestPath
+pub mod Peerings
+pub mod Compared
