@@ -33,7 +33,7 @@ use nc_rules::{Rules, rules_make_a_flow};
 use nc_stable::SettledNetwork;
 use std::alloc::{AllocError, Global};
 
-// How many bytes of lines are lent at least: a copy of fewer costs less than a write of their own.
+// How many bytes of lines are lent at least: fewer join what is pending, and go out with it.
 const LENT_FROM: usize = 4096;
 
 /// A test that was accepted: the facts that it tests, their nodes, and whether it is live.

@@ -8,9 +8,8 @@ use Rattle.nc_types.specs.WellFormed.{IsWellFormed}
 use Rattle.nc_outside.specs.Named.{Named}
 use Rattle.nc_graph.specs.Closure.{IsClosure}
 use Rattle.nc_graph.specs.Flow.{Flow, IsFlow}
-use Rattle.nc_marks.specs.Marks.{IsMark}
 use Rattle.nc_marks.specs.declared.mark.Mark.{Mark}
-use Rattle.nc_marks.specs.declared.mark.Mark.TheVariants.{Strong, Weak, Uncovered, Outside}
+use Rattle.nc_marks.specs.declared.mark.Mark.TheVariants.{Outside}
 use Rattle.nc_reader.specs.Configuration.{configuration}
 use Rattle.nc_types.specs.Joining.{IsValid}
 use Rattle.nc_session.specs.Limits.{most_routers}

@@ -1,4 +1,4 @@
-use Rattle.std.proofs.Common.{◌≡◌, ◌++◌, ◌∙◌, [], List, ℕ, Option, sym, ap, subst, append-nil, IfOk}
+use Rattle.std.proofs.Common.{◌≡◌, ◌++◌, ◌∙◌, List, ℕ, Option, sym, ap, subst, append-nil, IfOk}
 use Rattle.std.proofs.lemmas.Result.{IfOk-weaker}
 use Rattle.nc_lines.specs.Lines.{without_return}
 use Rattle.nc_engine.specs.Engine.{Progress}
