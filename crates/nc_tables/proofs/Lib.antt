@@ -17,6 +17,7 @@ pub mod RowCount
 pub mod Ordered
 pub mod Owner
 mod ByLevels
+pub mod EachSame
 pub mod SamePath
 mod Remainders
 mod PieceBits

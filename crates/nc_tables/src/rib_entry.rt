@@ -299,23 +299,23 @@ impl RecentAttributes {
         Ok(RecentAttributes { blocks })
     }
 
-    // The block that is remembered of the same attributes.
-    fn like(&self, attributes: &Attributes) -> Option<&Rc<Attributes>>
+    // The block that is remembered at a place, if it is of the same attributes.
+    fn like(&self, place: usize, attributes: &Attributes) -> Option<&Rc<Attributes>>
         ensures { IfSome result (λ known. known.now.value ≡ attributes.now) }
     {
-        let known = self.blocks.get(attributes.place())?.as_ref()?;
+        let known = self.blocks.get(place)?.as_ref()?;
         if known.are_same(attributes) {
             return Some(known);
         }
         None
     }
 
-    // The block that is remembered of the attributes of a candidate that isn't in memory.
-    fn block_of(&self, learnt: &Learnt<'_>) -> Option<&Rc<Attributes>>
+    // The block that is remembered at a place, if it is of the attributes of a candidate that isn't in
+    // memory.
+    fn block_of(&self, place: usize, learnt: &Learnt<'_>) -> Option<&Rc<Attributes>>
         ensures { IfSome result
             (λ known. entry_of learnt.now.prefix known.now.value ≡ learnt_view learnt.now) }
     {
-        let place = place_of(learnt.path.digest_after(learnt.system), learnt.from);
         let known = self.blocks.get(place)?.as_ref()?;
         if known.are_of(learnt) {
             return Some(known);
@@ -323,9 +323,9 @@ impl RecentAttributes {
         None
     }
 
-    // Remembers a block in place of the one that stands at its place.
-    fn remember(&mut self, attributes: &Rc<Attributes>) -> Result<(), AllocError> {
-        if let Some(block) = self.blocks.get_mut(attributes.place()) {
+    // Remembers a block at a place, in place of the one that stands there.
+    fn remember(&mut self, place: usize, attributes: &Rc<Attributes>) -> Result<(), AllocError> {
+        if let Some(block) = self.blocks.get_mut(place) {
             *block = Some(attributes.clone()?);
         }
         Ok(())
@@ -340,12 +340,13 @@ impl RecentAttributes {
         ensures { IfOk result (λ entry. entry ≡ chosen) }
     {
         let (prefix, made) = Attributes::of(chosen);
-        if let Some(known) = self.like(&made) {
+        let place = made.place();
+        if let Some(known) = self.like(place, &made) {
             let attributes = known.clone()?;
             return Ok(RibEntry { prefix, attributes });
         }
         let attributes = Rc::new(alloc, made)?;
-        self.remember(&attributes)?;
+        self.remember(place, &attributes)?;
         Ok(RibEntry { prefix, attributes })
     }
 
@@ -361,12 +362,13 @@ impl RecentAttributes {
         ensures { IfOk result (λ entry. entry ≡ learnt_view learnt.now) }
     {
         let prefix = learnt.prefix;
-        if let Some(known) = self.block_of(learnt) {
+        let place = place_of(learnt.path.digest_after(learnt.system), learnt.from);
+        if let Some(known) = self.block_of(place, learnt) {
             let attributes = known.clone()?;
             return Ok(RibEntry { prefix, attributes });
         }
         let attributes = Rc::new(alloc, Attributes::made(alloc, learnt)?)?;
-        self.remember(&attributes)?;
+        self.remember(place, &attributes)?;
         Ok(RibEntry { prefix, attributes })
     }
 }
