@@ -69,7 +69,7 @@ fn prefer<'a>(
     if is_outranked_by(&*best, peering, sent) {
         return;
     }
-    let Some(route) = feasible_over(inputs, router, peering, sent) else {
+    let Some(route) = feasible_over(inputs, router, peering, sent, of.number) else {
         return;
     };
     if is_preferred_to(&*best, &route) {

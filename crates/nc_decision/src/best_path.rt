@@ -111,7 +111,7 @@ fn cannot_win<'a>(
     if is_outranked(best, peering, sent) {
         return true;
     }
-    match feasible_over(inputs, router, peering, sent) {
+    match feasible_over(inputs, router, peering, sent, of.number) {
         None => true,
         Some(feasible) => is_beaten(process, best, &feasible),
     }

@@ -215,12 +215,14 @@ impl<'a> Candidate for FeasibleRoute<'a> {
 }
 
 /// The candidate that a router learns over a session of its peer's best candidate; `None` where
-/// nothing is accepted, as [`crate::accepted_at`] tells it. Takes no memory.
+/// nothing is accepted, as [`nc_message::accepted_at`] tells it. What maps decide on its prefix is looked
+/// for at a number first. Takes no memory.
 pub(crate) fn feasible_over<'a>(
     inputs: &RoutingInputs<'a>,
     router: RouterId,
     peering: &'a Peering<'a>,
     best: &'a RibEntry,
+    number: usize,
 ) -> Option<FeasibleRoute<'a>>
     requires inputs { AreRoutingInputs inputs.now }
     requires peering { IsPeering inputs.now.network.now inputs.now.base.now
@@ -235,19 +237,19 @@ pub(crate) fn feasible_over<'a>(
     if holds_receiver(link, best) {
         return None;
     }
-    let out = sent_out(inputs, link, peering.maps.out, best)?;
+    let out = sent_out(inputs, link, peering.maps.out, best, number)?;
     let sent = AdvertisedRoute {
         link,
         sender: adjacency.sender,
         best,
         out,
     };
-    let into = passed_into(inputs, router, peering.maps.into, &sent)?;
+    let into = passed_into(inputs, router, peering.maps.into, &sent, number)?;
     Some(FeasibleRoute::learnt(peering.place, LearntRoute { sent, into }))
 }
 
 /// The candidate of a prefix that a router learns over a session, given what is chosen now by each
-/// router; `None` where nothing is accepted, as [`crate::accepted_at`] tells it. Takes no memory.
+/// router; `None` where nothing is accepted, as [`nc_message::accepted_at`] tells it. Takes no memory.
 pub(crate) fn feasible_by<'a>(
     inputs: &RoutingInputs<'a>,
     ribs: &'a LocRibs,
@@ -265,6 +267,6 @@ pub(crate) fn feasible_by<'a>(
     ensures own { IfSome result (IsOf of.now.prefix) }
 {
     let best = best_of(ribs, peering.adjacency.link.session.peer, *of)?;
-    let feasible = feasible_over(inputs, router, peering, best)?;
+    let feasible = feasible_over(inputs, router, peering, best, of.number)?;
     Some(feasible)
 }

@@ -57,6 +57,7 @@ impl SessionMaps {
         }
     }
 }
+
 /// A session over which a router learns: the place of its neighbor statement, both ends, and where
 /// their maps stand.
 #[derive(Clone, Copy)]

@@ -16,15 +16,15 @@ ghost use Rattle.nc_message.specs.Views.{advertised, accepted_by, message_view, 
 ghost use Rattle.nc_message.specs.Views.{IsKnown, IsAdvertised, IsAccepted};
 
 use crate::adjacencies::Adjacency;
-use crate::inputs::RoutingInputs;
-use crate::maps::map_in;
+use crate::inputs::{RoutingInputs, adjacency_of};
+use crate::maps::{map_in, map_out};
 use crate::messages::{
-    AdvertisedRoute, Advertisement, carried, message_at, message_of, sent_length,
+    AdvertisedRoute, Advertisement, best_of_peer, carried, sent_length, sent_out,
 };
 use crate::rows::is_own;
 use nc_policy::{MapPlace, Passing};
 use nc_sessions::Link;
-use nc_tables::{BgpFrom, BgpTable, RibEntry};
+use nc_tables::{BgpFrom, BgpTable, Numbered, RibEntry};
 use nc_types::{Addr, Prefix, RouterId};
 use nc_underlay::has_hit;
 
@@ -142,12 +142,14 @@ fn is_resolved(inputs: &RoutingInputs, router: RouterId, sent: &AdvertisedRoute,
 }
 
 /// How a message to a router passes its neighbor statement, whose map stands at a place, where the
-/// message is accepted.
+/// message is accepted. What the map decides on the prefix is looked for at a number first, as
+/// [`nc_policy::Policies::pass_at`] does.
 pub fn passed_into<'a>(
     inputs: &RoutingInputs<'a>,
     router: RouterId,
     place: Option<MapPlace>,
     sent: &AdvertisedRoute<'_>,
+    number: usize,
 ) -> Option<Passing<'a>>
     requires inputs { AreRoutingInputs inputs.now }
     requires between { IsBetween inputs.now.network.now router.0 (link_view sent.now.link.now) }
@@ -176,47 +178,18 @@ pub fn passed_into<'a>(
         return Some(Passing::Unchanged);
     };
     let prefix = sent.best.prefix();
+    let of = Numbered { prefix, number };
     let count = sent_length(link.session.internal, sent.best, &sent.out);
     let held = carried(sent);
     let into = inputs
         .policies
-        .pass_at(inputs.network, router, map, place, prefix, count, &held)?;
+        .pass_at(inputs.network, router, map, place, of, count, &held)?;
     Some(into)
 }
 
-// What is accepted of a message to a router.
-#[inline(always)]
-fn accepted_of<'a>(
-    inputs: &RoutingInputs<'a>,
-    router: RouterId,
-    sent: Advertisement<'a>,
-) -> Option<AcceptedRoute<'a>>
-    requires inputs { AreRoutingInputs inputs.now }
-    requires between { IsBetween inputs.now.network.now router.0 (link_view sent.link) }
-    requires known { IsKnown inputs.now.base.now router.0 sent }
-    requires feasible { IsAdvertised sent }
-    ensures accepted { option_map accepted_view result
-        ≡ accepted_of inputs.now.base.now router.0 (message_view sent.entry) }
-    ensures best { IfSome result (λ t. t.sent.best.now ≡ sent.entry.best.now) }
-    ensures known { IfSome result (λ t. IsKnown inputs.now.base.now router.0 t.sent) }
-    ensures taken { IfSome result IsAccepted }
-{
-    if holds_receiver(&sent.link, sent.best) {
-        return None;
-    }
-    let parts = AdvertisedRoute {
-        link: &sent.link,
-        sender: sent.sender,
-        best: sent.best,
-        out: sent.out,
-    };
-    let place = map_in(inputs.network, inputs.policies, router, &sent.link);
-    let into = passed_into(inputs, router, place, &parts)?;
-    Some(AcceptedRoute { sent, into })
-}
-
 /// What a router accepts over a session of the sender's best candidate: the message that is sent of
-/// it, where one is, by the rules of [`accepted_at`]. Takes no memory.
+/// it, where one is, by the rules of [`accepted_at`]. No map is asked about a candidate whose path holds
+/// the router's own system, and nothing is copied of what isn't accepted. Takes no memory.
 pub fn accepted_over<'a>(
     inputs: &RoutingInputs<'a>,
     router: RouterId,
@@ -233,8 +206,27 @@ pub fn accepted_over<'a>(
     ensures known { IfSome result (λ t. IsKnown inputs.now.base.now router.0 t.sent) }
     ensures taken { IfSome result IsAccepted }
 {
-    let sent = message_of(inputs, adjacency, best)?;
-    accepted_of(inputs, router, sent)
+    let Adjacency { link, sender } = adjacency;
+    if holds_receiver(&link, best) {
+        return None;
+    }
+    let place_out = map_out(inputs.network, inputs.policies, &link);
+    let out = sent_out(inputs, &link, place_out, best, 0)?;
+    let parts = AdvertisedRoute {
+        link: &link,
+        sender,
+        best,
+        out,
+    };
+    let place_in = map_in(inputs.network, inputs.policies, router, &link);
+    let into = passed_into(inputs, router, place_in, &parts, 0)?;
+    let sent = Advertisement {
+        link,
+        sender,
+        best,
+        out,
+    };
+    Some(AcceptedRoute { sent, into })
 }
 
 /// What a router accepts of the message to the neighbor statement at a place for a prefix, as
@@ -258,6 +250,7 @@ pub fn accepted_at<'a>(
     ensures known { IfSome result (λ t. IsKnown inputs.now.base.now router.0 t.sent) }
     ensures taken { IfSome result IsAccepted }
 {
-    let sent = message_at(inputs, table, router, place, prefix)?;
-    accepted_of(inputs, router, sent)
+    let best = best_of_peer(inputs, table, router, place, prefix)?;
+    let adjacency = adjacency_of(inputs, router, place)?;
+    accepted_over(inputs, router, adjacency, best)
 }

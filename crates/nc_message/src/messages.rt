@@ -18,7 +18,7 @@ use crate::maps::map_out;
 use nc_community::Held;
 use nc_policy::{MapPlace, Passing};
 use nc_sessions::Link;
-use nc_tables::{BgpTable, RibEntry, is_longer_in};
+use nc_tables::{BgpTable, Numbered, RibEntry, is_longer_in};
 use nc_types::{PATH_LIMIT, Prefix, Process, RouterId};
 
 /// A message: over which session, of which candidate of the sender, and how the candidate passed
@@ -54,7 +54,7 @@ fn best_at(table: &BgpTable, router: RouterId, prefix: Prefix) -> Option<&RibEnt
 
 // The best candidate of a prefix that the peer of a neighbor statement's session has chosen. Most
 // peers have none, so this is asked before the session's ends are looked up.
-fn best_of_peer<'a>(
+pub(crate) fn best_of_peer<'a>(
     inputs: &RoutingInputs<'_>,
     table: &'a BgpTable,
     router: RouterId,
@@ -87,13 +87,14 @@ fn is_held_back(process: &Process, prefix: Prefix) -> bool
         && is_longer_in(prefix, aggregate.prefix))
 }
 
-// How the best candidate passes the sender's statement for the receiver, given where its map stands.
-// Mostly there is no map.
+// How the best candidate passes the sender's statement for the receiver, given where its map stands
+// and the number of its prefix. Mostly there is no map.
 fn out_of<'a>(
     inputs: &RoutingInputs<'a>,
     link: &Link<'a>,
     place: Option<MapPlace>,
     best: &'a RibEntry,
+    number: usize,
 ) -> Option<Passing<'a>>
     requires inputs { AreRoutingInputs inputs.now }
     requires sender { slice_get inputs.now.network.now link.now.session.peer.0
@@ -113,15 +114,11 @@ fn out_of<'a>(
         return Some(Passing::Unchanged);
     };
     let peer = link.session.peer;
-    inputs.policies.pass_at(
-        inputs.network,
-        peer,
-        map,
-        place,
-        best.prefix(),
-        count,
-        &held,
-    )
+    let prefix = best.prefix();
+    let of = Numbered { prefix, number };
+    inputs
+        .policies
+        .pass_at(inputs.network, peer, map, place, of, count, &held)
 }
 
 /// How many numbers the path has of a route as it is sent: toward another system the sender's own
@@ -150,12 +147,14 @@ pub fn carried<'a>(sent: &AdvertisedRoute<'a>) -> Held<'a>
 }
 
 /// How the sender's best candidate passes its statement, whose map stands at a place, where a message
-/// is sent of it over a session.
+/// is sent of it over a session. What the map decides on the prefix is looked for at a number first, as
+/// [`nc_policy::Policies::pass_at`] does.
 pub fn sent_out<'a>(
     inputs: &RoutingInputs<'a>,
     link: &Link<'a>,
     place: Option<MapPlace>,
     best: &'a RibEntry,
+    number: usize,
 ) -> Option<Passing<'a>>
     requires inputs { AreRoutingInputs inputs.now }
     requires sender { slice_get inputs.now.network.now link.now.session.peer.0
@@ -174,7 +173,7 @@ pub fn sent_out<'a>(
     if link.session.internal && best.is_internal() {
         return None;
     }
-    let out = out_of(inputs, link, place, best)?;
+    let out = out_of(inputs, link, place, best, number)?;
     if sent_length(link.session.internal, best, &out) > PATH_LIMIT {
         return None;
     }
@@ -182,8 +181,7 @@ pub fn sent_out<'a>(
 }
 
 /// The message over a session of the sender's best candidate.
-#[inline(always)]
-pub(crate) fn message_of<'a>(
+fn message_of<'a>(
     inputs: &RoutingInputs<'a>,
     adjacency: Adjacency<'a>,
     best: &'a RibEntry,
@@ -200,7 +198,7 @@ pub(crate) fn message_of<'a>(
 {
     let Adjacency { link, sender } = adjacency;
     let place = map_out(inputs.network, inputs.policies, &link);
-    let out = sent_out(inputs, &link, place, best)?;
+    let out = sent_out(inputs, &link, place, best, 0)?;
     Some(Advertisement {
         link,
         sender,

@@ -155,6 +155,21 @@ module _ {K P : Type 0} (o : Keyed K P) where
     below_first i j d le lt e =
         sym (below_is (o.cmp (o.key (get_or items i d)) s)) ∙ IsPartitionedBy-ltb rank items 1 rises i j d le lt (below_is (o.cmp (o.key (get_or items j d)) s) ∙ e)
 
+    -- an item has the key, and none in front of it
+    pub found_at : (i : ℕ) (x : P) → x ≡ get_or items i x → i < length items → o.same s (o.key x) ≡ true
+        → ((k : ℕ) (d : P) → k < i → o.same s (o.key (get_or items k d)) ≡ false) → Some (o.place x) ≡ place_at s items
+    found_at i x read inside same other =
+        sym (behind s items i other ∙ ap (place_at s) (drop_read items i x read inside) ∙ ap (λ (b : Bool). cond b (Some (o.place x)) (place_at s (drop (i + 1) items))) same)
+
+    -- where the item at a place is before the key, neither it nor one in front has the key
+    pub others_upto : (i : ℕ) (y : P) → y ≡ get_or items i y → i < length items → is_lt (o.cmp (o.key y) s) ≡ true
+        → (k : ℕ) (d : P) → k ≤ i → o.same s (o.key (get_or items k d)) ≡ false
+    others_upto i y read inside less k d le =
+        let c = o.cmp (o.key (get_or items k d)) s in
+        let here : is_lt (o.cmp (o.key (get_or items i d)) s) ≡ true =
+        ap (λ (x : P). is_lt (o.cmp (o.key x) s)) (get_or_default items i d y inside ∙ sym read) ∙ less in
+        o.same_back s (o.key (get_or items k d)) ∙ o.same_by_cmp (o.key (get_or items k d)) s ∙ below_not c (below_first k i d le inside here)
+
     module _ (i : ℕ) (point : Parts s i items) where
       before : (k : ℕ) (d : P) → k < i → o.same s (o.key (get_or items k d)) ≡ false
       before k d lt =

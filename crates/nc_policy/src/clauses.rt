@@ -18,7 +18,7 @@ use crate::kept::{Asking, Known};
 use crate::lists::{community_place, prefix_place};
 use crate::router_index::RouterIndex;
 use nc_community::Held;
-use nc_tables::{Names, Place};
+use nc_tables::{Names, Numbered, Place};
 use nc_types::{Clause, Prefix, Reference, RouterConfig};
 
 // The entry of the first prefix list, in order of mention, that permits a prefix.
@@ -239,15 +239,19 @@ fn known<'i>(
     index: Option<&'i RouterIndex>,
     map: &[u8],
     first: Option<usize>,
-    prefix: Prefix,
+    of: Numbered,
 ) -> Option<Known<'i>>
     requires indexed { IfSome index (λ x. IsIndexed (config_view config.now) x.now) }
     requires first { first ≡ place_from map.now 0 (map_names (config_view config.now)) }
-    ensures { IfSome result (IsKnown (config_view config.now) map.now prefix) }
+    ensures { IfSome result (IsKnown (config_view config.now) map.now of.prefix) }
 {
     let index = index?;
     let first = first?;
-    index.kept.get(Asking { map: first, prefix })
+    let asking = Asking {
+        map: first,
+        prefix: of.prefix,
+    };
+    index.kept.get(asking, of.number)
 }
 
 /// Whether a prefix lies outside of what the prefix lists of a clause permit, as far as the router's
@@ -328,23 +332,25 @@ pub(crate) fn scanned<'a>(
 
 /// The clause of a map with the least number that matches a route of a prefix with communities: the
 /// one that is kept, if the router's table has one, else found by going over the clauses. The map's
-/// first clause stands at this place; `None` where it has none.
+/// first clause stands at this place; `None` where it has none. What is kept is looked for at the
+/// prefix's number first.
 pub(crate) fn deciding<'a>(
     config: &'a RouterConfig,
     index: Option<&RouterIndex>,
     map: &[u8],
     first: Option<usize>,
-    prefix: Prefix,
+    of: Numbered,
     held: &Held,
 ) -> Option<Candidate<'a>>
     requires indexed { IfSome index (λ x. IsIndexed (config_view config.now) x.now) }
     requires first { first ≡ place_from map.now 0 (map_names (config_view config.now)) }
     requires formed { IsWellFormed (config_view config.now) }
     ensures deciding { option_map candidate_view result
-        ≡ deciding (config_view config.now) map.now (asked prefix held.now) }
-    ensures candidate { IfSome result (IsCandidate (config_view config.now) (asked prefix held.now)) }
+        ≡ deciding (config_view config.now) map.now (asked of.prefix held.now) }
+    ensures candidate { IfSome result (IsCandidate (config_view config.now) (asked of.prefix held.now)) }
 {
-    match known(config, index, map, first, prefix) {
+    let prefix = of.prefix;
+    match known(config, index, map, first, of) {
         Some(known) => decided(config, index, map, known, prefix, held),
         None => scanned(config, index, map, first, prefix, held),
     }

@@ -24,7 +24,7 @@ use crate::decisions::{Decisions, decided_of};
 use crate::router_index::RouterIndex;
 use crate::statements::PrefixIndex;
 use nc_community::Held;
-use nc_tables::Names;
+use nc_tables::{Names, Numbered};
 use nc_types::{Addr, Clause, Prefix, Reference, RouterConfig};
 use std::alloc::{AllocError, Global};
 use std::rc::Rc;
@@ -81,12 +81,13 @@ pub(crate) struct Kept {
     count: usize,
 }
 
-// What a map decides on a prefix, if it is one of those that have a number.
-fn decision_on(numbers: &PrefixIndex, table: &Decisions, prefix: Prefix) -> Option<Option<Decided>>
+// What a map decides on a prefix, if it is one of those that have a number: mostly the one with which
+// it comes.
+fn decision_on(numbers: &PrefixIndex, table: &Decisions, of: Numbered) -> Option<Option<Decided>>
     ensures { IfSome result (λ d. option_map (decision_or table.now)
-        (placed_in (prefix_table numbers.now) prefix) ≡ Some d) }
+        (placed_in (prefix_table numbers.now) of.prefix) ≡ Some d) }
 {
-    let number = numbers.place(prefix)?;
+    let number = numbers.place_near(of)?;
     let decided = table.get(number)?;
     Some(decided)
 }
@@ -126,8 +127,8 @@ impl Kept {
         })
     }
 
-    /// What is known of a map and a prefix. Takes no memory.
-    pub(crate) fn get(&self, asking: Asking) -> Option<Known<'_>>
+    /// What is known of a map and a prefix, which is looked for at a number first. Takes no memory.
+    pub(crate) fn get(&self, asking: Asking, number: usize) -> Option<Known<'_>>
         ensures { (config : ConfigView) (name : List ℕ) → AreAsked config (asked_table self.now)
             → AreKept config (kept_table self.now)
             → slice_get (map_names config) asking.map ≡ Some name
@@ -143,7 +144,11 @@ impl Kept {
         let Some(table) = &asked.table else {
             return None;
         };
-        let decided = decision_on(self.numbers.as_ref(), table, asking.prefix)?;
+        let of = Numbered {
+            prefix: asking.prefix,
+            number,
+        };
+        let decided = decision_on(self.numbers.as_ref(), table, of)?;
         Some(Known { askers, decided })
     }
 

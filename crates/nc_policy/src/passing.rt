@@ -18,7 +18,7 @@ use crate::clauses::{deciding, first_clause};
 use crate::lists::place_number;
 use crate::router_index::RouterIndex;
 use nc_community::Held;
-use nc_tables::Names;
+use nc_tables::{Names, Numbered};
 use nc_types::{Clause, Communities, OriginCode, PATH_LIMIT, Prefix, Reference, RouterConfig};
 use std::alloc::{AllocError, Global};
 
@@ -112,13 +112,14 @@ impl<'a> Passing<'a> {
 
 /// What a router's route map of this name makes of a route with this prefix, so many numbers in its
 /// path and these communities, by the router's tables, if it has any. The map's first clause stands at
-/// this place; `None` where it has none.
+/// this place; `None` where it has none. What is kept of map and prefix is looked for at the prefix's
+/// number first.
 pub(crate) fn pass_map<'a>(
     config: &'a RouterConfig,
     index: Option<&RouterIndex>,
     map: &[u8],
     first: Option<usize>,
-    prefix: Prefix,
+    of: Numbered,
     count: usize,
     held: &Held,
 ) -> Option<Passing<'a>>
@@ -126,13 +127,13 @@ pub(crate) fn pass_map<'a>(
     requires first { first ≡ place_from map.now 0 (map_names (config_view config.now)) }
     requires formed { IsWellFormed (config_view config.now) }
     requires few { count ≤ PATH_LIMIT }
-    ensures passed { (r : Route) → r.prefix ≡ prefix → length r.path ≡ count
+    ensures passed { (r : Route) → r.prefix ≡ of.prefix → length r.path ≡ count
         → r.communities ≡ held.now → option_map (passing_view r) result
         ≡ passed_by (verdict (config_view config.now) map.now r) }
     ensures short { IfSome result (λ p. length (prepended_by p) + count ≤ PATH_LIMIT) }
     ensures few { IfSome result (λ p. length (communities_by p held.now) ≤ COMMUNITY_LIMIT) }
 {
-    let found = deciding(config, index, map, first, prefix, held)?;
+    let found = deciding(config, index, map, first, of, held)?;
     if !found.clause.permit {
         return None;
     }
@@ -174,5 +175,6 @@ pub fn pass<'a>(
     };
     let name = reference.name.bytes();
     let first = first_clause(config, None, name);
-    pass_map(config, None, name, first, prefix, count, held)
+    let of = Numbered { prefix, number: 0 };
+    pass_map(config, None, name, first, of, count, held)
 }

@@ -24,7 +24,7 @@ use crate::route_map::{Verdict, judge};
 use crate::router_index::RouterIndex;
 use crate::statements::{PrefixIndex, aggregates_in, networks_in};
 use nc_community::Held;
-use nc_tables::Route;
+use nc_tables::{Numbered, Route};
 use nc_types::{Network, Prefix, Reference, RouterConfig, RouterId};
 use std::alloc::{AllocError, Global};
 use std::marker::Model;
@@ -227,17 +227,20 @@ impl Policies {
             → length (communities_by p held.now) ≤ COMMUNITY_LIMIT) }
     {
         let place = self.map_place(network, router, map);
-        self.pass_at(network, router, map, place, prefix, count, held)
+        let of = Numbered { prefix, number: 0 };
+        self.pass_at(network, router, map, place, of, count, held)
     }
 
-    /// The same, where it is known where the map stands, as [`Policies::map_place`] says it.
+    /// The same, where it is known where the map stands, as [`Policies::map_place`] says it, and of a
+    /// prefix with a number: where that is its place among the prefixes that routers begin, in order,
+    /// what is kept of it is found there. Another number costs a search, and changes no answer.
     pub fn pass_at<'a>(
         &self,
         network: &'a Network,
         router: RouterId,
         map: &Option<Reference>,
         place: Option<MapPlace>,
-        prefix: Prefix,
+        of: Numbered,
         count: usize,
         held: &Held,
     ) -> Option<Passing<'a>>
@@ -247,7 +250,7 @@ impl Policies {
             → option_map (λ p. p.0) place ≡ map_place c map.now }
         requires few { count ≤ PATH_LIMIT }
         ensures passed { (c : ConfigView) (r : Route) → slice_get network.now router.0 ≡ Some c
-            → r.prefix ≡ prefix → length r.path ≡ count → r.communities ≡ held.now
+            → r.prefix ≡ of.prefix → length r.path ≡ count → r.communities ≡ held.now
             → option_map (passing_view r) result ≡ passed c map.now r }
         ensures short { IfSome result (λ p. length (prepended_by p) + count ≤ PATH_LIMIT) }
         ensures few { IfSome result (λ p. length held.now ≤ COMMUNITY_LIMIT
@@ -260,15 +263,7 @@ impl Policies {
         let config = &network.routers()[number];
         let name = reference.name.bytes();
         let first = first_of(place);
-        pass_map(
-            config,
-            self.tables(number),
-            name,
-            first,
-            prefix,
-            count,
-            held,
-        )
+        pass_map(config, self.tables(number), name, first, of, count, held)
     }
 
     /// The place of the network statement of a prefix among those of a router; `None` where it has

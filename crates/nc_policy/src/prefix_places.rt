@@ -1,7 +1,7 @@
-//! The first places of prefixes, in a sorted table, which is asked by a binary search: a search in it
-//! costs less than to hash a prefix, up to some thousands of them.
+//! The first places of prefixes, in a sorted table. It is asked by a binary search, or by the number of
+//! a prefix: where that is the prefix's place in the table nothing is searched.
 
-ghost use Rattle.std.specs.Prelude.{◌≡◌, true, false, IfOk};
+ghost use Rattle.std.specs.Prelude.{◌≡◌, true, false, IfOk, IfSome, Some};
 ghost use Rattle.std.specs.List.Sorted.{IsPartitionPoint, IsSortedByKey};
 ghost use Rattle.std.specs.Ordering.{is_lt};
 ghost use Rattle.nc_types.specs.Cidr.{Cidr};
@@ -9,6 +9,7 @@ ghost use Rattle.nc_tables.specs.Base.{prefix_cmp};
 ghost use Rattle.nc_policy.specs.Placing.{prefix_place_at};
 ghost use Rattle.nc_policy.specs.declared.prefix_places.PlacedPrefix.{PlacedPrefix};
 
+use nc_tables::Numbered;
 use nc_types::Prefix;
 use std::alloc::AllocError;
 use std::marker::Model;
@@ -48,6 +49,20 @@ fn place_from(items: &[PlacedPrefix], prefix: Prefix) -> usize
     items.partition_point(|placed| placed.prefix < prefix)
 }
 
+// The place that the item of a prefix's number has, if this is the first item of the prefix.
+fn place_by_number(items: &[PlacedPrefix], of: Numbered) -> Option<usize>
+    requires { IsSortedByKey (λ x. x.prefix) prefix_cmp items.now }
+    ensures { IfSome result (λ place. Some place ≡ prefix_place_at of.prefix items.now) }
+{
+    let placed = items.get(of.number)?;
+    let is_first = of.number == 0 || items[of.number - 1].prefix < of.prefix;
+    if is_first && placed.prefix == of.prefix {
+        Some(placed.place)
+    } else {
+        None
+    }
+}
+
 impl PrefixPlaces {
     /// The table of these places, of which only the first of each prefix is kept. It takes no more
     /// memory than they need.
@@ -75,5 +90,18 @@ impl PrefixPlaces {
         } else {
             None
         }
+    }
+
+    /// The same of a prefix with a number. Where the number is its place in the table nothing is
+    /// searched; any other number does too.
+    pub(crate) fn get_near(&self, of: Numbered) -> Option<usize>
+        ensures { result ≡ prefix_place_at of.prefix self.now }
+    {
+        let prefix = of.prefix;
+        let found = place_by_number(&self.items, of);
+        if found.is_some() {
+            return found;
+        }
+        self.get(prefix)
     }
 }

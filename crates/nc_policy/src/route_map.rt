@@ -12,7 +12,7 @@ use crate::lists::place_number;
 use crate::router_index::RouterIndex;
 use crate::setting::set_by;
 use nc_community::Held;
-use nc_tables::{Place, Route};
+use nc_tables::{Numbered, Place, Route};
 use nc_types::RouterConfig;
 use std::alloc::{AllocError, Global};
 
@@ -51,7 +51,11 @@ pub(crate) fn judge(
 {
     let held = Held::of(&route.communities);
     let first = first_clause(config, index, map);
-    let Some(found) = deciding(config, index, map, first, route.prefix, &held) else {
+    let of = Numbered {
+        prefix: route.prefix,
+        number: 0,
+    };
+    let Some(found) = deciding(config, index, map, first, of, &held) else {
         return Ok(Verdict::Deny);
     };
     if !found.clause.permit {

@@ -9,6 +9,7 @@ ghost use Rattle.nc_policy.specs.Indexes.{placed_in};
 ghost use Rattle.nc_policy.specs.Seen.{prefix_table, IsPrefixIndex};
 
 use crate::prefix_places::{PlacedPrefix, PrefixPlaces};
+use nc_tables::Numbered;
 use nc_types::{AggregateStatement, NetworkStatement, Prefix, RouterConfig};
 use std::alloc::{AllocError, Global};
 
@@ -102,5 +103,12 @@ impl PrefixIndex {
         ensures { result ≡ placed_in (prefix_table self.now) prefix }
     {
         self.first.get(prefix)
+    }
+
+    /// The same of a prefix with a number, which is looked for at its number first.
+    pub(crate) fn place_near(&self, of: Numbered) -> Option<usize>
+        ensures { result ≡ placed_in (prefix_table self.now) of.prefix }
+    {
+        self.first.get_near(of)
     }
 }

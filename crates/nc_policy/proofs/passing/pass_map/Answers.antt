@@ -15,23 +15,23 @@ pub returns-in_err-found-clause-passed : goal.returns-in_err-found-clause-passed
 returns-in_err-found-clause-passed c = λ r p l h.
     let config = config_view c.args.config.now in
     ap (option_map (passing_view r)) c.from_residual.ensures
-    ∙ ap passed_by (undecided config c.args.map.now r (c.in_err-found.ensures.deciding ∙ decides_alike config r c.args.prefix c.args.held.now p h c.args.map.now))
+    ∙ ap passed_by (undecided config c.args.map.now r (c.in_err-found.ensures.deciding ∙ decides_alike config r c.args.of.prefix c.args.held.now p h c.args.map.now))
 
 pub returns-then-not-found-clause-passed : goal.returns-then-not-found-clause-passed
 returns-then-not-found-clause-passed c = λ r p l h.
     let config = config_view c.args.config.now in
     let found = c.in_ok-found.found in
     ap passed_by (denied config c.args.map.now r (candidate_view found) found.names
-    (c.in_ok-found.ensures.deciding ∙ decides_alike config r c.args.prefix c.args.held.now p h c.args.map.now)
-    (c.in_ok-found.ensures.candidate.names ∙ names_alike config r c.args.prefix c.args.held.now p h (clause_view found.clause.now)) c.if-not-found.true)
+    (c.in_ok-found.ensures.deciding ∙ decides_alike config r c.args.of.prefix c.args.held.now p h c.args.map.now)
+    (c.in_ok-found.ensures.candidate.names ∙ names_alike config r c.args.of.prefix c.args.held.now p h (clause_view found.clause.now)) c.if-not-found.true)
 
 pub returns-then-len-count-clause-passed : goal.returns-then-len-count-clause-passed
 returns-then-len-count-clause-passed c = λ r p l h.
     let config = config_view c.args.config.now in
     let found = c.in_ok-found.found in
     ap passed_by (permitted config c.args.map.now r (candidate_view found) found.names
-    (c.in_ok-found.ensures.deciding ∙ decides_alike config r c.args.prefix c.args.held.now p h c.args.map.now)
-    (c.in_ok-found.ensures.candidate.names ∙ names_alike config r c.args.prefix c.args.held.now p h (clause_view found.clause.now)) c.if-not-found.false
+    (c.in_ok-found.ensures.deciding ∙ decides_alike config r c.args.of.prefix c.args.held.now p h c.args.map.now)
+    (c.in_ok-found.ensures.candidate.names ∙ names_alike config r c.args.of.prefix c.args.held.now p h (clause_view found.clause.now)) c.if-not-found.false
     None (too_long (clause_view found.clause.now) r c.args.count l (let more : PATH_LIMIT - c.args.count < length found.clause.now.prepend.items = omega arith in more)))
 
 pub place_number-requires : goal.place_number-requires
@@ -42,8 +42,8 @@ returns-then-not-fits-clause-passed c = λ r p l h.
     let config = config_view c.args.config.now in
     let found = c.in_ok-found.found in
     ap passed_by (permitted config c.args.map.now r (candidate_view found) found.names
-    (c.in_ok-found.ensures.deciding ∙ decides_alike config r c.args.prefix c.args.held.now p h c.args.map.now)
-    (c.in_ok-found.ensures.candidate.names ∙ names_alike config r c.args.prefix c.args.held.now p h (clause_view found.clause.now)) c.if-not-found.false
+    (c.in_ok-found.ensures.deciding ∙ decides_alike config r c.args.of.prefix c.args.held.now p h c.args.map.now)
+    (c.in_ok-found.ensures.candidate.names ∙ names_alike config r c.args.of.prefix c.args.held.now p h (clause_view found.clause.now)) c.if-not-found.false
     None (too_full (clause_view found.clause.now) r c.args.held.now h (sym c.fits.ensures ∙ c.if-not-fits.true)))
 
 pub returns-clause-passed : goal.returns-clause-passed
@@ -53,6 +53,6 @@ returns-clause-passed c = λ r p l h.
     let k = clause_view found.clause.now in
     ap (λ (n : ℕ). passed_by (Permit (set_by k r) n found.names)) c.place_number.ensures
     ∙ ap passed_by (permitted config c.args.map.now r (candidate_view found) found.names
-    (c.in_ok-found.ensures.deciding ∙ decides_alike config r c.args.prefix c.args.held.now p h c.args.map.now)
-    (c.in_ok-found.ensures.candidate.names ∙ names_alike config r c.args.prefix c.args.held.now p h k) c.if-not-found.false
+    (c.in_ok-found.ensures.deciding ∙ decides_alike config r c.args.of.prefix c.args.held.now p h c.args.map.now)
+    (c.in_ok-found.ensures.candidate.names ∙ names_alike config r c.args.of.prefix c.args.held.now p h k) c.if-not-found.false
     (Some (set_by k r)) (not_over k r c.args.count c.args.held.now l c.requires.few (let fits : length found.clause.now.prepend.items ≤ PATH_LIMIT - c.args.count = omega arith in fits) h (sym c.fits.ensures ∙ c.if-not-fits.false)))
