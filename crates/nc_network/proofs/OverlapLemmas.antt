@@ -1,5 +1,5 @@
 -- Prefixes that are inside others: those of the same length, and shorter ones.
-use Rattle.std.proofs.Common.{◌≡◌, ℕ, ◌+◌, ◌-◌, ◌*◌, ◌/◌, ◌<◌, ◌≤◌, Bool, true, false, cond, ◌&&◌, List, [], ◌∷◌, Option, Some, None, refl, sym, ap, ◌∙◌, inl, inr, arith}
+use Rattle.std.proofs.Common.{◌≡◌, ℕ, suc, length, get_or, IfSome, ◌+◌, ◌-◌, ◌*◌, ◌/◌, ◌<◌, ◌≤◌, Bool, true, false, cond, ◌&&◌, List, [], ◌∷◌, Option, Some, None, refl, sym, ap, ◌∙◌, inl, inr, arith}
 use Rattle.std.specs.Prelude.{nat_lt, nat_le, ◌==◌}
 use Rattle.std.specs.Option.{option_map, option_map_or}
 use Rattle.std.proofs.lemmas.Bool.{cases_Bool, cases_order, eq-eqb, ne_eqb, lt-ltb, le-ltb, le-leb, lt-leb, eqb-true, eqb-false}
@@ -8,8 +8,12 @@ use Rattle.std.proofs.lemmas.Nat.{pow_pos}
 use Rattle.std.proofs.lemmas.Bool.Decides.{nat_tests}
 use Rattle.nc_types.specs.Cidr.{Cidr, IsCidr, same_prefix}
 use Rattle.nc_types.specs.Masks.{size_of, network_of}
+use Rattle.nc_types.specs.Network.{up_of}
+use Rattle.nc_types.specs.declared.config.Interface.{Interface}
+use Rattle.nc_types.specs.declared.config.IfaceAddr.{IfaceAddr}
+use Rattle.std.specs.List.{filter_map, cons_option}
 use Rattle.nc_types.specs.Joining.{Clash, Used, before_or, is_before, earlier, earliest, is_inside}
-use Rattle.nc_network.specs.Steps.{merge, first_of_all, head_of, by_prefix, lower_line, lines_clash, in_length, in_shorter, same_pairs, AreCidrs}
+use Rattle.nc_network.specs.Steps.{merge, first_of_all, head_of, by_prefix, lower_line, lines_clash, in_length, in_shorter, same_pairs, used_of, AreCidrs, AreLong}
 use Rattle.nc_network.proofs.ClashOrder.{merge-none}
 use Rattle.nc_network.proofs.Clashes.{all-cons, all-both, all-same, all-none}
 use Rattle.nc_network.proofs.HeadLemmas.{or_same}
@@ -109,11 +113,27 @@ own-found r x all valid own =
     length-found r x.address.prefix.len x all valid (omega arith)
     ∙ ap (λ (base : ℕ). option_map (lines_clash r x.line) (head_of by_prefix (record { base = base; len = x.address.prefix.len }) all)) own.no_host_bits
 
--- no length, and one more
-pub shorter-none : (r : ℕ) (x : Used) (all : List Used) → first_of_all (in_shorter r 0 x) all ≡ None
-shorter-none r x all =
-    all-same (in_shorter r 0 x) (λ (y : Used). []) (λ y. ap (λ (t : Bool). earliest (cond (t && is_inside x.address.prefix y.address.prefix) (lines_clash r x.line y.line ∷ []) [])) (le-ltb y.address.prefix.len 0 (omega arith))) all
-    ∙ all-none all
+-- no length below that of every prefix, and one more
+pub shorter-none : (r n : ℕ) (x : Used) (all : List Used) → AreLong n all → (m : ℕ) → m ≤ n → first_of_all (in_shorter r m x) all ≡ None
+shorter-none r n x [] long m le = refl
+shorter-none r n x (y ∷ ys) long m le =
+    let far : n ≤ y.address.prefix.len = long.0 in
+    all-cons (in_shorter r m x) y ys ∙ ap (merge (earliest (in_shorter r m x y))) (shorter-none r n x ys long.1 m le)
+    ∙ ap (λ (t : Bool). merge (earliest (cond (t && is_inside x.address.prefix y.address.prefix) (lines_clash r x.line y.line ∷ []) [])) None) (le-ltb y.address.prefix.len m (omega arith))
+
+-- a length that no prefix of an interface that is up falls short of
+pub are_long : (n router : ℕ) (is : List Interface) → ((k : ℕ) (d : Interface) → k < length is → IfSome (up_of (get_or is k d)) (λ a. n ≤ a.prefix.len)) → AreLong n (filter_map (used_of router) is)
+are_long n router [] long = tt
+are_long n router (i ∷ is) long =
+    by (up_of i) (long 0 i (omega arith)) (are_long n router is (λ k d lt. long (suc k) d (omega arith)))
+  where
+    made : IfaceAddr → Used
+    made a = record { router = router; line = i.address_line; address = a }
+
+    by : (o : Option IfaceAddr) → IfSome o (λ a. n ≤ a.prefix.len) → AreLong n (filter_map (used_of router) is)
+        → AreLong n (cons_option (option_map made o) (filter_map (used_of router) is))
+    by None here rest = rest
+    by (Some a) here rest = (here, rest)
 
 pub shorter-more : (r len : ℕ) (x : Used) (all : List Used) → first_of_all (in_shorter r (len + 1) x) all ≡ merge (first_of_all (in_shorter r len x) all) (first_of_all (in_length r len x) all)
 shorter-more r len x all =

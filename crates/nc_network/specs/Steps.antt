@@ -1,5 +1,5 @@
 -- The words of the search's steps.
-use Rattle.std.specs.Prelude.{◌≡◌, ℕ, ◌<◌, Bool, true, false, nat_lt, nat_le, ◌==◌, ◌&&◌, Option, Some, None, List, [], ◌∷◌, ◌++◌, map, length, if◌then◌else◌}
+use Rattle.std.specs.Prelude.{◌≡◌, ℕ, ◌<◌, ◌≤◌, Bool, true, false, nat_lt, nat_le, ◌==◌, ◌&&◌, Option, Some, None, List, [], ◌∷◌, ◌++◌, map, length, if◌then◌else◌}
 use Rattle.std.specs.List.{flat_map, list_any}
 use Rattle.std.specs.Map.{lookup}
 use Rattle.std.specs.Option.{option_map, option_map_or}
@@ -134,3 +134,8 @@ shorter_pairs router all x = flat_map (in_shorter router x.address.prefix.len x)
 abbrev pub AreCidrs : List Used → Type 0
 AreCidrs [] = Unit {0}
 AreCidrs (x ∷ xs) = IsCidr x.address.prefix.base x.address.prefix.len × AreCidrs xs
+
+-- no prefix is shorter than this
+abbrev pub AreLong : ℕ → List Used → Type 0
+AreLong n [] = Unit {0}
+AreLong n (x ∷ xs) = (n ≤ x.address.prefix.len) × AreLong n xs

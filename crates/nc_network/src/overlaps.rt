@@ -1,15 +1,16 @@
 //! Two interfaces of one router that are up, one prefix inside the other.
 
-ghost use Rattle.std.specs.Prelude.{◌≡◌, ◌≤◌, ◌++◌, [], List, length, map, OnOk, IfOk};
+ghost use Rattle.std.specs.Prelude.{◌≡◌, ◌≤◌, ◌++◌, ℕ, [], List, length, map, IfSome, OnOk, IfOk};
 ghost use Rattle.std.specs.List.{filter_map, flat_map};
 ghost use Rattle.std.specs.Map.{lookup};
 ghost use Rattle.std.specs.Option.{option_map, option_to_list};
 ghost use Rattle.nc_types.specs.declared.TheConstants.{ROUTER_LIMIT};
 ghost use Rattle.nc_types.specs.Config.{config_view};
+ghost use Rattle.nc_types.specs.Network.{up_of};
 ghost use Rattle.nc_types.specs.Joining.{Used, earliest, with_later, overlapping, overlaps};
 ghost use Rattle.nc_network.specs.Steps.{merge, first_of_all, used_of, Heads, Notes, by_prefix};
 ghost use Rattle.nc_network.specs.Steps.{lines_clash, in_shorter, same_pairs, shorter_pairs};
-ghost use Rattle.nc_network.specs.Steps.{AreCidrs};
+ghost use Rattle.nc_network.specs.Steps.{AreCidrs, AreLong};
 
 use crate::clash::{LinePair, earlier_of};
 use indexmap::IndexMap;
@@ -117,16 +118,39 @@ fn note_all(
     Ok(found)
 }
 
-// Looks up the shorter prefixes that a prefix is inside of.
+// The length of the prefix of an interface that is up; the greatest one of another.
+fn length_of(interface: &Interface) -> u8
+    ensures { IfSome (up_of interface.now) (λ a. result ≡ a.prefix.len) }
+{
+    match interface.up() {
+        None => 32,
+        Some(address) => address.prefix.len(),
+    }
+}
+
+// A length that no prefix of an interface that is up falls short of.
+fn least_length(interfaces: &[Interface]) -> u8
+    ensures { (router : ℕ) → AreLong result (filter_map (used_of router) interfaces.now) }
+{
+    let mut least = 32;
+    'interfaces: for interface in interfaces {
+        least = length_of(interface).min(least);
+    }
+    least
+}
+
+// Looks up the shorter prefixes that a prefix is inside of, of the lengths from the least one on that
+// any has.
 fn find_shorter(
     heads: &IndexMap<Prefix, u32>,
     router: u32,
+    least: u8,
     address: IfaceAddr,
     line: u32,
     found: Option<LinePair>,
 ) -> Option<LinePair>
     ensures { (all : List Used) → Heads by_prefix heads.now.entries all → AreCidrs all
-        → result ≡ merge found
+        → AreLong least all → result ≡ merge found
         (first_of_all
         (in_shorter router address.prefix.len
         (record { router = router; line = line; address = address })) all) }
@@ -134,7 +158,7 @@ fn find_shorter(
     let mut found = found;
     let own = address.prefix.len();
     let base = address.prefix.addr();
-    'lengths: for len in 0..own {
+    'lengths: for len in least.min(own)..own {
         found = find(heads, Prefix::around(base, len), router, line, found);
     }
     found
@@ -144,16 +168,19 @@ fn find_shorter(
 fn find_one(
     heads: &IndexMap<Prefix, u32>,
     router: u32,
+    least: u8,
     interface: &Interface,
     found: Option<LinePair>,
 ) -> Option<LinePair>
     ensures { (all : List Used) → Heads by_prefix heads.now.entries all → AreCidrs all
-        → result ≡ merge found
+        → AreLong least all → result ≡ merge found
         (first_of_all (shorter_pairs router all) (option_to_list (used_of router interface.now))) }
 {
     match interface.up() {
         None => found,
-        Some(address) => find_shorter(heads, router, address, interface.address_line, found),
+        Some(address) => {
+            find_shorter(heads, router, least, address, interface.address_line, found)
+        }
     }
 }
 
@@ -161,16 +188,17 @@ fn find_one(
 fn find_all(
     heads: &IndexMap<Prefix, u32>,
     router: u32,
+    least: u8,
     interfaces: &[Interface],
     found: Option<LinePair>,
 ) -> Option<LinePair>
     ensures { (all : List Used) → Heads by_prefix heads.now.entries all → AreCidrs all
-        → result ≡ merge found
+        → AreLong least all → result ≡ merge found
         (first_of_all (shorter_pairs router all) (filter_map (used_of router) interfaces.now)) }
 {
     let mut found = found;
     'interfaces: for item in interfaces {
-        found = find_one(heads, router, item, found);
+        found = find_one(heads, router, least, item, found);
     }
     found
 }
@@ -188,7 +216,8 @@ fn find_in(
 {
     let mut heads = IndexMap::new(alloc);
     let found = note_all(&mut heads, router, interfaces, found)?;
-    let found = find_all(&heads, router, interfaces, found);
+    let least = least_length(interfaces);
+    let found = find_all(&heads, router, least, interfaces, found);
     Ok(found)
 }
 
