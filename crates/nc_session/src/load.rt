@@ -17,7 +17,7 @@ ghost use Rattle.nc_session.specs.Causes.{TakesOfEntered, TakesOfFiles, IsInTurn
 ghost use Rattle.nc_session.specs.Loading.{IsOne, IsFileOf, AddsOne, AddsFile, IsEach, AreBeside, AreFilesNamed, IsJoined, IsLoad, IsConfigured, joining_fault, HasCauseOf};
 
 use crate::FILE_LIMIT;
-use crate::reading::read_file;
+use crate::reading::{PIECE, read_file};
 use crate::refusal::{LoadFault, Quantity, Reason};
 use nc_lines::split::split_lines;
 use nc_network::{JoinFault, join};
@@ -92,6 +92,7 @@ fn load_file<F: Files>(
     names: &[String],
     place: usize,
     files: &mut F,
+    buffer: &mut [u8; PIECE],
 ) -> Result<FileRead, LoadFault>
     requires { place < length names.now }
     ensures files { F.files files.new ≡ F.files files.old }
@@ -117,7 +118,7 @@ fn load_file<F: Files>(
     let Ok(()) = files.enter(names[place].as_str()) else {
         return Err(LoadFault::Outside);
     };
-    let bytes = read_file(alloc, files)?;
+    let bytes = read_file(alloc, files, buffer)?;
     if bytes.len() > FILE_LIMIT {
         return Err(LoadFault::Over(Quantity::Bytes));
     }
@@ -130,6 +131,7 @@ fn add_file<F: Files>(
     names: &[String],
     place: usize,
     files: &mut F,
+    buffer: &mut [u8; PIECE],
     each: &mut FilesRead,
 ) -> Result<(), LoadFault>
     requires { place < length names.now }
@@ -159,7 +161,7 @@ fn add_file<F: Files>(
     ensures takes { TakesOfEntered (F.files files.old) (F.entered files.new) (F.left files.new) }
     ensures in_time { IsInTime (F.end files.old) (F.end files.new) }
 {
-    let one = load_file(alloc, names, place, files)?;
+    let one = load_file(alloc, names, place, files, buffer)?;
     each.files.push(one.file)?;
     each.configs.push(one.config)?;
     Ok(())
@@ -198,8 +200,9 @@ fn load_each<F: Files>(
         files: Vec::new(alloc),
         configs: Vec::new(alloc),
     };
+    let mut buffer = [0u8; PIECE];
     'names: for place in 0..names.len() {
-        match add_file(alloc, names, place, files, &mut each) {
+        match add_file(alloc, names, place, files, &mut buffer, &mut each) {
             Ok(()) => {}
             Err(fault) => return Err(fault),
         }

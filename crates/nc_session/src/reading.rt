@@ -9,8 +9,8 @@ use crate::FILE_LIMIT;
 use nc_outside::{Failed, Files};
 use std::alloc::{AllocError, AllocFailed, Global};
 
-// How many bytes a read asks for at most.
-const PIECE: usize = 8192;
+/// How many bytes a read asks for at most.
+pub(crate) const PIECE: usize = 8192;
 
 /// Why work stopped before its end.
 #[derive(Clone, Copy, PartialEq, Eq)]
@@ -45,8 +45,12 @@ impl<T: Drop> From<AllocFailed<T>> for Stop {
     }
 }
 
-// One read from the entered file.
-fn read_piece<F: Files>(files: &mut F, bytes: &mut Vec<u8>) -> Result<usize, Stop>
+// One read from the entered file, through a buffer whose bytes before say nothing.
+fn read_piece<F: Files>(
+    files: &mut F,
+    buffer: &mut [u8; PIECE],
+    bytes: &mut Vec<u8>,
+) -> Result<usize, Stop>
     requires { length bytes.old.items ≤ most_file_bytes }
     ensures files { F.files files.new ≡ F.files files.old }
     ensures entered { F.entered files.new ≡ F.entered files.old }
@@ -60,15 +64,19 @@ fn read_piece<F: Files>(files: &mut F, bytes: &mut Vec<u8>) -> Result<usize, Sto
         → IfOk result (λ count. count ≢ 0 → (F.end files.new).is_told ≡ false) }
     ensures cause { HasStopCause (F.faults files.old) (F.faults files.new) result }
 {
-    let mut buffer = [0u8; PIECE];
     let room = PIECE.min(FILE_LIMIT + 1 - bytes.len());
     let count = files.read(&mut buffer[..room])?;
     bytes.extend_from_slice(&buffer[..count])?;
     Ok(count)
 }
 
-/// The bytes of the entered file, or one byte more than the limit. No read comes behind its end.
-pub(crate) fn read_file<F: Files>(alloc: Global, files: &mut F) -> Result<Vec<u8>, Stop>
+/// The bytes of the entered file, or one byte more than the limit. No read comes behind its end. They
+/// come through a buffer that serves all files, whose bytes before say nothing.
+pub(crate) fn read_file<F: Files>(
+    alloc: Global,
+    files: &mut F,
+    buffer: &mut [u8; PIECE],
+) -> Result<Vec<u8>, Stop>
     ensures files { F.files files.new ≡ F.files files.old }
     ensures entered { F.entered files.new ≡ F.entered files.old }
     ensures entries { F.entries files.new ≡ F.entries files.old }
@@ -80,7 +88,7 @@ pub(crate) fn read_file<F: Files>(alloc: Global, files: &mut F) -> Result<Vec<u8
 {
     let mut bytes = Vec::new(alloc);
     'reading: while bytes.len() <= FILE_LIMIT {
-        if read_piece(files, &mut bytes)? == 0 {
+        if read_piece(files, buffer, &mut bytes)? == 0 {
             // a file is kept to the end of the run, but not the room that reading has left over
             bytes.shrink_to_fit();
             return Ok(bytes);
