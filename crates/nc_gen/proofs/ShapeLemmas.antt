@@ -1,10 +1,10 @@
 -- The routers and the links of a tree by their numbers.
-use Rattle.std.proofs.Common.{◌≡◌, ℕ, ◌+◌, ◌-◌, ◌*◌, ◌/◌, ◌%◌, ◌<◌, ◌≤◌, Bool, true, false, cond, nat_lt, map, refl, sym, subst, arith, inl, inr}
-use Rattle.std.proofs.lemmas.Bool.Decides.{eqb_tells, nat_tests}
+use Rattle.std.proofs.Common.{◌≡◌, ℕ, ◌+◌, ◌-◌, ◌*◌, ◌/◌, ◌%◌, ◌<◌, ◌≤◌, Bool, true, false, cond, nat_lt, map, refl, sym, subst, arith}
+use Rattle.std.proofs.lemmas.Bool.Decides.{nat_tests}
 use Rattle.std.proofs.lemmas.Nat.{div-add-mod'}
 use Rattle.nc_gen.specs.declared.tree.Tree.{Tree}
 use Rattle.nc_gen.specs.declared.tree.Router.TheVariants.{Core, Aggregation, Edge}
-use Rattle.nc_gen.specs.Tree.{is_size, tree_of, below, routers, links}
+use Rattle.nc_gen.specs.Tree.{tree_of, below, routers, links}
 use Rattle.nc_gen.proofs.Sizes.{sizes}
 use Rattle.nc_gen.specs.Shape.{IsTree, IsNumbered, router_count, link_count, router_at, pod_router_at, link_at}
 

@@ -13,6 +13,9 @@ use crate::tree::{Router, Tree};
 use nc_types::Addr;
 use std::alloc::{AllocError, Global};
 
+// Room for the text of a file of a small tree; a longer one grows.
+const FILE_ROOM: usize = 1024;
+
 // The masks of links and of local networks.
 const LINK_MASK: &str = "255.255.255.252";
 
@@ -154,7 +157,7 @@ pub(crate) fn config_text(
     requires name { name.now ≡ name_of router }
     ensures { IfOk result (λ text. text.items ≡ text_of (config_lines tree router ports.now)) }
 {
-    let mut out = Vec::new(alloc);
+    let mut out = Vec::with_capacity(alloc, FILE_ROOM)?;
     let hostname = hostname_line(alloc, name)?;
     push_line(&mut out, hostname.as_bytes())?;
     push_ports(alloc, &mut out, ports)?;

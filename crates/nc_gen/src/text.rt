@@ -7,6 +7,10 @@ use crate::ports::{Port, system_of};
 use crate::tree::Router;
 use nc_types::Addr;
 use std::alloc::{AllocError, Global};
+use std::fmt::Write;
+
+// Room for a line: none that is written here is longer.
+const LINE_ROOM: usize = 64;
 
 /// Appends a line.
 #[tactic(auto, unfolding(crate::specs::Files::text_of))]
@@ -43,7 +47,9 @@ pub(crate) fn file_name(alloc: Global, name: &str) -> Result<String, AllocError>
 pub(crate) fn hostname_line(alloc: Global, name: &str) -> Result<String, AllocError>
     ensures { IfOk result (λ line. string_bytes line ≡ hostname_line name.now) }
 {
-    format!(in alloc; "hostname {name}")
+    let mut line = String::with_capacity(alloc, LINE_ROOM)?;
+    write!(line, "hostname {name}")?;
+    Ok(line)
 }
 
 /// The line that opens the interface of a place.
@@ -51,7 +57,9 @@ pub(crate) fn hostname_line(alloc: Global, name: &str) -> Result<String, AllocEr
 pub(crate) fn interface_line(alloc: Global, place: usize) -> Result<String, AllocError>
     ensures { IfOk result (λ line. string_bytes line ≡ interface_line place) }
 {
-    format!(in alloc; "interface Ethernet{place}")
+    let mut line = String::with_capacity(alloc, LINE_ROOM)?;
+    write!(line, "interface Ethernet{place}")?;
+    Ok(line)
 }
 
 /// The line that gives an interface its address.
@@ -60,7 +68,9 @@ pub(crate) fn address_line(alloc: Global, addr: Addr, mask: &str) -> Result<Stri
     ensures { IfOk result (λ line. string_bytes line ≡ address_line addr.0 mask.now) }
 {
     let addr = addr.dotted(alloc)?;
-    format!(in alloc; " ip address {addr} {mask}")
+    let mut line = String::with_capacity(alloc, LINE_ROOM)?;
+    write!(line, " ip address {addr} {mask}")?;
+    Ok(line)
 }
 
 /// The line that has a local network routed.
@@ -69,7 +79,9 @@ pub(crate) fn network_line(alloc: Global, start: Addr) -> Result<String, AllocEr
     ensures { IfOk result (λ line. string_bytes line ≡ network_line start.0) }
 {
     let start = start.dotted(alloc)?;
-    format!(in alloc; " network {start} mask 255.255.255.0")
+    let mut line = String::with_capacity(alloc, LINE_ROOM)?;
+    write!(line, " network {start} mask 255.255.255.0")?;
+    Ok(line)
 }
 
 /// The line that opens the BGP process of a router.
@@ -79,7 +91,9 @@ pub(crate) fn system_line(alloc: Global, number: u32) -> Result<String, AllocErr
     ensures { IfOk result (λ line. string_bytes line ≡ system_line number) }
 {
     let system = system_of(number);
-    format!(in alloc; "router bgp {system}")
+    let mut line = String::with_capacity(alloc, LINE_ROOM)?;
+    write!(line, "router bgp {system}")?;
+    Ok(line)
 }
 
 /// The line that has so many paths used at once.
@@ -87,7 +101,9 @@ pub(crate) fn system_line(alloc: Global, number: u32) -> Result<String, AllocErr
 pub(crate) fn paths_line(alloc: Global, most: u32) -> Result<String, AllocError>
     ensures { IfOk result (λ line. string_bytes line ≡ paths_line most) }
 {
-    format!(in alloc; " maximum-paths {most}")
+    let mut line = String::with_capacity(alloc, LINE_ROOM)?;
+    write!(line, " maximum-paths {most}")?;
+    Ok(line)
 }
 
 /// The line of a neighbor at the other end of a port.
@@ -97,7 +113,9 @@ pub(crate) fn neighbor_line(alloc: Global, port: Port) -> Result<String, AllocEr
 {
     let peer = port.peer.dotted(alloc)?;
     let system = port.peer_system;
-    format!(in alloc; " neighbor {peer} remote-as {system}")
+    let mut line = String::with_capacity(alloc, LINE_ROOM)?;
+    write!(line, " neighbor {peer} remote-as {system}")?;
+    Ok(line)
 }
 
 /// The test that an address is reached from the first edge router by some path.
@@ -106,7 +124,9 @@ pub(crate) fn reach_line(alloc: Global, addr: Addr) -> Result<String, AllocError
     ensures { IfOk result (λ line. string_bytes line ≡ reach_line addr.0) }
 {
     let addr = addr.dotted(alloc)?;
-    format!(in alloc; "reach e0_0 {addr}")
+    let mut line = String::with_capacity(alloc, LINE_ROOM)?;
+    write!(line, "reach e0_0 {addr}")?;
+    Ok(line)
 }
 
 /// The test that it is reached by every path.
@@ -115,5 +135,7 @@ pub(crate) fn every_line(alloc: Global, addr: Addr) -> Result<String, AllocError
     ensures { IfOk result (λ line. string_bytes line ≡ every_line addr.0) }
 {
     let addr = addr.dotted(alloc)?;
-    format!(in alloc; "every e0_0 {addr}")
+    let mut line = String::with_capacity(alloc, LINE_ROOM)?;
+    write!(line, "every e0_0 {addr}")?;
+    Ok(line)
 }
