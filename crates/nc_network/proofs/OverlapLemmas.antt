@@ -15,7 +15,7 @@ use Rattle.std.specs.List.{filter_map, cons_option}
 use Rattle.nc_types.specs.Joining.{Clash, Used, before_or, is_before, earlier, earliest, is_inside}
 use Rattle.nc_network.specs.Steps.{merge, first_of_all, head_of, by_prefix, lower_line, lines_clash, in_length, in_shorter, same_pairs, used_of, AreCidrs, AreLong}
 use Rattle.nc_network.proofs.ClashOrder.{merge-none}
-use Rattle.nc_network.proofs.Clashes.{all-cons, all-both, all-same, all-none}
+use Rattle.nc_network.proofs.Clashes.{all-cons, all-both}
 use Rattle.nc_network.proofs.HeadLemmas.{or_same}
 
 -- ---- two lines of one router

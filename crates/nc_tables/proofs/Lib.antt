@@ -17,7 +17,6 @@ pub mod RowCount
 pub mod Ordered
 pub mod Owner
 mod ByLevels
-pub mod EachSame
 pub mod SamePath
 mod Remainders
 mod PieceBits

@@ -43,14 +43,11 @@ impl Piece {
         }
     }
 
-    // Whether it has the same numbers, those behind it aside. All are compared at once: one test of
-    // them costs less than eight.
+    // Whether it has the same numbers, those behind it aside.
     fn is_like(&self, other: &Piece) -> bool
         ensures { IsTrue result ↔ (own_numbers self.now ≡ own_numbers other.now) }
     {
-        let [a, b, c, d, e, f, g, h] = self.numbers;
-        let [i, j, k, l, m, n, o, p] = other.numbers;
-        (a == i) & (b == j) & (c == k) & (d == l) & (e == m) & (f == n) & (g == o) & (h == p)
+        self.numbers == other.numbers
     }
 }
 

@@ -1,4 +1,4 @@
-use Rattle.std.proofs.Common.{◌≡◌, ◌<◌, ◌≤◌, ◌-◌, ◌∙◌, ℕ, true, false, sym, length, get_or, arith, rules}
+use Rattle.std.proofs.Common.{◌≡◌, ◌<◌, ◌-◌, ◌∙◌, ℕ, true, false, length, get_or, arith, rules}
 use Rattle.std.specs.Ordering.{is_lt}
 use Rattle.nc_types.specs.Cidr.{same_prefix}
 use Rattle.nc_tables.specs.Base.{prefix_cmp}
