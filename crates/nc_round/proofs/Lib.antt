@@ -1,5 +1,6 @@
 pub mod KeyOrder
 pub mod Lists
+pub mod OfRouter
 pub mod NumberedRows
 pub mod Alike
 pub mod NextRows

@@ -1,5 +1,6 @@
 pub mod Keys
 pub mod Rows
+pub mod Parts
 pub mod Next
 pub mod Waking
 pub mod Changes

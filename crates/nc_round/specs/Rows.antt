@@ -1,6 +1,5 @@
 -- Rows by their router and by the numbers of their prefixes.
 use Rattle.std.specs.Prelude.{List, All, map}
-use Rattle.std.specs.Global.{Vec}
 use Rattle.nc_types.specs.Cidr.{Cidr}
 use Rattle.nc_types.specs.declared.config.RouterId.{RouterId}
 use Rattle.nc_tables.specs.declared.ribs.Numbered.{Numbered}
@@ -23,8 +22,8 @@ AreRows prefixes rows = All (λ r. IsNumbered prefixes r.of) rows
 abbrev pub prefixes_of : List Numbered → List Cidr
 prefixes_of ns = map (λ n. n.prefix) ns
 
-abbrev pub listed : List (Vec Numbered) → List (List Cidr)
-listed lists = map (λ l. prefixes_of l.items) lists
+abbrev pub listed : List (List Numbered) → List (List Cidr)
+listed lists = map prefixes_of lists
 
-abbrev pub AreListed : List Cidr → List (Vec Numbered) → Type 0
-AreListed prefixes lists = All (λ l. All (IsNumbered prefixes) l.items) lists
+abbrev pub AreListed : List Cidr → List (List Numbered) → Type 0
+AreListed prefixes lists = All (All (IsNumbered prefixes)) lists

@@ -12,7 +12,7 @@ ghost use Rattle.nc_round.specs.Keys.{Key, key, AreInOrder};
 ghost use Rattle.nc_round.specs.Rows.{listed, numbered_row, prefixes_of, row_key, AreListed, AreRows};
 ghost use Rattle.nc_round.specs.Waking.{aggregates_of, begun_from, affected_over, woken_at, AreWoken, IsWoken};
 
-use crate::by_router::{by_router, changed_at};
+use crate::by_router::{ByRouter, by_router};
 use crate::changed::NumberedRow;
 use nc_decision::{NetworkPeerings, Peerings, add_counting};
 use nc_message::RoutingInputs;
@@ -40,7 +40,7 @@ fn add_affected(
     ribs: &LocRibs,
     router: RouterId,
     rows: &[SessionRow],
-    lists: &[Vec<Numbered>],
+    lists: &ByRouter,
 ) -> Result<(), AllocError>
     requires inputs { AreRoutingInputs inputs.now }
     requires peerings { ArePeerings inputs.now.network.now inputs.now.base.now
@@ -55,7 +55,7 @@ fn add_affected(
     ensures numbers { OnOk result (All (IsNumbered ribs.now.prefixes) noted.new.items) }
 {
     'rows: for row in rows {
-        let changed = changed_at(lists, row.peer);
+        let changed = lists.changed_at(row.peer);
         add_counting(noted, inputs, peerings, ribs, router, row.neighbor, changed)?;
     }
     Ok(())
@@ -140,7 +140,7 @@ fn wake(
     inputs: &RoutingInputs<'_>,
     all: &NetworkPeerings<'_>,
     ribs: &LocRibs,
-    lists: &[Vec<Numbered>],
+    lists: &ByRouter,
     router: RouterId,
 ) -> Result<(), AllocError>
     requires inputs { AreRoutingInputs inputs.now }
@@ -162,7 +162,7 @@ fn wake(
     let aggregates = aggregates_of(inputs.network, router);
     noted.clear();
     add_affected(noted, inputs, peerings, ribs, router, rows, lists)?;
-    add_around(noted, ribs, aggregates, changed_at(lists, router))?;
+    add_around(noted, ribs, aggregates, lists.changed_at(router))?;
     keep_once(noted);
     wake_each(woken, router, noted)?;
     Ok(())
@@ -174,7 +174,7 @@ fn woken(
     inputs: &RoutingInputs<'_>,
     all: &NetworkPeerings<'_>,
     ribs: &LocRibs,
-    lists: &[Vec<Numbered>],
+    lists: &ByRouter,
 ) -> Result<Vec<NumberedRow>, AllocError>
     requires inputs { AreRoutingInputs inputs.now }
     requires all { AreNetworkPeerings inputs.now.network.now inputs.now.base.now
@@ -213,6 +213,7 @@ pub(crate) fn woken_in_order(
     requires ribs { length ribs.now.rows ≡ length inputs.now.network.now }
     requires prefixes { ribs.now.prefixes ≡ prefixes inputs.now.network.now }
     requires numbers { AreRows ribs.now.prefixes changed.now }
+    requires ordered { AreInOrder (map row_key changed.now) }
     ensures woken { IfOk result (λ rows. (router : ℕ) (p : Cidr)
         → router < length inputs.now.network.now
         → (All (λ k. k.0.0 < length inputs.now.network.now) (map row_key changed.now))

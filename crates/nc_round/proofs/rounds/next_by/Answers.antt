@@ -1,6 +1,6 @@
 use Rattle.std.proofs.Common.{◌<◌, List, All, length, map, sym, subst}
 use Rattle.nc_round.specs.declared.changed.NumberedRow.{NumberedRow}
-use Rattle.nc_round.specs.Keys.{Key}
+use Rattle.nc_round.specs.Keys.{Key, AreInOrder}
 use Rattle.nc_round.specs.Renewing.{AreEnough}
 use Rattle.nc_round.specs.Rows.{row_key, AreRows}
 use Rattle.nc_round.specs.Waking.{AreWoken, IsWoken}
@@ -11,6 +11,9 @@ pub woken_in_order-requires-clause-ribs : goal.woken_in_order-requires-clause-ri
 woken_in_order-requires-clause-ribs c =
     let changed = map row_key c.args.changed.rows.items in
     table_count c.args.inputs c.requires.made.0 c.args.old.rows changed changed c.requires.inputs c.routers-routers.ensures.valid.each c.count-count.ensures.valid c.requires.made.1
+
+pub woken_in_order-requires-clause-ordered : goal.woken_in_order-requires-clause-ordered
+woken_in_order-requires-clause-ordered c = subst (λ (l : List NumberedRow). AreInOrder (map row_key l)) (sym c.deref.ensures.value) c.requires.made.1.difference.ordered
 
 pub renew-requires-clause-rows : goal.renew-requires-clause-rows
 renew-requires-clause-rows c =

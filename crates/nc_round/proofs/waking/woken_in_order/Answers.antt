@@ -1,4 +1,4 @@
-use Rattle.std.proofs.Common.{◌≡◌, ℕ, ◌<◌, ◌==◌, Bool, cond, not, Vec, Global, List, [], All, Contains, Option, Some, None, length, map, filter, slice_index_or, refl, sym, ap, subst, arith, inl, inr}
+use Rattle.std.proofs.Common.{◌≡◌, ℕ, ◌<◌, ◌==◌, Bool, cond, not, List, [], All, Contains, Option, Some, None, length, map, filter, slice_index_or, refl, sym, ap, subst, arith, inl, inr}
 use Rattle.std.specs.List.{flat_map, list_any}
 use Rattle.std.proofs.lemmas.Bool.{eq-eqb}
 use Rattle.std.proofs.lemmas.List.{length-map}
@@ -10,7 +10,6 @@ use Rattle.nc_tables.specs.declared.bgp.SessionRow.{SessionRow}
 use Rattle.nc_tables.specs.Rounds.{BgpRowView, is_longer_in}
 use Rattle.nc_decision.specs.BestPath.{leaves_best_path}
 use Rattle.nc_message.specs.declared.inputs.RoutingInputs.{RoutingInputs}
-use Rattle.nc_tables.specs.declared.ribs.Numbered.{Numbered}
 use Rattle.nc_round.specs.Rows.{listed, row_key}
 use Rattle.nc_round.specs.Keys.{Key, key}
 use Rattle.nc_round.specs.Waking.{aggregates_of, changed_at, affected_over, woken_at, IsAffectedByPeer, IsAround, IsWoken}
@@ -65,8 +64,7 @@ pub returns-clause-woken : goal.returns-clause-woken
 returns-clause-woken c router p lt within woken =
     let i = c.args.inputs.now in
     let network = i.network.now in
-    let lists : List (List Cidr) = listed c.deref.result.now in
+    let lists : List (List Cidr) = listed c.in_ok-lists.lists in
     let each : (r : ℕ) → r < length network → slice_index_or lists r [] ≡ changed_at (map row_key c.args.changed.now) r =
-    λ r less. subst (λ (ls : List (Vec Numbered Global)). slice_index_or (listed ls) r [] ≡ changed_at (map row_key c.args.changed.now) r) (sym c.deref.ensures.value)
-    (c.in_ok-lists.ensures.each r (omega (arith, length-map c.routers.result.now config_view, ap (length {A = ConfigView}) c.routers.ensures.routers))) in
+    λ r less. c.in_ok-lists.ensures.each r (omega (arith, length-map c.routers.result.now config_view, ap (length {A = ConfigView}) c.routers.ensures.routers)) in
     c.in_ok-rows.ensures.woken router p lt (is_woken i c.args.ribs.now.rows (map row_key c.args.changed.now) lists within each router p woken)
