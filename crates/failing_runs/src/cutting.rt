@@ -25,7 +25,21 @@ pub fn at_each_place(
     Ok(verdict)
 }
 
-// A session whose lines end so, read at once, byte by byte, line by line, and cut at each place.
+// A session that is read at once, byte by byte, line by line, and cut at each place.
+fn in_all_pieces(
+    alloc: Global,
+    trial: Trial<'_>,
+    wanted: Expectation<'_>,
+) -> Result<[Verdict; 4], AllocError> {
+    Ok([
+        Verdict::of(alloc, trial, wanted)?,
+        Verdict::of(alloc, trial.in_pieces(Pieces::Bytes), wanted)?,
+        Verdict::of(alloc, trial.in_pieces(Pieces::Lines), wanted)?,
+        at_each_place(alloc, trial, 1, wanted)?,
+    ])
+}
+
+// A session whose lines end so, in all pieces.
 fn with_line_ends(
     alloc: Global,
     example: &Example,
@@ -33,15 +47,12 @@ fn with_line_ends(
 ) -> Result<[Verdict; 4], AllocError> {
     let session = example.session(alloc, end)?;
     let replies = example.all_replies(alloc)?;
-    let wanted = Expectation::done(&replies);
     let network = example.network(alloc)?;
-    let trial = Trial::new(&network, &session);
-    Ok([
-        Verdict::of(alloc, trial, wanted)?,
-        Verdict::of(alloc, trial.in_pieces(Pieces::Bytes), wanted)?,
-        Verdict::of(alloc, trial.in_pieces(Pieces::Lines), wanted)?,
-        at_each_place(alloc, trial, 1, wanted)?,
-    ])
+    in_all_pieces(
+        alloc,
+        Trial::new(&network, &session),
+        Expectation::done(&replies),
+    )
 }
 
 // The rows of a session whose lines end so.

@@ -277,6 +277,9 @@ pub const QUESTIONS: Example = Example {
     writes: 11,
 };
 
+/// All examples, in the order of their rows.
+pub const EXAMPLES: [Example; 5] = [PAIR, SINGLE, ROUTE, WAYS, QUESTIONS];
+
 impl Example {
     /// The session, each line with this end.
     pub fn session(&self, alloc: Global, end: &[u8]) -> Result<Vec<u8>, AllocError> {

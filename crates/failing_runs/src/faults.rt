@@ -9,75 +9,74 @@ use nc_session::Status;
 use std::alloc::{AllocError, Global};
 
 // Each call of the files fails in turn, and then one behind the last, which is never made.
-fn file_calls(alloc: Global, example: &Example) -> Result<Verdict, AllocError> {
-    let session = example.session(alloc, b"\n")?;
-    let replies = example.all_replies(alloc)?;
-    let network = example.network(alloc)?;
-    let trial = Trial::new(&network, &session);
+fn file_calls(
+    alloc: Global,
+    example: &Example,
+    trial: Trial<'_>,
+    wanted: Expectation<'_>,
+) -> Result<Verdict, AllocError> {
     let mut verdict = Verdict::new();
     for number in 0..example.file_calls {
-        let wanted = Expectation::of(Status::FileFault, b"");
-        verdict = verdict.and(alloc, trial.where_fails(Failing::Files(number)), wanted)?;
+        let failed = Expectation::of(Status::FileFault, b"");
+        verdict = verdict.and(alloc, trial.where_fails(Failing::Files(number)), failed)?;
     }
     let behind = trial.where_fails(Failing::Files(example.file_calls));
-    verdict.and(alloc, behind, Expectation::done(&replies))
+    verdict.and(alloc, behind, wanted)
 }
 
 // Each read of a line fails in turn, and then one behind the last, which is never made: the lines
 // before are answered.
-fn reads(alloc: Global, example: &Example) -> Result<Verdict, AllocError> {
-    let session = example.session(alloc, b"\n")?;
-    let replies = example.all_replies(alloc)?;
-    let network = example.network(alloc)?;
-    let trial = Trial::new(&network, &session).in_pieces(Pieces::Lines);
+fn reads(
+    alloc: Global,
+    example: &Example,
+    trial: Trial<'_>,
+    wanted: Expectation<'_>,
+) -> Result<Verdict, AllocError> {
     let mut verdict = Verdict::new();
     for number in 0..example.reads {
         let answered = example.replies(alloc, number)?;
-        let wanted = Expectation::of(Status::InputFault, &answered);
+        let failed = Expectation::of(Status::InputFault, &answered);
         verdict = verdict.and(
             alloc,
             trial.where_fails(Failing::Read(number as u64)),
-            wanted,
+            failed,
         )?;
     }
     let behind = trial.where_fails(Failing::Read(example.reads as u64));
-    verdict.and(alloc, behind, Expectation::done(&replies))
+    verdict.and(alloc, behind, wanted)
 }
 
 // Each write of a reply fails in turn, and then one behind the last: the replies before stand
 // written.
-fn writes(alloc: Global, example: &Example) -> Result<Verdict, AllocError> {
-    let session = example.session(alloc, b"\n")?;
-    let replies = example.all_replies(alloc)?;
-    let network = example.network(alloc)?;
-    let trial = Trial::new(&network, &session).in_pieces(Pieces::Lines);
+fn writes(
+    alloc: Global,
+    example: &Example,
+    trial: Trial<'_>,
+    wanted: Expectation<'_>,
+) -> Result<Verdict, AllocError> {
     let mut verdict = Verdict::new();
     for number in 0..example.writes {
         let written = example.written(alloc, number)?;
-        let wanted = Expectation::of(Status::OutputFault, &written);
+        let failed = Expectation::of(Status::OutputFault, &written);
         verdict = verdict.and(
             alloc,
             trial.where_fails(Failing::Write(number as u64)),
-            wanted,
+            failed,
         )?;
     }
     let behind = trial.where_fails(Failing::Write(example.writes as u64));
-    verdict.and(alloc, behind, Expectation::done(&replies))
+    verdict.and(alloc, behind, wanted)
 }
 
 // The sink has room for no byte, for one, and so on up to all: what fits stands written.
-fn rooms(alloc: Global, example: &Example) -> Result<Verdict, AllocError> {
-    let session = example.session(alloc, b"\n")?;
-    let replies = example.all_replies(alloc)?;
-    let network = example.network(alloc)?;
-    let trial = Trial::new(&network, &session);
+fn rooms(alloc: Global, trial: Trial<'_>, wanted: Expectation<'_>) -> Result<Verdict, AllocError> {
     let mut verdict = Verdict::new();
-    for room in 0..replies.len() {
-        let wanted = Expectation::of(Status::OutputFault, replies.split_at(room).0);
-        verdict = verdict.and(alloc, trial.where_fails(Failing::Room(room)), wanted)?;
+    for room in 0..wanted.written.len() {
+        let failed = Expectation::of(Status::OutputFault, wanted.written.split_at(room).0);
+        verdict = verdict.and(alloc, trial.where_fails(Failing::Room(room)), failed)?;
     }
-    let whole = trial.where_fails(Failing::Room(replies.len()));
-    verdict.and(alloc, whole, Expectation::done(&replies))
+    let whole = trial.where_fails(Failing::Room(wanted.written.len()));
+    verdict.and(alloc, whole, wanted)
 }
 
 // With a run more, which reads its files or refuses one of them.
@@ -136,22 +135,38 @@ fn cut_files(alloc: Global, example: &Example) -> Result<Verdict, AllocError> {
     Ok(verdict)
 }
 
+// The rows of runs over an example of which a call fails.
+fn add_failing(
+    alloc: Global,
+    example: &Example,
+    trial: Trial<'_>,
+    wanted: Expectation<'_>,
+    rows: &mut Vec<Row>,
+) -> Result<(), AllocError> {
+    let over = example.name;
+    let by_lines = trial.in_pieces(Pieces::Lines);
+    let verdict = file_calls(alloc, example, trial, wanted)?;
+    rows.push(Row::new(over, "each call of the files fails", verdict))?;
+    let verdict = reads(alloc, example, by_lines, wanted)?;
+    rows.push(Row::new(over, "each read fails", verdict))?;
+    let verdict = writes(alloc, example, by_lines, wanted)?;
+    rows.push(Row::new(over, "each write fails", verdict))?;
+    let verdict = rooms(alloc, trial, wanted)?;
+    rows.push(Row::new(over, "room for fewer bytes", verdict))?;
+    let verdict = cut_files(alloc, example)?;
+    rows.push(Row::new(over, "a file cut at each place", verdict))?;
+    Ok(())
+}
+
 /// The rows of runs of which a call fails, or a file is cut.
 ///
 /// # Errors
 ///
 /// No memory for the rows or the objects of a run.
 pub fn add_faults(alloc: Global, example: &Example, rows: &mut Vec<Row>) -> Result<(), AllocError> {
-    let over = example.name;
-    let verdict = file_calls(alloc, example)?;
-    rows.push(Row::new(over, "each call of the files fails", verdict))?;
-    let verdict = reads(alloc, example)?;
-    rows.push(Row::new(over, "each read fails", verdict))?;
-    let verdict = writes(alloc, example)?;
-    rows.push(Row::new(over, "each write fails", verdict))?;
-    let verdict = rooms(alloc, example)?;
-    rows.push(Row::new(over, "room for fewer bytes", verdict))?;
-    let verdict = cut_files(alloc, example)?;
-    rows.push(Row::new(over, "a file cut at each place", verdict))?;
-    Ok(())
+    let session = example.session(alloc, b"\n")?;
+    let replies = example.all_replies(alloc)?;
+    let network = example.network(alloc)?;
+    let trial = Trial::new(&network, &session);
+    add_failing(alloc, example, trial, Expectation::done(&replies), rows)
 }

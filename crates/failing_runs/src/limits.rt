@@ -190,51 +190,98 @@ fn add_routers(alloc: Global, rows: &mut Vec<Row>) -> Result<(), AllocError> {
     Ok(())
 }
 
+// The row of a run over a single file.
+fn add_row(
+    alloc: Global,
+    rows: &mut Vec<Row>,
+    name: &'static str,
+    text: &[u8],
+    wanted: Expectation<'_>,
+) -> Result<(), AllocError> {
+    let verdict = over_file(alloc, text, wanted)?;
+    rows.push(Row::new("limits", name, verdict))?;
+    Ok(())
+}
+
+// A file of so many bytes.
+fn with_bytes(alloc: Global, count: usize) -> Result<Vec<u8>, AllocError> {
+    filled(alloc, b"hostname r1\n!", b'x', count)
+}
+
+// A file of so many lines.
+fn with_lines(alloc: Global, count: usize) -> Result<Vec<u8>, AllocError> {
+    repeated(alloc, b"hostname r1", b"\n!", count.saturating_sub(1))
+}
+
 // The rows on how large a file is.
 fn add_files(alloc: Global, rows: &mut Vec<Row>) -> Result<(), AllocError> {
     let done = Expectation::done(b"");
-    let mut text = filled(alloc, b"hostname r1\n!", b'x', BYTES)?;
-    let verdict = over_file(alloc, &text, done)?;
-    rows.push(Row::new("limits", "a file of 4,194,304 bytes", verdict))?;
-    text.push(b'x')?;
-    let verdict = over_file(alloc, &text, over_limit(b"refused limit bytes\n"))?;
-    rows.push(Row::new("limits", "a file of one byte more", verdict))?;
-    let mut text = repeated(alloc, b"hostname r1\n", b"!\n", LINES - 1)?;
-    let verdict = over_file(alloc, &text, done)?;
-    rows.push(Row::new("limits", "a file of 65,535 lines", verdict))?;
-    text.push(b'!')?;
-    let verdict = over_file(alloc, &text, over_limit(b"refused limit lines\n"))?;
-    rows.push(Row::new("limits", "a file of one line more", verdict))?;
-    Ok(())
+    let large = over_limit(b"refused limit bytes\n");
+    let long = over_limit(b"refused limit lines\n");
+    let name = "a file of 4,194,304 bytes";
+    add_row(alloc, rows, name, &with_bytes(alloc, BYTES)?, done)?;
+    let name = "a file of one byte more";
+    add_row(alloc, rows, name, &with_bytes(alloc, BYTES + 1)?, large)?;
+    let name = "a file of 65,535 lines";
+    add_row(alloc, rows, name, &with_lines(alloc, LINES)?, done)?;
+    let name = "a file of one line more";
+    add_row(alloc, rows, name, &with_lines(alloc, LINES + 1)?, long)
 }
 
 // The rows on how many prefixes there are.
 fn add_prefixes(alloc: Global, rows: &mut Vec<Row>) -> Result<(), AllocError> {
-    let text = with_routes(alloc, PREFIXES)?;
-    let verdict = over_file(alloc, &text, Expectation::done(b""))?;
-    rows.push(Row::new("limits", "1,024 prefixes", verdict))?;
-    let text = with_routes(alloc, PREFIXES + 1)?;
-    let verdict = over_file(alloc, &text, over_limit(b"refused limit prefixes\n"))?;
-    rows.push(Row::new("limits", "1,025 prefixes", verdict))?;
-    let text = with_networks(alloc, PREFIXES)?;
-    let verdict = over_file(alloc, &text, Expectation::done(b""))?;
-    rows.push(Row::new("limits", "1,024 networks", verdict))?;
-    let text = with_networks(alloc, PREFIXES + 1)?;
-    let verdict = over_file(alloc, &text, over_limit(b"refused limit prefixes\n"))?;
-    rows.push(Row::new("limits", "1,025 networks", verdict))?;
-    Ok(())
+    let done = Expectation::done(b"");
+    let past = over_limit(b"refused limit prefixes\n");
+    add_row(
+        alloc,
+        rows,
+        "1,024 prefixes",
+        &with_routes(alloc, PREFIXES)?,
+        done,
+    )?;
+    add_row(
+        alloc,
+        rows,
+        "1,025 prefixes",
+        &with_routes(alloc, PREFIXES + 1)?,
+        past,
+    )?;
+    add_row(
+        alloc,
+        rows,
+        "1,024 networks",
+        &with_networks(alloc, PREFIXES)?,
+        done,
+    )?;
+    add_row(
+        alloc,
+        rows,
+        "1,025 networks",
+        &with_networks(alloc, PREFIXES + 1)?,
+        past,
+    )
 }
 
 // The rows on how many neighbors there are.
 fn add_neighbors(alloc: Global, rows: &mut Vec<Row>) -> Result<(), AllocError> {
     let done = Expectation::done(b"");
     let past = over_limit(b"refused limit neighbours\n");
-    let text = with_neighbors(alloc, "r1", NEIGHBORS)?;
-    let verdict = over_file(alloc, &text, done)?;
-    rows.push(Row::new("limits", "1,024 neighbors", verdict))?;
-    let text = with_neighbors(alloc, "r1", NEIGHBORS + 1)?;
-    let verdict = over_file(alloc, &text, past)?;
-    rows.push(Row::new("limits", "1,025 neighbors", verdict))?;
+    let name = "1,024 neighbors";
+    add_row(
+        alloc,
+        rows,
+        name,
+        &with_neighbors(alloc, "r1", NEIGHBORS)?,
+        done,
+    )?;
+    let name = "1,025 neighbors";
+    add_row(
+        alloc,
+        rows,
+        name,
+        &with_neighbors(alloc, "r1", NEIGHBORS + 1)?,
+        past,
+    )?;
     let verdict = over_shared(alloc, 0, done)?;
     rows.push(Row::new("limits", "1,024 neighbors of 16 files", verdict))?;
     let verdict = over_shared(alloc, 1, past)?;

@@ -96,20 +96,42 @@ pub fn filled(alloc: Global, head: &[u8], fill: u8, size: usize) -> Result<Vec<u
     Ok(bytes)
 }
 
-// What comes of a session of a long line and one more: at once, byte by byte, and cut at places
-// near its end.
-fn judge(alloc: Global, line: &LongLine) -> Result<Verdict, AllocError> {
+// A long line and one more.
+fn session_of(alloc: Global, line: &LongLine) -> Result<Vec<u8>, AllocError> {
     let mut session = filled(alloc, line.head, line.fill, line.size)?;
     session.extend_from_slice(line.end)?;
     session.extend_from_slice(b"frob\n")?;
+    Ok(session)
+}
+
+// The replies to both.
+fn replies_to(alloc: Global, line: &LongLine) -> Result<Vec<u8>, AllocError> {
     let mut replies = line.reply.to_vec(alloc)?;
     replies.extend_from_slice(b"refused syntax\n")?;
-    let wanted = Expectation::done(&replies);
-    let network = SINGLE.network(alloc)?;
-    let trial = Trial::new(&network, &session);
+    Ok(replies)
+}
+
+// What comes of a session that is read at once, byte by byte, and cut at places near its end.
+fn near_its_end(
+    alloc: Global,
+    trial: Trial<'_>,
+    wanted: Expectation<'_>,
+) -> Result<Verdict, AllocError> {
     let cuts = at_each_place(alloc, trial, FIRST_CUT, wanted)?;
     let whole = cuts.and(alloc, trial, wanted)?;
     whole.and(alloc, trial.in_pieces(Pieces::Bytes), wanted)
+}
+
+// What comes of a session of a long line and one more.
+fn judge(alloc: Global, line: &LongLine) -> Result<Verdict, AllocError> {
+    let session = session_of(alloc, line)?;
+    let replies = replies_to(alloc, line)?;
+    let network = SINGLE.network(alloc)?;
+    near_its_end(
+        alloc,
+        Trial::new(&network, &session),
+        Expectation::done(&replies),
+    )
 }
 
 /// The rows on long lines.

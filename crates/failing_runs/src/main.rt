@@ -29,7 +29,7 @@ mod sets;
 pub mod steady;
 mod trial;
 
-use example::{Example, PAIR, QUESTIONS, ROUTE, SINGLE, WAYS};
+use example::{EXAMPLES, Example};
 use judging::Verdict;
 use nc_session::Status;
 use network::Network;
@@ -48,36 +48,48 @@ fn steady_row(alloc: Global, example: &Example) -> Result<Row, AllocError> {
     Ok(Row::new(example.name, "nothing can fail", verdict))
 }
 
-// All rows, in order.
-fn all_rows(rt: &HostRuntime) -> IoResult<Vec<Row>> {
+// The rows of runs over objects that can't fail.
+fn add_steady(alloc: Global, rows: &mut Vec<Row>) -> Result<(), AllocError> {
+    for example in &EXAMPLES {
+        rows.push(steady_row(alloc, example)?)?;
+    }
+    Ok(())
+}
+
+// The rows of the examples, whose sessions come in pieces.
+fn add_cutting(alloc: Global, rows: &mut Vec<Row>) -> Result<(), AllocError> {
+    for example in &EXAMPLES {
+        cutting::add_cutting(alloc, example, rows)?;
+    }
+    Ok(())
+}
+
+// The rows of the examples, of which calls fail.
+fn add_faults(alloc: Global, rows: &mut Vec<Row>) -> Result<(), AllocError> {
+    for example in &EXAMPLES {
+        faults::add_faults(alloc, example, rows)?;
+    }
+    Ok(())
+}
+
+// All rows, in order. They are lent, so that each row's want of memory leaves them as they are.
+fn add_rows(rt: &HostRuntime, rows: &mut Vec<Row>) -> IoResult<()> {
     let alloc = rt.alloc();
-    let mut rows = Vec::new(alloc);
-    rows.push(steady_row(alloc, &PAIR)?)?;
-    rows.push(steady_row(alloc, &SINGLE)?)?;
-    rows.push(steady_row(alloc, &ROUTE)?)?;
-    rows.push(steady_row(alloc, &WAYS)?)?;
-    rows.push(steady_row(alloc, &QUESTIONS)?)?;
-    cutting::add_cutting(alloc, &PAIR, &mut rows)?;
-    cutting::add_cutting(alloc, &SINGLE, &mut rows)?;
-    cutting::add_cutting(alloc, &ROUTE, &mut rows)?;
-    cutting::add_cutting(alloc, &WAYS, &mut rows)?;
-    cutting::add_cutting(alloc, &QUESTIONS, &mut rows)?;
-    faults::add_faults(alloc, &PAIR, &mut rows)?;
-    faults::add_faults(alloc, &SINGLE, &mut rows)?;
-    faults::add_faults(alloc, &ROUTE, &mut rows)?;
-    faults::add_faults(alloc, &WAYS, &mut rows)?;
-    faults::add_faults(alloc, &QUESTIONS, &mut rows)?;
-    ending::add_endings(alloc, &mut rows)?;
-    refusals::add_refusals(alloc, &mut rows)?;
-    lines::add_long_lines(alloc, &mut rows)?;
-    limits::add_limits(alloc, &mut rows)?;
-    adapters::add_adapters(rt, &mut rows)?;
+    add_steady(alloc, rows)?;
+    add_cutting(alloc, rows)?;
+    add_faults(alloc, rows)?;
+    ending::add_endings(alloc, rows)?;
+    refusals::add_refusals(alloc, rows)?;
+    lines::add_long_lines(alloc, rows)?;
+    limits::add_limits(alloc, rows)?;
+    adapters::add_adapters(rt, rows)?;
     rows.push(Row::new("communities", "sets in memory", sets::sets_are_made(alloc)?))?;
-    Ok(rows)
+    Ok(())
 }
 
 fn main(rt: HostRuntime) -> IoResult<ExitCode> {
-    let rows = all_rows(&rt)?;
+    let mut rows = Vec::new(rt.alloc());
+    add_rows(&rt, &mut rows)?;
     let mut failed: usize = 0;
     for row in &rows {
         println!(rt; "{row}")?;

@@ -60,6 +60,14 @@ pub struct Ran {
     pub written: Vec<u8>,
 }
 
+impl Ran {
+    // A run that ended so and wrote these bytes.
+    fn of(alloc: Global, status: u8, written: &[u8]) -> Result<Ran, AllocError> {
+        let written = written.to_vec(alloc)?;
+        Ok(Ran { status, written })
+    }
+}
+
 impl Failing {
     // The numbers of the calls of the files that fail.
     fn file_calls(self, alloc: Global) -> Result<Vec<u64>, AllocError> {
@@ -121,12 +129,20 @@ fn positive(alloc: Global, sizes: &[usize]) -> Result<Vec<usize>, AllocError>
     Ok(kept)
 }
 
+// The pieces of a trial's session.
+fn pieces_of(alloc: Global, trial: &Trial<'_>) -> Result<Vec<usize>, AllocError>
+    ensures { IfOk result (λ pieces. All (λ size. 0 < size) pieces.items) }
+{
+    let sizes = trial.pieces.sizes(alloc, trial.session)?;
+    positive(alloc, &sizes)
+}
+
 // A source of a session.
 fn source_of(alloc: Global, trial: &Trial<'_>) -> Result<MemSource, AllocError> {
-    let sizes = trial.pieces.sizes(alloc, trial.session)?;
-    let pieces = positive(alloc, &sizes)?;
+    let fails = trial.failing.reads(alloc)?;
+    let pieces = pieces_of(alloc, trial)?;
     let session = trial.session.to_vec(alloc)?;
-    Ok(MemSource::new(session, pieces, trial.failing.reads(alloc)?))
+    Ok(MemSource::new(session, pieces, fails))
 }
 
 // The number of the status with which a run over these objects ends.
@@ -178,7 +194,6 @@ impl<'a> Trial<'a> {
             &mut input,
             &mut output,
         );
-        let written = output.written().to_vec(alloc)?;
-        Ok(Ran { status, written })
+        Ran::of(alloc, status, output.written())
     }
 }

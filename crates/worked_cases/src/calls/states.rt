@@ -2,7 +2,7 @@
 
 ghost use Rattle.std.specs.Prelude.{◌<◌, length};
 
-use crate::network::{network, settled};
+use crate::calls::network::{network, settled};
 use nc_fact::{Fact, rank};
 use nc_stable::{SettleFault, settle};
 use nc_tables::Stable;

@@ -1,12 +1,7 @@
 //! Public calls that no other program makes, each with an answer worked out by hand.
 //!
 //! That they answer as they promise is proved; but want of memory is an answer that every call may give, so a call that
-//! gave no other one would meet its contract. The program prints a line a call and, last, how many answered as
-//! expected; it ends with 1 where one did not. It stands on the crates whose calls these are: on `nc_read_policy` and
-//! `nc_policy` for entries and maps, on `nc_stable`, `nc_trace` and `nc_fact` for states, ways and ranks, on `nc_report`
-//! with `nc_marks` for texts, on `nc_command` for lines and on `nc_diagram` for functions; and on `nc_lines`,
-//! `nc_reader`, `nc_network`, `nc_tables` and `nc_types` for what they are asked of. It promises nothing but safety.
-#![tactic(auto)]
+//! gave no other one would meet its contract.
 
 mod diagrams;
 mod network;
@@ -16,12 +11,17 @@ mod states;
 mod texts;
 
 use std::io::Result;
-use std::process::ExitCode;
 
-// All calls by name, and whether they answer as expected.
-fn all_calls(rt: &HostRuntime) -> Result<Vec<(&'static str, bool)>> {
+/// A call by its name, and whether it answered as expected.
+pub type Call = (&'static str, bool);
+
+/// Makes all calls, and adds what came of each.
+///
+/// # Errors
+///
+/// Memory that runs out.
+pub fn add_calls(rt: &HostRuntime, calls: &mut Vec<Call>) -> Result<()> {
     let alloc = rt.alloc();
-    let mut calls = Vec::new(alloc);
     calls.push((
         "an entry of a prefix list",
         policies::reads_an_entry(alloc)?,
@@ -40,18 +40,5 @@ fn all_calls(rt: &HostRuntime) -> Result<Vec<(&'static str, bool)>> {
     calls.push(("bytes that end in a line", sessions::cuts(alloc)?))?;
     calls.push(("the value of a function", diagrams::evaluates(alloc)?))?;
     calls.push(("one function made twice", diagrams::are_equal(alloc)?))?;
-    Ok(calls)
-}
-
-fn main(rt: HostRuntime) -> Result<ExitCode> {
-    let calls = all_calls(&rt)?;
-    let mut failed: usize = 0;
-    for (name, is_right) in &calls {
-        let verdict = if *is_right { "ok" } else { "failed" };
-        println!(rt; "{name}: {verdict}")?;
-        failed = failed.saturating_add(usize::from(!*is_right));
-    }
-    let passed = calls.len().saturating_sub(failed);
-    println!(rt; "{passed} passed, {failed} failed")?;
-    Ok(ExitCode::from(u8::from(failed > 0)))
+    Ok(())
 }
