@@ -64,8 +64,8 @@ group_part p = record { group = p.group; lines = p.lines.items }
 abbrev pub part_view : PartRead → Part
 part_view (parts.AnInterface p) = AnInterface (interface_part p)
 part_view (parts.Routes ps) = Routes (map static_part ps.items)
-part_view (parts.AProcess p) = AProcess (made_view p)
-part_view (parts.AClause p) = AClause (clause_part p)
+part_view (parts.AProcess p) = AProcess (made_view p.value)
+part_view (parts.AClause p) = AClause (clause_part p.value)
 part_view (parts.Entries name ps) = Entries name (map entry_part ps.items)
 part_view (parts.Communities name ps) = Communities name (map community_line ps.items)
 part_view (parts.Filters ps odd) = Filters ps.items odd.items

@@ -56,8 +56,17 @@ fn is_at(topics: &IndexSet<Topic>, place: usize, subject: Subject<'_>) -> bool
     }
 }
 
-// The place of a topic, looked up by the words of its statement. Only the statements of a list each
-// name it; of another topic that has a name one statement does, which is mostly the first.
+// Whether a topic has statements of which each names it. Of another one a single statement does, as
+// the header of a block, which is mostly the first: there is nothing to look for then.
+fn recurs(subject: Subject<'_>) -> bool {
+    match subject {
+        Subject::Statics | Subject::Process(_) | Subject::Filters => true,
+        Subject::List(_) | Subject::Communities(_) => true,
+        Subject::Interface(_) | Subject::Clause(_, _) | Subject::Group(_, _) => false,
+    }
+}
+
+// The place of a list, looked up by the words of its statement.
 fn looked_up(topics: &IndexSet<Topic>, subject: Subject<'_>) -> Option<usize>
     ensures { IfSome result (IsAt (topic_of subject.entry) topics.now.keys) }
 {
@@ -79,6 +88,9 @@ fn known_place(
 ) -> Option<usize>
     ensures { IfSome result (IsAt (topic_of subject.entry) topics.now.keys) }
 {
+    if !recurs(subject) {
+        return None;
+    }
     if is_at(topics, likely, subject) {
         return Some(likely);
     }

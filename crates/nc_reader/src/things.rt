@@ -18,14 +18,15 @@ use nc_read_policy::{EntryLines, read_clause, read_list};
 use nc_types::{Cause, ConfigFault, Text};
 use std::alloc::Global;
 
-/// What a topic makes: one thing, or several, each with its lines.
+/// What a topic makes: one thing, or several, each with its lines. It is moved several times, and most topics are
+/// interfaces, so what is larger than one of these has memory of its own.
 #[derive(Drop)]
 pub(crate) enum Part {
     AnInterface(InterfaceLines),
     Routes(Vec<RouteLines>),
     /// The process with its neighbors, networks and aggregates.
-    AProcess(ProcessPart),
-    AClause(ClauseLines),
+    AProcess(Box<ProcessPart>),
+    AClause(Box<ClauseLines>),
     /// A prefix list: its name and its entries.
     Entries(Text, Vec<EntryLines>),
     /// A community list: its name and its entries.
@@ -54,7 +55,7 @@ fn read_process_part(
         });
     }
     let made = read_process(alloc, lines, block)?;
-    Ok(Part::AProcess(made))
+    Ok(Part::AProcess(Box::new(alloc, made)?))
 }
 
 // Reads the access lists.
@@ -117,7 +118,8 @@ pub(crate) fn read_part(
         }
         Topic::Clause(_, _) => {
             let (clause, lines) = read_clause(alloc, lines, &block)?;
-            Ok(Part::AClause(ClauseLines { clause, lines }))
+            let made = ClauseLines { clause, lines };
+            Ok(Part::AClause(Box::new(alloc, made)?))
         }
         Topic::List(name) => {
             let entries = read_list(alloc, lines, &block)?;
