@@ -145,7 +145,8 @@ fn slots_for(alloc: Global, nodes: &[Node], room: usize) -> Result<Vec<u32>, All
     Ok(slots)
 }
 
-// Makes room for one more node: no more than three quarters of the slots are in use.
+// Makes room for one more node: no more than half of the slots are in use. Each on a way has a node, which
+// stands far from the others in memory and has to be looked at.
 fn make_room(alloc: Global, slots: &mut Vec<u32>, nodes: &[Node]) -> Result<(), AllocError>
     requires narrow { length nodes.now < 2 ^ 32 }
     requires are { AreFor slots.old.items nodes.now }
@@ -153,7 +154,7 @@ fn make_room(alloc: Global, slots: &mut Vec<u32>, nodes: &[Node]) -> Result<(), 
     ensures room { OnOk result (4 * (length nodes.now + 1) ≤ 3 * length slots.new.items) }
 {
     let count = slots.len();
-    if nodes.len() < count / 4 * 3 {
+    if nodes.len() < count / 2 {
         return Ok(());
     }
     let more = count.saturating_mul(2).max(LEAST);
