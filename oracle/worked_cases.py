@@ -1,7 +1,7 @@
 #!/usr/bin/env python3
 """Runs the worked cases and the examples over the second program, or over another, and compares what they write.
 
-A worked case is a folder of crates/worked_cases/data: the words (args), the files that they name, the bytes of the
+A worked case is a folder of cases/data: the words (args), the files that they name, the bytes of the
 session (session), the status of the end (status), and either all bytes that are written (stdout) or what some of
 their lines are (check). An example is a folder of examples/ with a session and its replies: its files in the order
 of their names, and the status 0. The last line counts what passed, and the status is 1 where something failed.
@@ -15,7 +15,7 @@ import subprocess
 import sys
 
 ROOT = os.path.dirname(os.path.dirname(os.path.realpath(__file__)))
-CASES = f"{ROOT}/crates/worked_cases/data"
+CASES = f"{ROOT}/cases/data"
 EXAMPLES = f"{ROOT}/examples"
 SECOND = f"{sys.executable} {ROOT}/oracle/oracle.py"
 LINE = re.compile(rb"line (-?[1-9][0-9]*) (is|begins) (.*)", re.S)

@@ -3,7 +3,8 @@
 //! A session comes in pieces or with carriage returns; each call of the files, of the session's
 //! source and of the sink fails in turn; the sink has little room; a file is cut behind each of its
 //! bytes; words and files are refused; and each limit is met and passed. Beside the runs stands what
-//! no run shows: the adapters over the system where that fails, and sets of communities in memory.
+//! no run shows: the adapters over the system where that fails, sets of communities in memory, and what is asked of a state
+//! that has settled, by itself.
 //! The program prints a line for each kind of runs and, last, how many came to what they must; it
 //! ends with 1 where one did not.
 //!
@@ -11,7 +12,8 @@
 //! fail, ends as the words, the files and the session have it, or for want of memory. The crate
 //! stands on `nc_session` for the run, on `nc_outside` for the objects in memory and the adapters, on
 //! `nc_words` for what is said of words, on `nc_engine` for what is said of files, on `nc_community`
-//! for sets and on `nc_types` for names.
+//! for sets and on `nc_types` for names; and on `nc_lines`, `nc_reader`, `nc_network`, `nc_stable`, `nc_tables`,
+//! `nc_trace` and `nc_fact` for states and what is asked of them.
 #![tactic(auto)]
 
 mod adapters;
@@ -26,6 +28,7 @@ mod network;
 mod refusals;
 mod row;
 mod sets;
+mod states;
 pub mod steady;
 mod trial;
 
@@ -84,6 +87,7 @@ fn add_rows(rt: &HostRuntime, rows: &mut Vec<Row>) -> IoResult<()> {
     limits::add_limits(alloc, rows)?;
     adapters::add_adapters(rt, rows)?;
     rows.push(Row::new("communities", "sets in memory", sets::sets_are_made(alloc)?))?;
+    states::add_states(alloc, rows)?;
     Ok(())
 }
 

@@ -1,6 +1,6 @@
 //! Entries of prefix lists, and what maps make of routes.
 
-use crate::calls::network::{config, lines_of};
+use crate::network::{config, lines_of};
 use nc_policy::{Verdict, apply};
 use nc_read_policy::read_list_entry;
 use nc_tables::{Path, Place, Route};

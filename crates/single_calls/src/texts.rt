@@ -4,7 +4,7 @@ ghost use Rattle.std.specs.Prelude.{◌≡◌};
 ghost use Rattle.nc_marks.specs.Marks.{marked_elements};
 ghost use Rattle.nc_types.specs.Network.{element_count};
 
-use crate::calls::network::{TEXT, lines_of, network};
+use crate::network::{TEXT, lines_of, network};
 use nc_marks::kept::KeptMarks;
 use nc_report::{LoadedFile, json_text, lcov_text, report_text, show_text};
 use nc_types::{RouterId, Text};

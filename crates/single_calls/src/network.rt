@@ -9,7 +9,6 @@ use nc_lines::Lines;
 use nc_lines::split::split_lines;
 use nc_network::join;
 use nc_reader::read_config;
-use nc_stable::{SettledNetwork, settle_network};
 use nc_types::{LINE_LIMIT, Network, RouterConfig};
 use std::alloc::{AllocError, Global};
 
@@ -63,16 +62,4 @@ pub fn network(alloc: Global) -> Result<Option<Network>, AllocError> {
     let mut configs = Vec::new(alloc);
     configs.push(config)?;
     Ok(join(alloc, configs).ok())
-}
-
-/// The network as it settles; `None` where it doesn't.
-///
-/// # Errors
-///
-/// Memory that runs out.
-pub fn settled(alloc: Global) -> Result<Option<SettledNetwork>, AllocError> {
-    match network(alloc)? {
-        Some(network) => Ok(settle_network(alloc, network, 5).ok()),
-        None => Ok(None),
-    }
 }
