@@ -1,13 +1,11 @@
 //! The state in which a network of one router settles, the ways of its packets, and the ranks of facts: calls that no run
 //! makes.
 
-ghost use Rattle.std.specs.Prelude.{◌≡◌, ◌≤◌, IfOk, IfSome};
+ghost use Rattle.std.specs.Prelude.{◌≤◌, IfOk, IfSome};
 ghost use Rattle.nc_types.specs.Config.{config_view};
 ghost use Rattle.nc_types.specs.WellFormed.{IsWellFormed};
 ghost use Rattle.nc_types.specs.declared.TheConstants.{LINE_LIMIT};
 
-use crate::judging::Verdict;
-use crate::row::Row;
 use nc_fact::{Fact, rank};
 use nc_lines::split::split_lines;
 use nc_network::join;
@@ -16,6 +14,7 @@ use nc_session::FILE_LIMIT;
 use nc_stable::{SettleFault, settle, settle_network};
 use nc_tables::Stable;
 use nc_trace::{Alternative, Outcome, alternatives};
+use nc_trials::{Row, Verdict};
 use nc_types::{Addr, LINE_LIMIT, Network, RouterConfig, RouterId};
 use std::alloc::{AllocError, Global};
 

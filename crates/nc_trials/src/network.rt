@@ -4,7 +4,7 @@ use nc_outside::MemFile;
 use nc_types::Text;
 use std::alloc::{AllocError, Global};
 
-/// A file as it stands in this program.
+/// A file as it stands in this crate.
 #[derive(Clone, Copy)]
 pub struct Config {
     /// The name, which is the word for it too.
@@ -20,6 +20,13 @@ pub struct Network {
     pub words: Vec<String>,
     /// The files.
     pub files: Vec<MemFile>,
+}
+
+// A file of this name and these bytes.
+fn file_of(alloc: Global, name: &[u8], text: &[u8]) -> Result<MemFile, AllocError> {
+    let name = Text::new(alloc, name)?;
+    let bytes = text.to_vec(alloc)?;
+    Ok(MemFile { name, bytes })
 }
 
 impl Network {
@@ -57,9 +64,7 @@ impl Network {
     ///
     /// No memory for it.
     pub fn keep_file(&mut self, alloc: Global, name: &str, text: &[u8]) -> Result<(), AllocError> {
-        let name = Text::new(alloc, name.as_bytes())?;
-        let bytes = text.to_vec(alloc)?;
-        self.files.push(MemFile { name, bytes })?;
+        self.files.push(file_of(alloc, name.as_bytes(), text)?)?;
         Ok(())
     }
 
@@ -84,9 +89,7 @@ impl Network {
     pub fn copied_files(&self, alloc: Global) -> Result<Vec<MemFile>, AllocError> {
         let mut files = Vec::new(alloc);
         for file in &self.files {
-            let name = Text::new(alloc, file.name.bytes())?;
-            let bytes = file.bytes.to_vec(alloc)?;
-            files.push(MemFile { name, bytes })?;
+            files.push(file_of(alloc, file.name.bytes(), &file.bytes)?)?;
         }
         Ok(files)
     }

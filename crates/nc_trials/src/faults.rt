@@ -1,15 +1,18 @@
 //! Each call of each object failing in turn, a sink with little room, and files that are cut.
 
+use crate::ending::Ending;
 use crate::example::Example;
 use crate::judging::{Expectation, Verdict};
 use crate::network::{Config, Network};
-use crate::row::Row;
+use crate::prepared::Prepared;
+use crate::row::{Row, add_row};
+use crate::tool::Tool;
 use crate::trial::{Failing, Pieces, Trial};
-use nc_session::Status;
 use std::alloc::{AllocError, Global};
 
 // Each call of the files fails in turn, and then one behind the last, which is never made.
-fn file_calls(
+fn file_calls<T: Tool>(
+    tool: &T,
     alloc: Global,
     example: &Example,
     trial: Trial<'_>,
@@ -17,16 +20,22 @@ fn file_calls(
 ) -> Result<Verdict, AllocError> {
     let mut verdict = Verdict::new();
     for number in 0..example.file_calls {
-        let failed = Expectation::of(Status::FileFault, b"");
-        verdict = verdict.and(alloc, trial.where_fails(Failing::Files(number)), failed)?;
+        let failed = Expectation::of(Ending::FileFault, b"");
+        verdict = verdict.and(
+            tool,
+            alloc,
+            trial.where_fails(Failing::Files(number)),
+            failed,
+        )?;
     }
     let behind = trial.where_fails(Failing::Files(example.file_calls));
-    verdict.and(alloc, behind, wanted)
+    verdict.and(tool, alloc, behind, wanted)
 }
 
 // Each read of a line fails in turn, and then one behind the last, which is never made: the lines
 // before are answered.
-fn reads(
+fn reads<T: Tool>(
+    tool: &T,
     alloc: Global,
     example: &Example,
     trial: Trial<'_>,
@@ -35,20 +44,22 @@ fn reads(
     let mut verdict = Verdict::new();
     for number in 0..example.reads {
         let answered = example.replies(alloc, number)?;
-        let failed = Expectation::of(Status::InputFault, &answered);
+        let failed = Expectation::of(Ending::InputFault, &answered);
         verdict = verdict.and(
+            tool,
             alloc,
             trial.where_fails(Failing::Read(number as u64)),
             failed,
         )?;
     }
     let behind = trial.where_fails(Failing::Read(example.reads as u64));
-    verdict.and(alloc, behind, wanted)
+    verdict.and(tool, alloc, behind, wanted)
 }
 
 // Each write of a reply fails in turn, and then one behind the last: the replies before stand
 // written.
-fn writes(
+fn writes<T: Tool>(
+    tool: &T,
     alloc: Global,
     example: &Example,
     trial: Trial<'_>,
@@ -57,38 +68,48 @@ fn writes(
     let mut verdict = Verdict::new();
     for number in 0..example.writes {
         let written = example.written(alloc, number)?;
-        let failed = Expectation::of(Status::OutputFault, &written);
+        let failed = Expectation::of(Ending::OutputFault, &written);
         verdict = verdict.and(
+            tool,
             alloc,
             trial.where_fails(Failing::Write(number as u64)),
             failed,
         )?;
     }
     let behind = trial.where_fails(Failing::Write(example.writes as u64));
-    verdict.and(alloc, behind, wanted)
+    verdict.and(tool, alloc, behind, wanted)
 }
 
 // The sink has room for no byte, for one, and so on up to all: what fits stands written.
-fn rooms(alloc: Global, trial: Trial<'_>, wanted: Expectation<'_>) -> Result<Verdict, AllocError> {
+fn rooms<T: Tool>(
+    tool: &T,
+    alloc: Global,
+    trial: Trial<'_>,
+    wanted: Expectation<'_>,
+) -> Result<Verdict, AllocError> {
     let mut verdict = Verdict::new();
     for room in 0..wanted.written.len() {
-        let failed = Expectation::of(Status::OutputFault, wanted.written.split_at(room).0);
-        verdict = verdict.and(alloc, trial.where_fails(Failing::Room(room)), failed)?;
+        let failed = Expectation::of(Ending::OutputFault, wanted.written.split_at(room).0);
+        verdict = verdict.and(tool, alloc, trial.where_fails(Failing::Room(room)), failed)?;
     }
     let whole = trial.where_fails(Failing::Room(wanted.written.len()));
-    verdict.and(alloc, whole, wanted)
+    verdict.and(tool, alloc, whole, wanted)
 }
 
 // With a run more, which reads its files or refuses one of them.
-fn is_read_or_refused(
+fn is_read_or_refused<T: Tool>(
+    tool: &T,
     alloc: Global,
     trial: Trial<'_>,
     runs: Verdict,
 ) -> Result<Verdict, AllocError> {
-    let ran = trial.run(alloc)?;
+    let ran = trial.run(tool, alloc)?;
     let is_refused = ran.written.starts_with(b"refused config ");
-    let is_met = ran.status == Status::Done.number() && !is_refused
-        || ran.status == Status::Config.number() && is_refused;
+    let is_met = if is_refused {
+        ran.ending == Ending::Config
+    } else {
+        ran.ending == Ending::Done
+    };
     Ok(runs.with(&ran, is_met))
 }
 
@@ -112,7 +133,8 @@ fn with_cut(
 }
 
 // One file is cut behind each of its bytes in turn: it is read, or it is refused.
-fn cuts_of(
+fn cuts_of<T: Tool>(
+    tool: &T,
     alloc: Global,
     example: &Example,
     cut: &Config,
@@ -121,22 +143,23 @@ fn cuts_of(
     let mut verdict = runs;
     for size in 0..cut.text.len() {
         let network = with_cut(alloc, example.files, cut, size)?;
-        verdict = is_read_or_refused(alloc, Trial::new(&network, b""), verdict)?;
+        verdict = is_read_or_refused(tool, alloc, Trial::new(&network, b""), verdict)?;
     }
     Ok(verdict)
 }
 
 // Each file is cut behind each of its bytes in turn.
-fn cut_files(alloc: Global, example: &Example) -> Result<Verdict, AllocError> {
+fn cut_files<T: Tool>(tool: &T, alloc: Global, example: &Example) -> Result<Verdict, AllocError> {
     let mut verdict = Verdict::new();
     for file in example.files {
-        verdict = cuts_of(alloc, example, file, verdict)?;
+        verdict = cuts_of(tool, alloc, example, file, verdict)?;
     }
     Ok(verdict)
 }
 
 // The rows of runs over an example of which a call fails.
-fn add_failing(
+fn add_failing<T: Tool>(
+    tool: &T,
     alloc: Global,
     example: &Example,
     trial: Trial<'_>,
@@ -145,17 +168,16 @@ fn add_failing(
 ) -> Result<(), AllocError> {
     let over = example.name;
     let by_lines = trial.in_pieces(Pieces::Lines);
-    let verdict = file_calls(alloc, example, trial, wanted)?;
-    rows.push(Row::new(over, "each call of the files fails", verdict))?;
-    let verdict = reads(alloc, example, by_lines, wanted)?;
-    rows.push(Row::new(over, "each read fails", verdict))?;
-    let verdict = writes(alloc, example, by_lines, wanted)?;
-    rows.push(Row::new(over, "each write fails", verdict))?;
-    let verdict = rooms(alloc, trial, wanted)?;
-    rows.push(Row::new(over, "room for fewer bytes", verdict))?;
-    let verdict = cut_files(alloc, example)?;
-    rows.push(Row::new(over, "a file cut at each place", verdict))?;
-    Ok(())
+    let verdict = file_calls(tool, alloc, example, trial, wanted);
+    add_row(rows, over, "each call of the files fails", verdict)?;
+    let verdict = reads(tool, alloc, example, by_lines, wanted);
+    add_row(rows, over, "each read fails", verdict)?;
+    let verdict = writes(tool, alloc, example, by_lines, wanted);
+    add_row(rows, over, "each write fails", verdict)?;
+    let verdict = rooms(tool, alloc, trial, wanted);
+    add_row(rows, over, "room for fewer bytes", verdict)?;
+    let verdict = cut_files(tool, alloc, example);
+    add_row(rows, over, "a file cut at each place", verdict)
 }
 
 /// The rows of runs of which a call fails, or a file is cut.
@@ -163,10 +185,19 @@ fn add_failing(
 /// # Errors
 ///
 /// No memory for the rows or the objects of a run.
-pub fn add_faults(alloc: Global, example: &Example, rows: &mut Vec<Row>) -> Result<(), AllocError> {
-    let session = example.session(alloc, b"\n")?;
-    let replies = example.all_replies(alloc)?;
-    let network = example.network(alloc)?;
-    let trial = Trial::new(&network, &session);
-    add_failing(alloc, example, trial, Expectation::done(&replies), rows)
+pub fn add_faults<T: Tool>(
+    tool: &T,
+    alloc: Global,
+    example: &Example,
+    rows: &mut Vec<Row>,
+) -> Result<(), AllocError> {
+    let prepared = Prepared::of(alloc, example, b"\n")?;
+    add_failing(
+        tool,
+        alloc,
+        example,
+        prepared.trial(),
+        prepared.done(),
+        rows,
+    )
 }

@@ -2,8 +2,9 @@
 //! file, and a reader and a writer that give way in the middle.
 
 use crate::judging::Verdict;
-use crate::row::Row;
+use crate::row::{Row, add_row};
 use nc_outside::{Files, FolderFiles, Sink, Source, StdinSource, StdoutSink};
+use std::alloc::AllocError;
 use std::io::{self, ErrorKind, Read, Write};
 
 // Has room for one byte: gives or takes it, then gives and takes nothing, and fails from its third
@@ -46,21 +47,26 @@ impl Write for Narrow {
     }
 }
 
+// Whether a file is entered, or isn't, and the read behind that gives so many bytes, or fails.
+fn answers(
+    files: &mut FolderFiles<HostRuntime>,
+    name: &str,
+    enters: bool,
+    reads: Option<usize>,
+) -> bool {
+    let mut into = [1u8; 4];
+    let is_entered = files.enter(name).is_ok();
+    let read = files.read(&mut into).ok();
+    is_entered == enters && read == reads
+}
+
 // A file that has bytes, one that isn't there, and a folder, which is entered and can't be read.
 fn files_of_the_system(rt: &HostRuntime) -> io::Result<Verdict> {
     let mut files = FolderFiles::new(rt.clone()?);
-    let mut into = [1u8; 4];
-    let cases = [
-        ("/dev/zero", true, Some(4)),
-        ("/no/such/file", false, Some(0)),
-        ("/", true, None),
-    ];
-    let mut is_met = true;
-    for (name, enters, reads) in cases {
-        is_met &= files.enter(name).is_ok() == enters;
-        is_met &= files.read(&mut into).ok() == reads;
-    }
-    Ok(Verdict::Called(is_met))
+    let has_bytes = answers(&mut files, "/dev/zero", true, Some(4));
+    let is_missing = answers(&mut files, "/no/such/file", false, Some(0));
+    let is_folder = answers(&mut files, "/", true, None);
+    Ok(Verdict::Called(has_bytes && is_missing && is_folder))
 }
 
 // A reader that ends is at its end, and one that fails has failed.
@@ -84,16 +90,22 @@ fn a_writer_fails() -> Verdict {
     Verdict::Called(is_met)
 }
 
+// The rows of the adapters, with what came of the files.
+fn add_rows(rows: &mut Vec<Row>, files: Verdict) -> Result<(), AllocError> {
+    let over = "system";
+    add_row(rows, over, "a file, no file, and a folder", Ok(files))?;
+    add_row(rows, over, "a reader fails", Ok(a_reader_fails()))?;
+    let verdict = a_writer_fails();
+    add_row(rows, over, "a writer takes nothing and fails", Ok(verdict))
+}
+
 /// The rows of the adapters.
 ///
 /// # Errors
 ///
 /// No memory for the rows, or no handle to the system.
 pub fn add_adapters(rt: &HostRuntime, rows: &mut Vec<Row>) -> io::Result<()> {
-    let over = "system";
-    let verdict = files_of_the_system(rt)?;
-    rows.push(Row::new(over, "a file, no file, and a folder", verdict))?;
-    rows.push(Row::new(over, "a reader fails", a_reader_fails()))?;
-    rows.push(Row::new(over, "a writer takes nothing and fails", a_writer_fails()))?;
+    let files = files_of_the_system(rt)?;
+    add_rows(rows, files)?;
     Ok(())
 }

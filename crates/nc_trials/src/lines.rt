@@ -3,7 +3,10 @@
 use crate::cutting::at_each_place;
 use crate::example::SINGLE;
 use crate::judging::{Expectation, Verdict};
-use crate::row::Row;
+use crate::prepared::Prepared;
+use crate::row::{Row, add_row};
+use crate::sized::filled;
+use crate::tool::Tool;
 use crate::trial::{Pieces, Trial};
 use std::alloc::{AllocError, Global};
 
@@ -24,7 +27,7 @@ struct LongLine {
 // From which place on the lines are cut in two.
 const FIRST_CUT: usize = 4_085;
 
-const LONG_LINES: [LongLine; 7] = [
+static LONG_LINES: [LongLine; 7] = [
     LongLine {
         name: "a line of 4,096 bytes",
         head: b"",
@@ -83,19 +86,6 @@ const LONG_LINES: [LongLine; 7] = [
     },
 ];
 
-/// Bytes that begin so, and go on with one byte up to that size.
-///
-/// # Errors
-///
-/// No memory for them.
-pub fn filled(alloc: Global, head: &[u8], fill: u8, size: usize) -> Result<Vec<u8>, AllocError> {
-    let mut bytes = head.to_vec(alloc)?;
-    for _ in head.len()..size {
-        bytes.push(fill)?;
-    }
-    Ok(bytes)
-}
-
 // A long line and one more.
 fn session_of(alloc: Global, line: &LongLine) -> Result<Vec<u8>, AllocError> {
     let mut session = filled(alloc, line.head, line.fill, line.size)?;
@@ -112,26 +102,28 @@ fn replies_to(alloc: Global, line: &LongLine) -> Result<Vec<u8>, AllocError> {
 }
 
 // What comes of a session that is read at once, byte by byte, and cut at places near its end.
-fn near_its_end(
+fn near_its_end<T: Tool>(
+    tool: &T,
     alloc: Global,
     trial: Trial<'_>,
     wanted: Expectation<'_>,
 ) -> Result<Verdict, AllocError> {
-    let cuts = at_each_place(alloc, trial, FIRST_CUT, wanted)?;
-    let whole = cuts.and(alloc, trial, wanted)?;
-    whole.and(alloc, trial.in_pieces(Pieces::Bytes), wanted)
+    let cuts = at_each_place(tool, alloc, trial, FIRST_CUT, wanted)?;
+    let whole = cuts.and(tool, alloc, trial, wanted)?;
+    whole.and(tool, alloc, trial.in_pieces(Pieces::Bytes), wanted)
 }
 
-// What comes of a session of a long line and one more.
-fn judge(alloc: Global, line: &LongLine) -> Result<Verdict, AllocError> {
+// A router, with a session of a long line and one more.
+fn prepare(alloc: Global, line: &LongLine) -> Result<Prepared, AllocError> {
     let session = session_of(alloc, line)?;
     let replies = replies_to(alloc, line)?;
-    let network = SINGLE.network(alloc)?;
-    near_its_end(
-        alloc,
-        Trial::new(&network, &session),
-        Expectation::done(&replies),
-    )
+    Prepared::new(alloc, &SINGLE, session, replies)
+}
+
+// What comes of that session.
+fn judge<T: Tool>(tool: &T, alloc: Global, line: &LongLine) -> Result<Verdict, AllocError> {
+    let prepared = prepare(alloc, line)?;
+    near_its_end(tool, alloc, prepared.trial(), prepared.done())
 }
 
 /// The rows on long lines.
@@ -139,9 +131,13 @@ fn judge(alloc: Global, line: &LongLine) -> Result<Verdict, AllocError> {
 /// # Errors
 ///
 /// No memory for the rows or the objects of a run.
-pub fn add_long_lines(alloc: Global, rows: &mut Vec<Row>) -> Result<(), AllocError> {
+pub fn add_long_lines<T: Tool>(
+    tool: &T,
+    alloc: Global,
+    rows: &mut Vec<Row>,
+) -> Result<(), AllocError> {
     for line in &LONG_LINES {
-        rows.push(Row::new(SINGLE.name, line.name, judge(alloc, line)?))?;
+        add_row(rows, SINGLE.name, line.name, judge(tool, alloc, line))?;
     }
     Ok(())
 }

@@ -1,10 +1,13 @@
 //! One run over objects in memory: what it is given, what of it fails, and what came of it.
 
-ghost use Rattle.std.specs.Prelude.{◌<◌, All, IfOk};
+ghost use Rattle.std.specs.Prelude.{◌≡◌, ◌<◌, All, IfOk, []};
+ghost use Rattle.nc_outside.specs.Memory.{no_calls};
+ghost use Rattle.nc_trials.specs.Trial.{file_calls_of, reads_of, writes_of, room_of};
 
+use crate::ending::Ending;
 use crate::network::Network;
+use crate::tool::Tool;
 use nc_outside::{MemFiles, MemSink, MemSource};
-use nc_session::run;
 use std::alloc::{AllocError, Global};
 
 // Room for all replies of a run, in bytes.
@@ -54,23 +57,28 @@ pub struct Trial<'a> {
 /// What came of a run.
 #[derive(Drop)]
 pub struct Ran {
-    /// The number of its status, 0 to 8.
-    pub status: u8,
+    /// How it ended.
+    pub ending: Ending,
     /// The bytes that were written.
     pub written: Vec<u8>,
 }
 
 impl Ran {
     // A run that ended so and wrote these bytes.
-    fn of(alloc: Global, status: u8, written: &[u8]) -> Result<Ran, AllocError> {
+    fn of(alloc: Global, ending: Ending, written: &[u8]) -> Result<Ran, AllocError>
+        ensures ends { IfOk result (λ ran. ran.ending ≡ ending) }
+        ensures writes { IfOk result (λ ran. ran.written.items ≡ written.now) }
+    {
         let written = written.to_vec(alloc)?;
-        Ok(Ran { status, written })
+        Ok(Ran { ending, written })
     }
 }
 
 impl Failing {
     // The numbers of the calls of the files that fail.
-    fn file_calls(self, alloc: Global) -> Result<Vec<u64>, AllocError> {
+    fn file_calls(self, alloc: Global) -> Result<Vec<u64>, AllocError>
+        ensures { IfOk result (λ numbers. numbers.items ≡ file_calls_of self) }
+    {
         match self {
             Failing::Files(number) => Ok(vec![in alloc; number]?),
             _ => Ok(Vec::new(alloc)),
@@ -78,20 +86,45 @@ impl Failing {
     }
 
     // The numbers of the reads that fail.
-    fn reads(self, alloc: Global) -> Result<Vec<u64>, AllocError> {
+    fn reads(self, alloc: Global) -> Result<Vec<u64>, AllocError>
+        ensures { IfOk result (λ numbers. numbers.items ≡ reads_of self) }
+    {
         match self {
             Failing::Read(number) => Ok(vec![in alloc; number]?),
             _ => Ok(Vec::new(alloc)),
         }
     }
 
-    // A sink that fails so, with room for all replies unless that is what it lacks.
-    fn sink(self, alloc: Global) -> Result<MemSink, AllocError> {
+    // The numbers of the writes that fail.
+    fn writes(self, alloc: Global) -> Result<Vec<u64>, AllocError>
+        ensures { IfOk result (λ numbers. numbers.items ≡ writes_of self) }
+    {
         match self {
-            Failing::Write(number) => MemSink::new(alloc, ROOM, vec![in alloc; number]?),
-            Failing::Room(room) => MemSink::new(alloc, room, Vec::new(alloc)),
-            _ => MemSink::new(alloc, ROOM, Vec::new(alloc)),
+            Failing::Write(number) => Ok(vec![in alloc; number]?),
+            _ => Ok(Vec::new(alloc)),
         }
+    }
+
+    // How many bytes the sink takes.
+    fn room(self) -> usize
+        ensures { result ≡ room_of self }
+    {
+        match self {
+            Failing::Room(room) => room,
+            _ => ROOM,
+        }
+    }
+
+    // A sink that fails so, with room for all replies unless that is what it lacks.
+    fn sink(self, alloc: Global) -> Result<MemSink, AllocError>
+        ensures { IfOk result (λ sink. sink ≡ record {
+          written = [];
+          room = room_of self;
+          calls = no_calls (writes_of self);
+        }) }
+    {
+        let fails = self.writes(alloc)?;
+        MemSink::new(alloc, self.room(), fails)
     }
 }
 
@@ -137,23 +170,24 @@ fn pieces_of(alloc: Global, trial: &Trial<'_>) -> Result<Vec<usize>, AllocError>
     positive(alloc, &sizes)
 }
 
-// A source of a session.
-fn source_of(alloc: Global, trial: &Trial<'_>) -> Result<MemSource, AllocError> {
+// A source of a session, which fails so.
+fn source_of(alloc: Global, trial: &Trial<'_>) -> Result<MemSource, AllocError>
+    ensures bytes { IfOk result (λ source. source.rest ≡ trial.now.session.now) }
+    ensures calls { IfOk result (λ source. source.calls ≡ no_calls (reads_of trial.now.failing)) }
+{
     let fails = trial.failing.reads(alloc)?;
     let pieces = pieces_of(alloc, trial)?;
     let session = trial.session.to_vec(alloc)?;
     Ok(MemSource::new(session, pieces, fails))
 }
 
-// The number of the status with which a run over these objects ends.
-fn status_over(
-    alloc: Global,
-    words: &[String],
-    files: &mut MemFiles,
-    input: &mut MemSource,
-    output: &mut MemSink,
-) -> u8 {
-    run(alloc, words, files, input, output).number()
+// The files of a network, of whose calls these fail.
+fn files_of(alloc: Global, trial: &Trial<'_>) -> Result<MemFiles, AllocError>
+    ensures calls { IfOk result (λ files. files.calls ≡ no_calls (file_calls_of trial.now.failing)) }
+{
+    let fails = trial.failing.file_calls(alloc)?;
+    let files = trial.network.copied_files(alloc)?;
+    Ok(MemFiles::new(files, fails))
 }
 
 impl<'a> Trial<'a> {
@@ -177,23 +211,37 @@ impl<'a> Trial<'a> {
         Trial { failing, ..self }
     }
 
+    // Makes the run over these files and this source.
+    fn run_over<T: Tool>(
+        &self,
+        tool: &T,
+        alloc: Global,
+        files: &mut MemFiles,
+        input: &mut MemSource,
+    ) -> Result<Ran, AllocError> {
+        let mut output = self.failing.sink(alloc)?;
+        let ending = tool.run(alloc, &self.network.words, files, input, &mut output);
+        Ran::of(alloc, ending, output.written())
+    }
+
+    // Makes the run over these files.
+    fn run_over_files<T: Tool>(
+        &self,
+        tool: &T,
+        alloc: Global,
+        files: &mut MemFiles,
+    ) -> Result<Ran, AllocError> {
+        let mut input = source_of(alloc, self)?;
+        self.run_over(tool, alloc, files, &mut input)
+    }
+
     /// Makes the run.
     ///
     /// # Errors
     ///
-    /// No memory for the objects. Want of memory in the run itself is its status 7.
-    pub fn run(self, alloc: Global) -> Result<Ran, AllocError> {
-        let fails = self.failing.file_calls(alloc)?;
-        let mut files = MemFiles::new(self.network.copied_files(alloc)?, fails);
-        let mut input = source_of(alloc, &self)?;
-        let mut output = self.failing.sink(alloc)?;
-        let status = status_over(
-            alloc,
-            &self.network.words,
-            &mut files,
-            &mut input,
-            &mut output,
-        );
-        Ran::of(alloc, status, output.written())
+    /// No memory for the objects. Want of memory in the run itself is its ending.
+    pub fn run<T: Tool>(&self, tool: &T, alloc: Global) -> Result<Ran, AllocError> {
+        let mut files = files_of(alloc, self)?;
+        self.run_over_files(tool, alloc, &mut files)
     }
 }

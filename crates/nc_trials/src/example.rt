@@ -278,7 +278,7 @@ pub const QUESTIONS: Example = Example {
 };
 
 /// All examples, in the order of their rows.
-pub const EXAMPLES: [Example; 5] = [PAIR, SINGLE, ROUTE, WAYS, QUESTIONS];
+pub static EXAMPLES: [Example; 5] = [PAIR, SINGLE, ROUTE, WAYS, QUESTIONS];
 
 impl Example {
     /// The session, each line with this end.

@@ -1,114 +1,143 @@
 //! How a session ends: by its bytes, by `quit`, or by a call that fails.
 
+use crate::ending::Ending;
 use crate::example::SINGLE;
 use crate::judging::{Expectation, Verdict};
-use crate::row::Row;
+use crate::network::Network;
+use crate::row::{Row, add_row};
+use crate::tool::Tool;
 use crate::trial::{Failing, Pieces, Trial};
-use nc_session::Status;
 use std::alloc::{AllocError, Global};
 
 // A session over one router, and what the run must come to.
 #[derive(Clone, Copy)]
-struct Ending {
+struct SessionEnd {
     name: &'static str,
     session: &'static [u8],
     pieces: Pieces,
     failing: Failing,
-    status: Status,
+    ending: Ending,
     written: &'static [u8],
 }
 
 // The reply to the test of the router's one route.
 const REPLY: &[u8] = b"test 1 facts 4\nstrong 2 weak 0 uncovered 3 outside 4\nr1 ..S.S.UUU\n";
 
-const ENDINGS: [Ending; 9] = [
-    Ending {
+static SESSION_ENDS: [SessionEnd; 9] = [
+    SessionEnd {
         name: "no byte, and a second read that would fail",
         session: b"",
         pieces: Pieces::Whole,
         failing: Failing::Read(1),
-        status: Status::Done,
+        ending: Ending::Done,
         written: b"",
     },
-    Ending {
+    SessionEnd {
         name: "quit before a read that would fail",
         session: b"rib r1 10.0.0.0/24\nquit\nfrob\n",
         pieces: Pieces::Lines,
         failing: Failing::Read(2),
-        status: Status::Done,
+        ending: Ending::Done,
         written: REPLY,
     },
-    Ending {
+    SessionEnd {
         name: "quit without its line feed",
         session: b"rib r1 10.0.0.0/24\nquit",
         pieces: Pieces::Bytes,
         failing: Failing::Nothing,
-        status: Status::Done,
+        ending: Ending::Done,
         written: REPLY,
     },
-    Ending {
+    SessionEnd {
         name: "a test without its line feed",
         session: b"rib r1 10.0.0.0/24",
         pieces: Pieces::Bytes,
         failing: Failing::Nothing,
-        status: Status::Done,
+        ending: Ending::Done,
         written: REPLY,
     },
-    Ending {
+    SessionEnd {
         name: "quit with a further word",
         session: b"quit x\nfrob\n",
         pieces: Pieces::Whole,
         failing: Failing::Nothing,
-        status: Status::Done,
+        ending: Ending::Done,
         written: b"refused syntax\nrefused syntax\n",
     },
-    Ending {
+    SessionEnd {
         name: "a read that fails in the middle of a line",
         session: b"rib r1 10.0.0.0/24\n",
         pieces: Pieces::Cut(7),
         failing: Failing::Read(1),
-        status: Status::InputFault,
+        ending: Ending::InputFault,
         written: b"",
     },
-    Ending {
+    SessionEnd {
         name: "a read that fails behind a test without its line feed",
         session: b"frob\nrib r1 10.0.0.0/24",
         pieces: Pieces::Whole,
         failing: Failing::Read(1),
-        status: Status::InputFault,
+        ending: Ending::InputFault,
         written: b"refused syntax\n",
     },
-    Ending {
+    SessionEnd {
         name: "room for ten bytes",
         session: b"rib r1 10.0.0.0/24\nfrob\n",
         pieces: Pieces::Whole,
         failing: Failing::Room(10),
-        status: Status::OutputFault,
+        ending: Ending::OutputFault,
         written: b"test 1 fac",
     },
-    Ending {
+    SessionEnd {
         name: "room for the replies before quit",
         session: b"frob\nquit\nfrob\n",
         pieces: Pieces::Whole,
         failing: Failing::Room(15),
-        status: Status::Done,
+        ending: Ending::Done,
         written: b"refused syntax\n",
     },
 ];
+
+// What comes of a session over the router.
+fn judge<T: Tool>(
+    tool: &T,
+    alloc: Global,
+    network: &Network,
+    end: &SessionEnd,
+) -> Result<Verdict, AllocError> {
+    let trial = Trial::new(network, end.session);
+    let trial = trial.in_pieces(end.pieces).where_fails(end.failing);
+    Verdict::of(tool, alloc, trial, Expectation::of(end.ending, end.written))
+}
+
+// The rows of the sessions over the router.
+fn add_rows<T: Tool>(
+    tool: &T,
+    alloc: Global,
+    network: &Network,
+    rows: &mut Vec<Row>,
+) -> Result<(), AllocError> {
+    for end in &SESSION_ENDS {
+        add_row(
+            rows,
+            SINGLE.name,
+            end.name,
+            judge(tool, alloc, network, end),
+        )?;
+    }
+    Ok(())
+}
 
 /// The rows on how a session ends.
 ///
 /// # Errors
 ///
 /// No memory for the rows or the objects of a run.
-pub fn add_endings(alloc: Global, rows: &mut Vec<Row>) -> Result<(), AllocError> {
+pub fn add_session_ends<T: Tool>(
+    tool: &T,
+    alloc: Global,
+    rows: &mut Vec<Row>,
+) -> Result<(), AllocError> {
     let network = SINGLE.network(alloc)?;
-    for ending in &ENDINGS {
-        let trial = Trial::new(&network, ending.session);
-        let trial = trial.in_pieces(ending.pieces).where_fails(ending.failing);
-        let wanted = Expectation::of(ending.status, ending.written);
-        let verdict = Verdict::of(alloc, trial, wanted)?;
-        rows.push(Row::new(SINGLE.name, ending.name, verdict))?;
-    }
-    Ok(())
+    add_rows(tool, alloc, &network, rows)
 }
