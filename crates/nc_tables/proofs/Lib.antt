@@ -20,6 +20,8 @@ mod ByLevels
 pub mod SamePath
 mod Remainders
 mod PieceBits
+mod LongerPath
+mod Walk
 pub mod SameTables
 pub mod NoRoutes
 pub mod Settled

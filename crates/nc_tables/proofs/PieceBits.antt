@@ -1,8 +1,9 @@
 -- The bits of pieces.
-use Rattle.std.proofs.Common.{◌≡◌, ◌==◌, ◌++◌, ℕ, List, false, Option, None, Some, refl, sym, ◌∙◌, length}
+use Rattle.std.proofs.Common.{◌≡◌, ◌==◌, ◌++◌, [], ◌||◌, ℕ, List, true, false, Option, None, Some, refl, sym, ap, ◌∙◌, length}
 use Rattle.std.specs.Global.{Global}
 use Rattle.std.specs.List.{list_any}
 use Rattle.std.specs.declared.rc.Rc.{Rc}
+use Rattle.std.proofs.lemmas.List.Folds.{list_any-append}
 use Rattle.nc_tables.specs.declared.path.TheConstants.{PIECE_LEN}
 use Rattle.nc_tables.specs.declared.path.Piece.{Piece, Piece', None', Some', out-Piece, roll-Piece}
 use Rattle.nc_tables.specs.declared.system_bits.SystemBits.{SystemBits}
@@ -26,3 +27,15 @@ pub made : (numbers : List ℕ) (bits : SystemBits) (rest : Option (Rc Piece Glo
 unfolding roll-Piece denote.Hole.Carrier.roll
 made numbers bits None full pieces has = (full, tt, has)
 made numbers bits (Some piece) full pieces has = (full, pieces piece refl, has)
+
+-- a number that is in a piece or behind it is in its own numbers or behind it
+one_of : (a : Piece) (number : ℕ) → list_any (λ n. n == number) (piece_numbers a) ≡ (list_any (λ n. n == number) (out-Piece a).numbers || list_any (λ n. n == number) (shared_numbers (out-Piece a).rest))
+unfolding out-Piece denote.Hole.Carrier.out
+one_of (Piece' numbers bits None') number = list_any-append (λ n. n == number) numbers []
+one_of (Piece' numbers bits (Some' p piece)) number = list_any-append (λ n. n == number) numbers (piece_numbers piece)
+
+pub in_piece : (a : Piece) (number : ℕ) → list_any (λ n. n == number) (out-Piece a).numbers ≡ true → list_any (λ n. n == number) (piece_numbers a) ≡ true
+in_piece a number own = one_of a number ∙ ap (λ b. b || list_any (λ n. n == number) (shared_numbers (out-Piece a).rest)) own
+
+pub behind_piece : (a : Piece) (number : ℕ) → list_any (λ n. n == number) (out-Piece a).numbers ≡ false → list_any (λ n. n == number) (piece_numbers a) ≡ list_any (λ n. n == number) (shared_numbers (out-Piece a).rest)
+behind_piece a number own = one_of a number ∙ ap (λ b. b || list_any (λ n. n == number) (shared_numbers (out-Piece a).rest)) own

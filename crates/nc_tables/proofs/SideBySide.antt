@@ -1,11 +1,11 @@
 -- Items in order of their prefixes: those of one prefix stand side by side.
-use Rattle.std.proofs.Common.{◌≡◌, ℕ, zero, suc, ◌+◌, ◌-◌, ◌<◌, ◌≤◌, Bool, true, false, cond, not, List, [], ◌∷◌, length, get_or, refl, sym, ap, ◌∙◌, arith, inl, inr}
+use Rattle.std.proofs.Common.{◌≡◌, ℕ, zero, suc, ◌+◌, ◌-◌, ◌<◌, ◌≤◌, Bool, true, false, cond, not, ◌&&◌, ◌==◌, List, [], ◌∷◌, length, get_or, refl, sym, ap, ◌∙◌, arith, inl, inr}
 use Rattle.std.specs.List.{AllWithin, range_with_len}
 use Rattle.std.specs.List.Sorted.{IsPartitionPoint, IsPartitionedBy, IsSortedByKey}
 use Rattle.std.specs.Cmp.{IsTotalOrder}
 use Rattle.std.specs.declared.cmp.Ordering.{Ordering}
 use Rattle.std.specs.declared.cmp.Ordering.TheVariants.{Less, Equal, Greater}
-use Rattle.std.specs.Ordering.{ordering_reverse, is_lt, is_le, is_gt, is_eq}
+use Rattle.std.specs.Ordering.{ordering_reverse, ordering_then, nat_cmp, is_lt, is_le, is_gt, is_eq}
 use Rattle.std.proofs.lemmas.Cmp.{nat_cmp_total, on_total, then_total, upto}
 use Rattle.std.proofs.lemmas.List.Sorted.{sorted_far, ranks_by}
 use Rattle.std.proofs.lemmas.Bool.{cases_lt}
@@ -41,8 +41,19 @@ by_no_gt Less e = refl
 by_no_gt Equal e = refl
 by_no_gt Greater e = absurd cc
 
+eq_nat : (a b : ℕ) → (a == b) ≡ is_eq (nat_cmp a b)
+eq_nat a b = grind (arith, nat_tests)
+
+eq_then : (o r : Ordering) → (is_eq o && is_eq r) ≡ is_eq (ordering_then o r)
+eq_then Less r = refl
+eq_then Equal r = refl
+eq_then Greater r = refl
+
 pub same_by_cmp : (q p : Cidr) → same_prefix q p ≡ is_eq (prefix_cmp q p)
-same_by_cmp q p = grind (arith, nat_tests)
+same_by_cmp q p =
+    ap (λ b. b && (q.len == p.len)) (eq_nat q.base p.base)
+    ∙ ap (λ b. is_eq (nat_cmp q.base p.base) && b) (eq_nat q.len p.len)
+    ∙ eq_then (nat_cmp q.base p.base) (nat_cmp q.len p.len)
 
 pub upto_upto : (q p r : Cidr) → is_le (prefix_cmp q p) ≡ true → is_le (prefix_cmp p r) ≡ true → is_le (prefix_cmp q r) ≡ true
 upto_upto q p r first second =

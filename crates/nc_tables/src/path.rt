@@ -388,13 +388,16 @@ impl<'a> Numbers<'a> {
         ensures first { result ≡ slice_get self.old 0 }
         ensures left { self.new ≡ drop 1 self.old }
     {
-        if self.own.is_empty() {
-            let piece = self.rest?;
-            self.own = &piece.numbers;
-            self.rest = piece.rest.as_ref();
+        if let Some((first, others)) = self.own.split_first() {
+            self.own = others;
+            return Some(*first);
         }
-        let (first, others) = self.own.split_first()?;
-        self.own = others;
-        Some(*first)
+        let Some(piece) = self.rest else {
+            return None;
+        };
+        let piece: &Piece = piece;
+        self.own = &piece.numbers[1..];
+        self.rest = piece.rest.as_ref();
+        Some(piece.numbers[0])
     }
 }

@@ -1,9 +1,9 @@
 use Rattle.std.proofs.Common.{◌≡◌, ℕ, ◌-◌, ◌/◌, ◌<◌, sym, ap, subst, ◌∙◌, arith}
 use Rattle.nc_types.specs.Cidr.{Covers}
 use Rattle.nc_types.specs.Masks.{size_of}
-use Rattle.nc_tables.proofs.LongestPrefix.{AreShorter, step, read_last, none_covers, last_upto, last_point, last_rows, last_shares, not_found}
+use Rattle.nc_tables.proofs.LongestPrefix.{AreShorter, step, read_last, none_covers, last_upto, last_point, last_rows, last_shares, not_found, all_short}
 use Rattle.nc_tables.proofs.Nested.{fewer}
-use Rattle.nc_tables.proofs.SideBySide.{side_by_side}
+use Rattle.nc_tables.proofs.SideBySide.{side_by_side, ends_in_order}
 use Rattle.nc_tables.proofs.longest.longest_rows.Goals as goal
 
 pub first_place-from-requires-clause-behind : goal.first_place-from-requires-clause-behind
@@ -71,3 +71,20 @@ returns-then-to-eq0-clause-rows g c =
     let to = c.place_behind-to.result in
     let s = step pre c.args.addr.0 rows c.requires c.lengths.len to c.around.result (omega (arith, c.lengths-test.true)) c.lengths.invariant.within c.lengths.invariant.short c.around.ensures c.place_behind-to.ensures.parts in
     not_found pre c.args.addr.0 rows (none_covers pre c.args.addr.0 rows (c.lengths.len - 1) to s c.if-to-eq0.true)
+
+pub lengths-init : goal.lengths-init
+lengths-init g c = record {
+  short = all_short g.R.HasPrefix.prefix_of c.args.addr.0 c.args.rows.now c.requires.valid;
+  within = omega arith;
+}
+
+pub returns-then-covers-clause-ordered : goal.returns-then-covers-clause-ordered
+returns-then-covers-clause-ordered g c =
+    let pre = g.R.HasPrefix.prefix_of in
+    let rows = c.args.rows.now in
+    let addr = c.args.addr.0 in
+    let to = c.place_behind-to.result in
+    let p = c.prefix-prefix.result in
+    let s = step pre addr rows c.requires c.lengths.len to c.around.result (omega (arith, c.lengths-test.true)) c.lengths.invariant.within c.lengths.invariant.short c.around.ensures c.place_behind-to.ensures.parts in
+    let last = read_last pre addr rows to c.index-rows-to.result p c.if-to-eq0.false c.place_behind-to.ensures.bound c.index-rows-to.is c.prefix-prefix.ensures in
+    ends_in_order pre p rows c.first_place-from.result to c.first_place-from.ensures.bound c.place_behind-to.ensures.bound c.first_place-from.ensures.parts (last_point pre addr rows (c.lengths.len - 1) to s p last)
