@@ -12,3 +12,4 @@ pub mod WalkSteps
 pub mod Parents
 pub mod Extension
 pub mod FactLemmas
+pub mod WalkCounts

@@ -1,11 +1,13 @@
 use Rattle.std.proofs.Common.{ℕ, ◌≡◌, ◌+◌, ◌<◌, ◌≤◌, ◌∷◌, [], List, reverse, sym, ap, ◌∙◌, subst, refl, arith}
 use Rattle.nc_graph.specs.declared.node.NodeId.{NodeId}
+use Rattle.nc_graph.specs.Flow.{raised}
 use Rattle.nc_graph.specs.Nodes.{AreNodesOf}
 use Rattle.nc_graph.specs.Tasks.{find, close, job_of, opened}
 use Rattle.nc_graph.specs.Walk.{Step, visit, number, expanded}
 use Rattle.nc_graph.proofs.StackLemmas.{steps, steps-opened, steps-found, AreCounted, counted-opened, counted-found}
+use Rattle.nc_graph.proofs.WalkCounts.{count-least, count-most, more-least, more-most, count-full}
 use Rattle.nc_graph.proofs.WalkLemmas.{absent-in, roots-hold}
-use Rattle.nc_graph.proofs.WalkSteps.{Walk, step-holds, skip, infers, placeable, numbers, begins, exceeds, ends, answers}
+use Rattle.nc_graph.proofs.WalkSteps.{Walk, step-holds, skip, infers, placeable, numbers, begins, exceeds, ends, counts, answers}
 use Rattle.nc_graph.proofs.Weights.{weight, skip-lighter, number-lighter, infer-lighter}
 use Rattle.nc_graph.proofs.walk.walk.Goals as goal
 
@@ -355,3 +357,85 @@ returns-clause-nodes g c =
     let none : steps flow c.walking.tasks ≡ [] = ap (steps flow) c.in_default.ensures in
     let w = subst (λ (st : List (Step g.row.F.Denot)). Walk flow old roots before n ids st found count) none c.walking.invariant.walk in
     subst (λ (ps : List NodeId). AreNodesOf n ps roots) (sym (c.shrink_to_fit.ensures.items ∙ c.reverse.ensures.items)) (answers flow law old roots before hold n ids found count w)
+
+pub returns-clause-asked_least : goal.returns-clause-asked_least
+returns-clause-asked_least g c =
+    count-least (g.I.Inference.flow c.args.rules.now) c.args.graph.now c.args.facts.now (g.I.Inference.asked c.args.rules.now) c.walking.graph c.walking.nodes.items (steps (g.I.Inference.flow c.args.rules.now) c.walking.tasks) c.walking.found (g.I.Inference.asked c.walking.rules) c.walking.invariant.walk (g.met.I.Inference.counted c.args.rules.now)
+
+pub returns-clause-asked_most : goal.returns-clause-asked_most
+returns-clause-asked_most g c =
+    count-most (g.I.Inference.flow c.args.rules.now) c.args.graph.now c.args.facts.now (g.I.Inference.asked c.args.rules.now) c.walking.graph c.walking.nodes.items (steps (g.I.Inference.flow c.args.rules.now) c.walking.tasks) c.walking.found (g.I.Inference.asked c.walking.rules) c.walking.invariant.walk
+
+pub returns-then-found-limit-clause-asked_least : goal.returns-then-found-limit-clause-asked_least
+returns-then-found-limit-clause-asked_least g c =
+    count-least (g.I.Inference.flow c.args.rules.now) c.args.graph.now c.args.facts.now (g.I.Inference.asked c.args.rules.now) c.walking.graph c.walking.nodes.items (steps (g.I.Inference.flow c.args.rules.now) c.walking.tasks) c.walking.found (g.I.Inference.asked c.walking.rules) c.walking.invariant.walk (g.met.I.Inference.counted c.args.rules.now)
+
+pub returns-then-found-limit-clause-asked_most : goal.returns-then-found-limit-clause-asked_most
+returns-then-found-limit-clause-asked_most g c =
+    count-most (g.I.Inference.flow c.args.rules.now) c.args.graph.now c.args.facts.now (g.I.Inference.asked c.args.rules.now) c.walking.graph c.walking.nodes.items (steps (g.I.Inference.flow c.args.rules.now) c.walking.tasks) c.walking.found (g.I.Inference.asked c.walking.rules) c.walking.invariant.walk
+
+pub returns-in_err-push-in-Visit-clause-asked_least : goal.returns-in_err-push-in-Visit-clause-asked_least
+returns-in_err-push-in-Visit-clause-asked_least g c =
+    count-least (g.I.Inference.flow c.args.rules.now) c.args.graph.now c.args.facts.now (g.I.Inference.asked c.args.rules.now) c.walking.graph c.walking.nodes.items (steps (g.I.Inference.flow c.args.rules.now) c.walking.tasks) c.walking.found (g.I.Inference.asked c.walking.rules) c.walking.invariant.walk (g.met.I.Inference.counted c.args.rules.now)
+
+pub returns-in_err-push-in-Visit-clause-asked_most : goal.returns-in_err-push-in-Visit-clause-asked_most
+returns-in_err-push-in-Visit-clause-asked_most g c =
+    count-most (g.I.Inference.flow c.args.rules.now) c.args.graph.now c.args.facts.now (g.I.Inference.asked c.args.rules.now) c.walking.graph c.walking.nodes.items (steps (g.I.Inference.flow c.args.rules.now) c.walking.tasks) c.walking.found (g.I.Inference.asked c.walking.rules) c.walking.invariant.walk
+
+pub returns-in_err-number-in-Number-clause-asked_least : goal.returns-in_err-number-in-Number-clause-asked_least
+returns-in_err-number-in-Number-clause-asked_least g c =
+    count-least (g.I.Inference.flow c.args.rules.now) c.args.graph.now c.args.facts.now (g.I.Inference.asked c.args.rules.now) c.walking.graph c.walking.nodes.items (steps (g.I.Inference.flow c.args.rules.now) c.walking.tasks) c.walking.found (g.I.Inference.asked c.walking.rules) c.walking.invariant.walk (g.met.I.Inference.counted c.args.rules.now)
+
+pub returns-in_err-number-in-Number-clause-asked_most : goal.returns-in_err-number-in-Number-clause-asked_most
+returns-in_err-number-in-Number-clause-asked_most g c =
+    count-most (g.I.Inference.flow c.args.rules.now) c.args.graph.now c.args.facts.now (g.I.Inference.asked c.args.rules.now) c.walking.graph c.walking.nodes.items (steps (g.I.Inference.flow c.args.rules.now) c.walking.tasks) c.walking.found (g.I.Inference.asked c.walking.rules) c.walking.invariant.walk
+
+pub returns-in_err-infer-in-Visit-clause-asked_least : goal.returns-in_err-infer-in-Visit-clause-asked_least
+returns-in_err-infer-in-Visit-clause-asked_least g c =
+    subst (λ (m : ℕ). g.I.Inference.asked c.args.rules.now ≤ m) (sym c.infer.ensures.asked) (more-least (g.I.Inference.flow c.args.rules.now) c.args.graph.now c.args.facts.now (g.I.Inference.asked c.args.rules.now) c.walking.graph c.walking.nodes.items (steps (g.I.Inference.flow c.args.rules.now) c.walking.tasks) c.walking.found (g.I.Inference.asked c.walking.rules) c.walking.invariant.walk (g.met.I.Inference.counted c.args.rules.now))
+
+pub returns-in_err-infer-in-Visit-clause-asked_most : goal.returns-in_err-infer-in-Visit-clause-asked_most
+returns-in_err-infer-in-Visit-clause-asked_most g c =
+    subst (λ (m : ℕ). m ≤ raised (g.I.Inference.asked c.args.rules.now) (c.args.graph.now.limit + 1)) (sym c.infer.ensures.asked) (more-most (g.I.Inference.flow c.args.rules.now) c.args.graph.now c.args.facts.now (g.I.Inference.asked c.args.rules.now) c.walking.graph c.walking.nodes.items (steps (g.I.Inference.flow c.args.rules.now) c.walking.tasks) c.walking.found (g.I.Inference.asked c.walking.rules) c.walking.invariant.walk)
+
+pub returns-then-found-limit-clause-asked_full : goal.returns-then-found-limit-clause-asked_full
+returns-then-found-limit-clause-asked_full g c = λ _. count-full (g.I.Inference.flow c.args.rules.now) c.args.graph.now c.args.facts.now (g.I.Inference.asked c.args.rules.now) c.walking.graph c.walking.nodes.items (steps (g.I.Inference.flow c.args.rules.now) c.walking.tasks) c.walking.found (g.I.Inference.asked c.walking.rules) c.walking.invariant.walk (c.if-found-limit.true ∙ c.limit.ensures)
+
+pub returns-clause-asked : goal.returns-clause-asked
+returns-clause-asked g c =
+    let rules = c.args.rules.now in
+    let flow = g.I.Inference.flow rules in
+    let law = g.met.I.Inference.lawful rules in
+    let old = c.args.graph.now in
+    let roots = c.args.facts.now in
+    let hold = roots-hold flow old roots c.requires.holds c.requires.mirrors in
+    let before = g.I.Inference.asked rules in
+    let count = g.I.Inference.asked c.walking.rules in
+    let n = c.walking.graph in
+    let ids = c.walking.nodes.items in
+    let found = c.walking.found in
+    let none : steps flow c.walking.tasks ≡ [] = ap (steps flow) c.in_default.ensures in
+    let w = subst (λ (st : List (Step g.row.F.Denot)). Walk flow old roots before n ids st found count) none c.walking.invariant.walk in
+    counts flow law old roots before hold n ids found count w
+
+pub number-requires-clause-room : goal.number-requires-clause-room
+number-requires-clause-room g c =
+    let rules = c.args.rules.now in
+    let flow = g.I.Inference.flow rules in
+    let law = g.met.I.Inference.lawful rules in
+    let old = c.args.graph.now in
+    let roots = c.args.facts.now in
+    let hold = roots-hold flow old roots c.requires.holds c.requires.mirrors in
+    let before = g.I.Inference.asked rules in
+    let count = g.I.Inference.asked c.walking.rules in
+    let n = c.walking.graph in
+    let ids = c.walking.nodes.items in
+    let found = c.walking.found in
+    let t = c.in-Number.inferred in
+    let js = c.pop.new.self in
+    let rest = steps flow js in
+    let next : c.walking.tasks ≡ close t.fact t.kind t.parents ∷ js = c.in-Some.ensures ∙ ap (λ t. job_of t ∷ js) c.in-Number.is in
+    let counts = subst (AreCounted flow) next c.walking.invariant.counts in
+    let top : steps flow c.walking.tasks ≡ number t.fact t.kind (flow.parents t.fact) ∷ rest = ap (steps flow) next in
+    let w = subst (λ (st : List (Step g.row.F.Denot)). Walk flow old roots before n ids st found count) top c.walking.invariant.walk in
+    (placeable flow law old roots before hold g.F.PartialEq.eq g.met.I.Inference.exact t.fact t.kind (flow.parents t.fact) t.parents counts.0 rest n ids found count w).room
