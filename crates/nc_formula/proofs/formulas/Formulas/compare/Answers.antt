@@ -1,10 +1,11 @@
-use Rattle.std.proofs.Common.{◌≡◌, map, Err, ap, sym, subst, ◌∙◌}
+use Rattle.std.proofs.Common.{◌≡◌, map, Err, inl, ap, sym, subst, ◌∙◌}
 use Rattle.nc_graph.specs.Nodes.{node_flow}
 use Rattle.nc_graph.proofs.Members.{of_all, all_from}
 use Rattle.nc_diagram.specs.declared.fault.StoreFault.TheVariants.{Full}
-use Rattle.nc_diagram.specs.Diagrams.{meaning}
-use Rattle.nc_formula.specs.Parts.{carrying_each, IsBaseOfBoth, Gains}
-use Rattle.nc_formula.specs.Formulas.{IsKnown}
+use Rattle.nc_diagram.specs.Diagrams.{Diagrams, meaning}
+use Rattle.nc_formula.specs.Parts.{carrying_each, IsBaseOfTest, IsBaseOfBoth, Gains}
+use Rattle.nc_formula.specs.Formulas.{IsKnown, AreFormulas}
+use Rattle.nc_formula.proofs.GainLemmas.{gains-wider}
 use Rattle.nc_formula.proofs.CompareLemmas.{answer-same, first-crowded, both-gained, second-crowded}
 use Rattle.nc_formula.proofs.formulas.Formulas.compare.Goals as goal
 
@@ -55,3 +56,43 @@ returns-in-Err-counter-clause-gains g c =
     let seconds = map (λ p. p.0) c.args.second.now in
     subst (Gains (IsBaseOfBoth flow firsts seconds) c.args.store.now) (sym c.counter.ensures.unchanged)
     (both-gained flow firsts seconds c.args.store.now c.of_each.new.store c.of_each.ensures.gains c.of_each-2.new.store c.of_each-2.ensures.gains)
+
+pub returns-in-Err-clause-gains : goal.returns-in-Err-clause-gains
+returns-in-Err-clause-gains g c =
+    gains-wider (IsBaseOfTest (node_flow c.args.graph.now) (map (λ p. p.0) c.args.first.now)) (IsBaseOfBoth (node_flow c.args.graph.now) (map (λ p. p.0) c.args.first.now) (map (λ p. p.0) c.args.second.now)) c.args.store.now c.of_each.new.store (λ b w. inl w) c.of_each.ensures.gains
+
+pub returns-in-Err-of_each-clause-still : goal.returns-in-Err-of_each-clause-still
+returns-in-Err-of_each-clause-still g c =
+    λ i r e. c.of_each-2.ensures.still i r (c.of_each.ensures.still i r e)
+
+pub returns-in-Ok-counter-clause-still : goal.returns-in-Ok-counter-clause-still
+returns-in-Ok-counter-clause-still g c =
+    λ i r e. c.of_each-2.ensures.still i r (c.of_each.ensures.still i r e)
+
+pub returns-in-Err-counter-clause-still : goal.returns-in-Err-counter-clause-still
+returns-in-Err-counter-clause-still g c =
+    λ i r e. c.of_each-2.ensures.still i r (c.of_each.ensures.still i r e)
+
+pub returns-in-Ok-counter-clause-second : goal.returns-in-Ok-counter-clause-second
+returns-in-Ok-counter-clause-second g c =
+    c.in-Ok-of_each.ensures.known
+
+pub returns-in-Ok-counter-clause-formulas : goal.returns-in-Ok-counter-clause-formulas
+returns-in-Ok-counter-clause-formulas g c =
+    subst (λ (d : Diagrams). AreFormulas (node_flow c.args.graph.now) d.nodes c.of_each-2.new.self) (sym c.counter.ensures.unchanged) c.of_each-2.ensures.formulas
+
+pub returns-in-Err-counter-clause-formulas : goal.returns-in-Err-counter-clause-formulas
+returns-in-Err-counter-clause-formulas g c =
+    subst (λ (d : Diagrams). AreFormulas (node_flow c.args.graph.now) d.nodes c.of_each-2.new.self) (sym c.counter.ensures.unchanged) c.of_each-2.ensures.formulas
+
+pub returns-in-Err-counter-clause-full : goal.returns-in-Err-counter-clause-full
+returns-in-Err-counter-clause-full g c =
+    λ full. absurd (c.in-Err-counter.ensures.never_full full)
+
+pub counter-requires-clause-left : goal.counter-requires-clause-left
+counter-requires-clause-left g c =
+    (c.of_each-2.ensures.gains.unchanged c.in-Ok.left c.in-Ok.ensures.means.belongs).0
+
+pub counter-requires-clause-right : goal.counter-requires-clause-right
+counter-requires-clause-right g c =
+    c.in-Ok-of_each.ensures.means.belongs

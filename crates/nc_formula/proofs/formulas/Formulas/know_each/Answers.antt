@@ -138,3 +138,43 @@ returns-clause-known g c =
     let none : length c.tasks.tasks.items ≡ 0 = grind (arith, common_steps) in
     let m = subst (λ (ts : List Task). IsMaking flow roots c.tasks.self (steps flow ts)) (nil_from_length c.tasks.tasks.items none) c.tasks.invariant.making in
     all_from (λ p. IsKnown c.tasks.self p.0) ids (λ p within. ends flow roots c.tasks.self m p.0 (in-map ids p within))
+
+pub returns-in_err-need_all-clause-gains : goal.returns-in_err-need_all-clause-gains
+returns-in_err-need_all-clause-gains g c =
+    gains-none (IsBaseFrom (node_flow c.args.graph.now) (map (λ p. p.0) c.args.nodes.now)) c.args.store.now
+
+pub returns-in_err-open-in-Need-clause-still : goal.returns-in_err-open-in-Need-clause-still
+returns-in_err-open-in-Need-clause-still g c =
+    c.tasks.invariant.still
+
+pub returns-in_err-open-in-Need-clause-formulas : goal.returns-in_err-open-in-Need-clause-formulas
+returns-in_err-open-in-Need-clause-formulas g c =
+    c.tasks.invariant.formulas
+
+pub returns-in_err-open-in-Need-clause-gains : goal.returns-in_err-open-in-Need-clause-gains
+returns-in_err-open-in-Need-clause-gains g c =
+    c.tasks.invariant.gains
+
+pub returns-in-Err-clause-still : goal.returns-in-Err-clause-still
+returns-in-Err-clause-still g c =
+    λ j r e. c.know.ensures.still j r (c.tasks.invariant.still j r e)
+
+pub returns-in-Err-clause-formulas : goal.returns-in-Err-clause-formulas
+returns-in-Err-clause-formulas g c =
+    c.know.ensures.formulas
+
+pub know-requires-clause-formulas : goal.know-requires-clause-formulas
+know-requires-clause-formulas g c =
+    c.tasks.invariant.formulas
+
+pub returns-clause-still : goal.returns-clause-still
+returns-clause-still g c =
+    c.tasks.invariant.still
+
+pub returns-clause-formulas : goal.returns-clause-formulas
+returns-clause-formulas g c =
+    c.tasks.invariant.formulas
+
+pub returns-clause-gains : goal.returns-clause-gains
+returns-clause-gains g c =
+    c.tasks.invariant.gains

@@ -69,3 +69,12 @@ returns-in-Err-each_of-clause-full g c = λ full.
     (gains-wider (IsBaseFrom flow roots) (IsBaseOfTest flow roots) c.args.store.now mid (λ b w. inl w) c.know_each.ensures.gains)
     (crowded-wider (IsFirstEachKnown mid.nodes table ids) (IsBaseOfTest flow roots) mid
     (test-bases flow mid.nodes table c.know_each.ensures.formulas ids (λ p i. of_all (λ p. IsKnown table p.0) ids p c.in-Ok.ensures.known i)) (c.in-Err-each_of.ensures.full (ap Err is)))
+
+pub returns-in-Err-clause-gains : goal.returns-in-Err-clause-gains
+returns-in-Err-clause-gains g c =
+    gains-wider (IsBaseFrom (node_flow c.args.graph.now) (map (λ p. p.0) c.args.nodes.now)) (IsBaseOfTest (node_flow c.args.graph.now) (map (λ p. p.0) c.args.nodes.now)) c.args.store.now c.know_each.new.store (λ b w. inl w) c.know_each.ensures.gains
+
+pub returns-in-Err-clause-full : goal.returns-in-Err-clause-full
+returns-in-Err-clause-full g c = λ full.
+    let is : c.in-Err.fault ≡ Full = cc in
+    crowded-wider (IsBaseFrom (node_flow c.args.graph.now) (map (λ p. p.0) c.args.nodes.now)) (IsBaseOfTest (node_flow c.args.graph.now) (map (λ p. p.0) c.args.nodes.now)) c.args.store.now (λ b w. inl w) (c.in-Err.ensures.full (ap Err is))
