@@ -1,8 +1,10 @@
 -- The slots of answers: how many a call has, and that it leaves some.
-use Rattle.std.proofs.Common.{◌≡◌, ℕ, suc, ◌+◌, ◌<◌, ◌≤◌, ◌==◌, cond, Bool, List, [], ◌∷◌, length, get_or, set, All, refl, ap, inl, inr, arith}
+use Rattle.std.proofs.Common.{◌≡◌, ℕ, suc, ◌+◌, ◌*◌, ◌<◌, ◌≤◌, ◌==◌, cond, Bool, List, [], ◌∷◌, ◌++◌, length, get_or, set, take, replicate, All, refl, ap, inl, inr, arith}
 use Rattle.std.proofs.lemmas.Bool.{cases_eq, eq-eqb, ne_eqb}
 use Rattle.std.proofs.lemmas.List.{length-set}
-use Rattle.std.proofs.lemmas.List.Sums.{count_by-le-length, sum_by-cons, sum_by-set}
+use Rattle.std.proofs.lemmas.List.Elements.{All-append, All-replicate, All-take}
+use Rattle.std.proofs.lemmas.List.Folds.{sum_by-replicate}
+use Rattle.std.proofs.lemmas.List.Sums.{count_by-le-length, sum_by-append, sum_by-cons, sum_by-set, sum_by-take-le}
 use Rattle.nc_diagram.specs.declared.table.Slot.{Slot}
 use Rattle.nc_diagram.specs.Table.{of_call}
 use Rattle.nc_diagram.proofs.WayLemmas.{ComesTo, ComesTo-first}
@@ -52,3 +54,23 @@ of_call-next call (e ∷ slots) are =
     let first : e.call ≤ call = are 0 e (omega arith) in
     let more : of_call (call + 1) (e ∷ slots) ≡ counts (call + 1) e + of_call (call + 1) slots = sum_by-cons (counts (call + 1)) e slots in
     omega (arith, more, count_none (call + 1) e (λ same. omega (arith, same, first)), of_call-next call slots (λ k d h. are (suc k) d (omega (arith, h))))
+
+-- slots that are made have no answer of a call
+pub of_call-room : (call n k : ℕ) (slots : List Slot) → 0 < call → of_call call (take n slots ++ replicate k none_yet) ≤ of_call call slots
+of_call-room call n k slots some =
+    let both : of_call call (take n slots ++ replicate k none_yet) ≡ of_call call (take n slots) + of_call call (replicate k none_yet) = sum_by-append (counts call) (take n slots) (replicate k none_yet) in
+    let made : of_call call (replicate k none_yet) ≡ k * counts call none_yet = sum_by-replicate (counts call) k none_yet in
+    let none : k * counts call none_yet ≡ k * 0 = ap (λ m. k * m) (count_none call none_yet (λ e. omega (arith, e, some))) in
+    let kept : of_call call (take n slots) ≤ of_call call slots = sum_by-take-le (counts call) slots n in
+    omega (arith, both, made, none, kept)
+
+-- and are of no later call
+pub earlier-room : (call n k : ℕ) (slots : List Slot) → All (λ e. e.call ≤ call) slots → All (λ e. e.call ≤ call) (take n slots ++ replicate k none_yet)
+earlier-room call n k slots are =
+    let low : Slot → Type 0 = λ e. e.call ≤ call in
+    let none : low none_yet = omega arith in
+    All-append low (take n slots) (replicate k none_yet) (All-take low n slots are) (All-replicate low k none_yet none)
+
+-- one bound after another
+pub at-most : (a b c d : ℕ) → a ≤ b → b ≤ c → c ≤ d → a ≤ d
+at-most a b c d first second third = omega arith
