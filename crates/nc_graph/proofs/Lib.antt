@@ -13,3 +13,4 @@ pub mod Parents
 pub mod Extension
 pub mod FactLemmas
 pub mod WalkCounts
+pub mod StackEnds
