@@ -41,6 +41,29 @@ pub record IsPath (sizes : Known) (r : ℕ) (path : List ℕ) : Type 0 where
   pub falls : (i j : ℕ) → i < j → j < length path → slice_index path j < slice_index path i
   pub absent : (k : ℕ) → k < length path → sizes (slice_index path k) ≡ None
 
+-- at first none is known, and only the first is looked at
+pub sizes_none : (nodes : List Node) (free : List Bool) (sizes : Known) → ((p : ℕ) → sizes p ≡ None) → AreSizes nodes free sizes
+sizes_none nodes free sizes none r size e = absurd (let found : ◌≡◌ {A = Option (Option ℕ)} None (Some size) = sym (none r) ∙ e in cc)
+
+pub path_one : (sizes : Known) (r : ℕ) → ((p : ℕ) → sizes p ≡ None) → IsPath sizes r ([] ++ r ∷ [])
+path_one sizes r none = record {
+  first = refl;
+  falls = λ i j lt within. omega arith;
+  absent = λ k within. none (slice_index (r ∷ []) k);
+}
+
+-- the first is the last one where no other waits
+pub path_alone : (sizes : Known) (r : ℕ) (path : List ℕ) (at : ℕ) → IsPath sizes r (path ++ at ∷ []) → length path ≡ 0 → at ≡ r
+path_alone sizes r [] at p none = p.first
+path_alone sizes r (top ∷ path) at p none = absurd (omega arith)
+
+-- less is left to do at a lower place
+pub work_lower : (count : ℕ) (sizes : Known) (next at : ℕ) → next < at → work count sizes next < work count sizes at
+work_lower count sizes next at lower = add_lower (unknown sizes count * count) next at lower
+  where
+    add_lower : (m x y : ℕ) → x < y → m + x < m + y
+    add_lower m x y lt = omega arith
+
 last_of : (path : List ℕ) (at : ℕ) → slice_index (path ++ at ∷ []) (length path) ≡ at
 last_of path at = get_or_at path at [] 0 (length path) refl
 

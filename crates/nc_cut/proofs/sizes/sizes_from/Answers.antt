@@ -2,7 +2,7 @@ use Rattle.std.proofs.Common.{◌≡◌, ℕ, ◌+◌, [], ◌∷◌, ◌++◌, 
 use Rattle.nc_cut.specs.Known.{known_in}
 use Rattle.nc_diagram.specs.Diagrams.{Belongs}
 use Rattle.nc_cut.specs.Sizes.{AreSizes}
-use Rattle.nc_cut.proofs.KnownLemmas.{IsPath, path_within, path_absent, path_longer, path_shorter, sizes_more, work_less}
+use Rattle.nc_cut.proofs.KnownLemmas.{IsPath, sizes_none, path_one, path_alone, work_lower, path_within, path_absent, path_longer, path_shorter, sizes_more, work_less}
 use Rattle.nc_cut.proofs.sizes.sizes_from.Goals as goal
 use Rattle.nc_cut.proofs.sizes.sizes_from.Goals.{In-Sized, In-Some, In_ok-insert-in-Sized}
 
@@ -58,3 +58,27 @@ walk-smaller c =
 
 pub walk-preserved : goal.walk-preserved
 walk-preserved c = let at = goal.at.walk-preserved c in record { sizes = sizes at.In_ok-insert-in-Sized; path = shorter c }
+
+pub walk-init : goal.walk-init
+walk-init c =
+    let known = known_in c.in_ok-sizes.sizes in
+    record {
+      sizes = sizes_none c.args.store.now.nodes c.args.free.now known c.in_ok-sizes.ensures;
+      path = subst (λ ws. IsPath known c.args.r (ws ++ c.args.r ∷ [])) (sym c.new-waiting.ensures.items) (path_one known c.args.r c.in_ok-sizes.ensures);
+    }
+
+pub look-requires-clause-belongs : goal.look-requires-clause-belongs
+look-requires-clause-belongs c = omega (arith, path_within (known_in c.walk.sizes) c.args.r c.walk.waiting.items c.walk.at c.walk.invariant.path, c.requires)
+
+pub look-requires-clause-sizes : goal.look-requires-clause-sizes
+look-requires-clause-sizes c = c.walk.invariant.sizes
+
+pub walk-smaller-in-Waits : goal.walk-smaller-in-Waits
+walk-smaller-in-Waits c = work_lower (length c.args.store.now.nodes + 2) (known_in c.walk.sizes) c.in-Waits.end c.walk.at c.in-Waits.ensures.0
+
+pub returns-in_default-clause-known : goal.returns-in_default-clause-known
+returns-in_default-clause-known c =
+    let at = goal.at.returns-in_default-clause-known c in
+    let alone : c.walk.at ≡ c.args.r =
+    path_alone (known_in c.walk.sizes) c.args.r c.walk.waiting.items c.walk.at c.walk.invariant.path (omega (arith, c.in_default.ensures.cases.0, c.walk.waiting.ok.0)) in
+    (c.in-Sized.size, ap (known_in c.insert.new.self) (sym alone) ∙ put at.In_ok-insert-in-Sized)
