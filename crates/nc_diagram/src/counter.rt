@@ -1,8 +1,9 @@
 // The greatest set that tells one function from another.
 
-ghost use Rattle.std.specs.Prelude.{◌≡◌, ◌≤◌, ◌⊎◌, min, IfOk, IsErrOf, MatchOption};
+ghost use Rattle.std.specs.Prelude.{◌≡◌, ◌≤◌, ◌⊎◌, [], false, min, IfOk, IsErrOf, MatchOption};
 ghost use Rattle.std.specs.List.Sorted.{IsStrictlyIncreasing};
 ghost use Rattle.indexmap.specs.IndexSet.{contains};
+ghost use Rattle.nc_diagram.specs.declared.apply.Pair.{Pair};
 ghost use Rattle.nc_diagram.specs.Sets.{all_but};
 ghost use Rattle.nc_diagram.specs.Diagrams.{Belongs, meaning, level};
 ghost use Rattle.nc_diagram.specs.Counter.{Implies, IsGreatest, IsEndAt};
@@ -79,7 +80,7 @@ impl Store {
         }
     }
 
-    // What `counter` answers of a pair, by a search of its high ends before its low ones.
+    // What `counter` answers of a pair.
     fn greatest(&self, alloc: Global, pair: Pair) -> Result<Option<Vec<u32>>, AllocError>
         requires { BothBelong self.now.nodes pair }
         ensures { IfOk result (λ o. MatchOption o
@@ -88,15 +89,39 @@ impl Store {
             × IsGreatest (meaning self.now.nodes pair.left) (meaning self.now.nodes pair.right)
             (all_but missing.items))) }
     {
-        self.checked();
         let mut turns: Vec<Turn> = Vec::new(alloc);
         let mut barren: IndexSet<Pair> = IndexSet::new(alloc);
+        match self.seek(alloc, pair, &mut turns, &mut barren) {
+            Ok(missing) => Ok(missing),
+            Err(error) => Err(error),
+        }
+    }
+
+    // The same, by a search of its high ends before its low ones, which begins with no turns and no
+    // pair that is known to be barren.
+    fn seek(
+        &self,
+        alloc: Global,
+        pair: Pair,
+        turns: &mut Vec<Turn>,
+        barren: &mut IndexSet<Pair>,
+    ) -> Result<Option<Vec<u32>>, AllocError>
+        requires pair { BothBelong self.now.nodes pair }
+        requires turns { turns.old.items ≡ [] }
+        requires barren { (p : Pair) → contains pair_eq barren.old p ≡ false }
+        ensures { IfOk result (λ o. MatchOption o
+            (Implies (meaning self.now.nodes pair.left) (meaning self.now.nodes pair.right))
+            (λ missing. IsStrictlyIncreasing missing.items
+            × IsGreatest (meaning self.now.nodes pair.left) (meaning self.now.nodes pair.right)
+            (all_but missing.items))) }
+    {
+        self.checked();
         let mut at = Search::Look(pair);
         'walk: loop {
             at = match at {
-                Search::Look(pair) => self.look(pair, &mut turns, &barren)?,
+                Search::Look(pair) => self.look(pair, turns, barren)?,
                 Search::Found => {
-                    let missing = low_variables(alloc, &turns)?;
+                    let missing = low_variables(alloc, turns)?;
                     return Ok(Some(missing));
                 }
                 Search::Barren(_ends) => match turns.pop() {
