@@ -10,3 +10,4 @@ pub mod ReachLemmas
 pub mod SetLemmas
 pub mod StrongLemmas
 mod RaiseLemmas
+pub mod GrowthLemmas

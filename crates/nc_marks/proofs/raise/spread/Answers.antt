@@ -2,8 +2,10 @@ use Rattle.std.proofs.Common.{◌≡◌, ◌<◌, ◌||◌, ◌∙◌, ℕ, ap, 
 use Rattle.std.proofs.lemmas.Grind.{common_steps}
 use Rattle.std.proofs.lemmas.List.{length-append}
 use Rattle.nc_graph.specs.Nodes.{node_flow}
+use Rattle.nc_marks.specs.Reach.{lowered}
 use Rattle.nc_marks.specs.Sets.{flag, has}
 use Rattle.nc_graph.proofs.Parents.{parents-at}
+use Rattle.nc_marks.proofs.GrowthLemmas.{raises-none, left-falls}
 use Rattle.nc_marks.proofs.ReachLemmas.{has_node-map}
 use Rattle.nc_marks.proofs.RaiseLemmas.{raises-trans, all-raised, open-more, within-more}
 use Rattle.nc_marks.proofs.raise.spread.Goals as goal
@@ -34,3 +36,26 @@ waiting-preserved g c =
       opened = λ o. open-more n is xs ys c.waiting.at a b node long lt at-is c.waiting.invariant.flagged next made (c.waiting.invariant.opened o);
       within = λ e tops w. within-more n is xs ys c.waiting.at a b node long lt at-is c.waiting.invariant.flagged next made e tops (c.waiting.invariant.within e tops w);
     }
+
+pub waiting-init : goal.waiting-init
+waiting-init g c =
+    record {
+      raises = raises-none c.args.raised.now.items c.args.reached.now.items;
+      flagged = c.requires.flagged;
+      few = omega arith;
+      opened = λ o. o;
+      within = λ e tops w. w;
+    }
+
+pub waiting-smaller : goal.waiting-smaller
+waiting-smaller g c =
+    let lt : c.waiting.at < length c.waiting.raised.items = omega (arith, c.waiting-test.true, c.len.ensures, c.waiting.raised.ok.0) in
+    left-falls (length c.raise_nodes.new.raised.items) (length c.waiting.raised.items) (lowered c.raise_nodes.new.reached.items) (lowered c.waiting.reached.items) c.waiting.at c.in_ok-raise_nodes.ensures.raises.count lt
+
+pub returns-clause-raises : goal.returns-clause-raises
+returns-clause-raises g c =
+    c.waiting.invariant.raises
+
+pub returns-clause-within : goal.returns-clause-within
+returns-clause-within g c =
+    c.waiting.invariant.within

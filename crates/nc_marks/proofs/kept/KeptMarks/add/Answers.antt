@@ -1,9 +1,11 @@
-use Rattle.std.proofs.Common.{◌≡◌, ◌≤◌, ◌<◌, ℕ, List, ◌∙◌, ◌||◌, length, ap, sym, subst, arith}
+use Rattle.std.proofs.Common.{◌≡◌, ◌≤◌, ◌<◌, ℕ, List, [], ◌∙◌, ◌||◌, length, get_or, ap, sym, subst, arith}
+use Rattle.std.proofs.lemmas.List.{length-map}
 use Rattle.nc_graph.specs.Nodes.{node_flow}
 use Rattle.nc_graph.specs.declared.node.NodeId.{NodeId}
 use Rattle.nc_marks.specs.Kept.{Kept, AreKept, TouchesOnly, kept_nodes}
 use Rattle.nc_marks.specs.Reach.{leaf_in}
 use Rattle.nc_marks.specs.Sets.{flag, in_some}
+use Rattle.nc_marks.proofs.GrowthLemmas.{table-on}
 use Rattle.nc_marks.proofs.KeptLemmas.{kept-more, mark-same}
 use Rattle.nc_marks.proofs.kept.KeptMarks.add.Goals as goal
 
@@ -43,3 +45,21 @@ returns-in-Ok-clause-touched g c =
           ∙ ap (λ (ps : List NodeId). leaf_in (node_flow n) e ps || flag marks.some e) c.deref.ensures.value)
           (c.in-Ok.ensures.strong e lt none) (c.in-Ok.ensures.some e lt none);
     })
+
+pub returns-in-Ok-clause-elements : goal.returns-in-Ok-clause-elements
+returns-in-Ok-clause-elements g c =
+    c.add_strong.ensures.elements ∙ c.add_leaves.ensures.elements ∙ ap (λ (k : Kept). length k.marks.strong) c.self.view_is
+
+pub returns-in-Ok-clause-count : goal.returns-in-Ok-clause-count
+returns-in-Ok-clause-count g c =
+    length-map c.extend.new.nodes.places.items (λ place. get_or c.extend.new.nodes.sets.sets place []) ∙ c.in-Ok.ensures.len
+
+pub invariant_of-self : goal.invariant_of-self
+invariant_of-self g c =
+    let was = c.self.inside.nodes in
+    let now = c.extend.new.nodes in
+    let marks = c.self.inside.marks in (
+      table-on was.sets now.sets was.gathered now.gathered was.places.items now.places.items (length marks.strong) (length c.add_strong.new.self.strong) c.self.invariant.0 c.in-Ok.ensures.grows c.in-Ok.ensures.width
+          (c.add_strong.ensures.elements ∙ c.add_leaves.ensures.elements) c.in-Ok.ensures.placed c.in-Ok.ensures.few,
+      c.in-Ok.ensures.all ∙ sym c.in-Ok.ensures.len,
+    )
