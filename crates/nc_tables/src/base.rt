@@ -10,7 +10,7 @@ use nc_types::{Addr, IfaceId, Prefix, RouterId};
 use std::marker::Model;
 
 /// Where a row of a base table comes from.
-#[derive(Clone, Copy)]
+#[derive(Clone, Copy, PartialEq, Eq)]
 pub enum BaseFrom {
     /// An interface that is up.
     Connected(IfaceId),
@@ -21,7 +21,7 @@ pub enum BaseFrom {
 }
 
 /// A row of a base table.
-#[derive(Clone, Copy)]
+#[derive(Clone, Copy, PartialEq, Eq)]
 pub struct BaseRow {
     pub prefix: Prefix,
     /// The administrative distance: 0 of a connected row, 1 to 254 of a static one.

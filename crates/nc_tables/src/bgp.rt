@@ -3,7 +3,7 @@ use crate::rib_entries::RibEntries;
 use nc_types::{Addr, Communities, IfaceId, OriginCode, Prefix, RouterId};
 
 /// An established BGP session, as one of its two neighbor statements sees it.
-#[derive(Clone, Copy)]
+#[derive(Clone, Copy, PartialEq, Eq)]
 pub struct SessionRow {
     pub router: RouterId,
     /// The place of the neighbor statement in the router's process.
@@ -66,7 +66,7 @@ pub struct BgpRow {
 }
 
 /// Where a row of a main table comes from.
-#[derive(Clone, Copy)]
+#[derive(Clone, Copy, PartialEq, Eq)]
 pub enum MainFrom {
     /// The row at a place of the base table.
     Base(u32),
@@ -77,7 +77,7 @@ pub enum MainFrom {
 }
 
 /// A row of a main table.
-#[derive(Clone, Copy)]
+#[derive(Clone, Copy, PartialEq, Eq)]
 pub struct MainRow {
     pub prefix: Prefix,
     /// The administrative distance.

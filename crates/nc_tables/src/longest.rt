@@ -12,7 +12,7 @@ ghost use Rattle.nc_tables.specs.Longest.{longest, places_from, AreByPrefix};
 use nc_types::{Addr, Prefix, RouterId};
 
 /// Rows of a table that stand side by side.
-#[derive(Clone, Copy)]
+#[derive(Clone, Copy, PartialEq, Eq)]
 pub struct Rows {
     /// The place of the first.
     pub from: usize,
