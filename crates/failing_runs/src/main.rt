@@ -32,8 +32,8 @@ use steady::run_in_memory;
 
 // How a run of an example ends over objects that can't fail.
 fn steady_status(alloc: Global, example: &Example) -> Result<Status, AllocError> {
-    let Network { words, files } = example.network(alloc)?;
     let session = example.session(alloc, b"\n")?;
+    let Network { words, files } = example.network(alloc)?;
     Ok(run_in_memory(alloc, &words, files, session))
 }
 

@@ -62,15 +62,20 @@ fn state(alloc: Global) -> Result<Option<Stable>, AllocError> {
 }
 
 // Whether the state has a main row for each of two connected prefixes and two of the routes to a third.
-fn settles(alloc: Global) -> Result<bool, AllocError> {
-    let Some(state) = state(alloc)? else {
-        return Ok(false);
-    };
+fn has_four_rows(state: &Stable) -> bool {
     if state.network().routers().len() != 1 {
-        return Ok(false);
+        return false;
     }
     let _tables = state.main();
-    Ok(state.main().rows(RouterId(0)).len() == 4)
+    state.main().rows(RouterId(0)).len() == 4
+}
+
+// Whether the network settles in that state.
+fn settles(alloc: Global) -> Result<bool, AllocError> {
+    match state(alloc)? {
+        Some(state) => Ok(has_four_rows(&state)),
+        None => Ok(false),
+    }
 }
 
 // Whether within no round the network isn't seen to settle.
@@ -85,20 +90,25 @@ fn is_unstable(alloc: Global) -> Result<bool, AllocError> {
 }
 
 // Whether a packet to that third prefix has two ways out, and is lost on both, for no router has either next hop.
-fn has_two_ways(alloc: Global) -> Result<bool, AllocError> {
-    let Some(state) = state(alloc)? else {
-        return Ok(false);
-    };
+fn is_lost_twice(alloc: Global, state: &Stable) -> Result<bool, AllocError> {
     if state.network().routers().len() != 1 {
         return Ok(false);
     }
-    let ways = alternatives(alloc, &state, RouterId(0), Addr(0x0a09_0101))?;
+    let ways = alternatives(alloc, state, RouterId(0), Addr(0x0a09_0101))?;
     let lost = |main: u32| Alternative {
         main,
         base: None,
         outcome: Outcome::Lost,
     };
     Ok(ways.as_slice() == [lost(2), lost(3)].as_slice())
+}
+
+// Whether the ways of a packet are those in the state.
+fn has_two_ways(alloc: Global) -> Result<bool, AllocError> {
+    match state(alloc)? {
+        Some(state) => is_lost_twice(alloc, &state),
+        None => Ok(false),
+    }
 }
 
 // Whether a session has the rank 70.
@@ -115,9 +125,14 @@ fn ranks(alloc: Global) -> Result<bool, AllocError> {
     }
 }
 
-// The row of a call that answered as expected, or didn't.
-fn row(name: &'static str, is_right: bool) -> Row {
-    Row::new("states", name, Verdict::Called(is_right))
+// Adds the row of a call that answered as expected, or didn't.
+fn add_call(
+    rows: &mut Vec<Row>,
+    name: &'static str,
+    is_right: Result<bool, AllocError>,
+) -> Result<(), AllocError> {
+    rows.push(Row::new("states", name, Verdict::Called(is_right?)))?;
+    Ok(())
 }
 
 /// Adds the rows of these calls.
@@ -126,9 +141,8 @@ fn row(name: &'static str, is_right: bool) -> Row {
 ///
 /// No memory for what they make.
 pub fn add_states(alloc: Global, rows: &mut Vec<Row>) -> Result<(), AllocError> {
-    rows.push(row("a state that settles", settles(alloc)?))?;
-    rows.push(row("no round is enough", is_unstable(alloc)?))?;
-    rows.push(row("the ways out of a router", has_two_ways(alloc)?))?;
-    rows.push(row("the rank of a fact", ranks(alloc)?))?;
-    Ok(())
+    add_call(rows, "a state that settles", settles(alloc))?;
+    add_call(rows, "no round is enough", is_unstable(alloc))?;
+    add_call(rows, "the ways out of a router", has_two_ways(alloc))?;
+    add_call(rows, "the rank of a fact", ranks(alloc))
 }
