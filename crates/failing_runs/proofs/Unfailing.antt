@@ -8,7 +8,8 @@ use Rattle.nc_engine.specs.File.{LoadedView}
 use Rattle.nc_session.specs.declared.status.Status.{Status}
 use Rattle.nc_session.specs.declared.status.Status.TheVariants.{Done, Memory, Limit}
 use Rattle.nc_words.specs.Words.{InputView, Files, Generated, RequestView, request_of}
-use Rattle.nc_session.specs.Load.{Refusal, files_in, lists_in, load, load_asked, load_over, names_in}
+use Rattle.nc_load.specs.Load.{Refusal}
+use Rattle.nc_session.specs.Load.{files_in, lists_in, load, load_asked, load_over, names_in}
 use Rattle.nc_session.specs.Output.{is_within, needed, needed_asked, needed_in, session_asked, session_in, session_of}
 use Rattle.nc_session.specs.Causes.{status_of}
 use Rattle.nc_session.proofs.Steady.{steady_never}

@@ -8,9 +8,9 @@ ghost use Rattle.nc_types.specs.declared.TheConstants.{LINE_LIMIT};
 
 use nc_fact::{Fact, rank};
 use nc_lines::split::split_lines;
+use nc_load::FILE_LIMIT;
 use nc_network::join;
 use nc_reader::read_config;
-use nc_session::FILE_LIMIT;
 use nc_stable::{SettleFault, settle, settle_network};
 use nc_tables::Stable;
 use nc_trace::{Alternative, Outcome, alternatives};

@@ -5,7 +5,7 @@ ghost use Rattle.std.specs.Prelude.{◌≡◌, ◌++◌, [], None, Some, map, If
 ghost use Rattle.std.specs.Option.{ForSome};
 ghost use Rattle.nc_command.specs.Command.{command_of};
 ghost use Rattle.nc_report.specs.Views.{file_view};
-ghost use Rattle.nc_engine.specs.File.{AreFilesOf};
+ghost use Rattle.nc_report.specs.Files.{AreFilesOf};
 ghost use Rattle.nc_engine.specs.Engine.{HasDrawn, HasDrawnFor, HasReferences, Turns, begin_at, flow_behind};
 
 use crate::work::Work;
@@ -40,7 +40,7 @@ impl Model for Engine {
     ghost use Rattle.std.specs.Option.{ForSome};
     ghost use Rattle.nc_rules.specs.Seen.{state_of};
     ghost use Rattle.nc_report.specs.Views.{file_view};
-    ghost use Rattle.nc_engine.specs.File.{AreFilesOf};
+    ghost use Rattle.nc_report.specs.Files.{AreFilesOf};
     ghost use Rattle.nc_engine.specs.Engine.{EngineView};
     ghost use Rattle.nc_engine.specs.Work.{engine_of, IsWork};
 

@@ -4,7 +4,8 @@ ghost use Rattle.std.specs.Prelude.{◌≡◌, ◌<◌, ◌-◌, List, Some, len
 ghost use Rattle.nc_rules.specs.Seen.{state_of};
 ghost use Rattle.nc_report.specs.Texts.{json_of, lcov_of};
 ghost use Rattle.nc_report.specs.Views.{FileView, file_view};
-ghost use Rattle.nc_engine.specs.File.{file_in, AreFilesOf};
+ghost use Rattle.nc_engine.specs.File.{file_in};
+ghost use Rattle.nc_report.specs.Files.{AreFilesOf};
 ghost use Rattle.nc_engine.specs.Work.{IsWork, Forms, Listed};
 
 use crate::testing::push_unknown;

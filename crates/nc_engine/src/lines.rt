@@ -4,7 +4,7 @@ ghost use Rattle.std.specs.Prelude.{◌≡◌, ◌<◌, ◌-◌, Some, map, IfOk
 ghost use Rattle.nc_rules.specs.Seen.{state_of};
 ghost use Rattle.nc_command.specs.Command.{command_of};
 ghost use Rattle.nc_report.specs.Views.{file_view};
-ghost use Rattle.nc_engine.specs.File.{AreFilesOf};
+ghost use Rattle.nc_report.specs.Files.{AreFilesOf};
 ghost use Rattle.nc_engine.specs.Engine.{Answered, HasDrawnFor, flow_behind};
 ghost use Rattle.nc_engine.specs.Work.{IsWork, progress_of, with_lent};
 

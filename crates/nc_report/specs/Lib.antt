@@ -1,4 +1,5 @@
 pub mod Views
+pub mod Files
 pub mod Texts
 pub mod Counters
 pub mod Sheets

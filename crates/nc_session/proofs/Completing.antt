@@ -4,14 +4,15 @@ use Rattle.nc_outside.specs.Named.{Named}
 use Rattle.nc_outside.specs.Counts.{Rose}
 use Rattle.nc_words.specs.Words.{InputView, Files, Generated, RequestView}
 use Rattle.nc_engine.specs.File.{LoadedView}
-use Rattle.nc_session.specs.Limits.{most_routers}
+use Rattle.nc_load.specs.Limits.{most_routers}
 use Rattle.nc_session.specs.declared.status.Status.{Status}
 use Rattle.nc_session.specs.declared.status.Status.TheVariants.{Done, Config, Usage, Unstable, InputFault, OutputFault, FileFault, Memory, Limit}
-use Rattle.nc_session.specs.Load.{Refusal, Missing, files_in, lists_in, load_asked, load_over, names_in}
+use Rattle.nc_load.specs.Load.{Refusal, Missing}
+use Rattle.nc_session.specs.Load.{files_in, lists_in, load_asked, load_over, names_in}
 use Rattle.nc_session.specs.Output.{OutputAsked, Writes, is_within, needed_asked, needed_in, session_asked}
 use Rattle.nc_session.specs.Causes.{IsAnswer, IsLimitOrUntold, named_asked, named_in, status_of, Settles, IsOverLimit, IsAbsentAsked}
 use Rattle.nc_session.specs.Ending.{Seen, IfSession, IsNamingFew, IsTold, EndsAs}
-use Rattle.nc_session.proofs.Options.{some_of, some_more}
+use Rattle.nc_load.proofs.Options.{some_of, some_more}
 
 abbrev Outcome : Type 0
 Outcome = Result LoadedView Refusal

@@ -6,22 +6,24 @@ use Rattle.std.specs.Io.KnownBytes.{Appends, Keeps, IsAtEnd}
 use Rattle.nc_outside.specs.Named.{Named}
 use Rattle.nc_outside.specs.Counts.{Rose, Follows}
 use Rattle.nc_engine.specs.File.{LoadedView}
-use Rattle.nc_session.specs.Limits.{most_routers}
-use Rattle.nc_session.specs.declared.refusal.LoadFault.{LoadFault}
-use Rattle.nc_session.specs.declared.refusal.LoadFault.TheVariants as load
-use Rattle.nc_session.specs.declared.refusal.Quantity.TheVariants.{Routers}
+use Rattle.nc_load.specs.Limits.{most_routers}
+use Rattle.nc_load.specs.declared.refusal.LoadFault.{LoadFault}
+use Rattle.nc_load.specs.declared.refusal.LoadFault.TheVariants as load
+use Rattle.nc_load.specs.declared.refusal.Quantity.TheVariants.{Routers}
 use Rattle.nc_session.specs.declared.status.Status.{Status}
 use Rattle.nc_session.specs.declared.status.Status.TheVariants.{Done, Config, Usage, Unstable, InputFault, OutputFault, FileFault, Memory, Limit}
 use Rattle.nc_words.specs.Words.{Files, RequestView}
-use Rattle.nc_session.specs.Load.{Refusal, WrongWords, TooMany, Faulty, Unsettled, load_asked, load_over, load_request, names_in, file_named}
+use Rattle.nc_load.specs.Load.{Refusal, WrongWords, TooMany, Faulty, Unsettled, file_named}
+use Rattle.nc_session.specs.Load.{load_asked, load_over, load_request, names_in}
 use Rattle.nc_session.specs.Refusals.{usage_text, refusal_status, refusal_text}
 use Rattle.nc_session.specs.Output.{Concludes, Writes, Serves, is_within, session_asked, session_in, heading_asked, heading_in, needed_asked, needed_in, TookQuit, TookIn}
 use Rattle.nc_session.specs.Serving.{AppendsFront}
 use Rattle.nc_session.specs.Leaving.{Takes, IsCutShort, Begins, Leaves, FailsAs, Told, told}
 use Rattle.nc_session.specs.Causes.{IsEarly, IsLate, IsAbsentAsked, Settles, IsOverLimit, IsUnsettled, IsOpenSession, AnswersTaken, named_in}
-use Rattle.nc_session.specs.Loading.{IsFault, IsMissingOf, HasFaultCause}
+use Rattle.nc_load.specs.Loading.{IsFault, IsMissingOf, HasFaultCause}
 use Rattle.nc_session.specs.Ending.{SinkSeen, Says, Silent, EndsRefused, Seen, NoFault, IsTold, IsLimited, IsBrokenOff, EndsAs}
-use Rattle.nc_session.proofs.Options.{some_of, some_more, writes, writes_none, writes_behind}
+use Rattle.nc_load.proofs.Options.{some_of, some_more}
+use Rattle.nc_session.proofs.Options.{writes, writes_none, writes_behind}
 
 abbrev Outcome : Type 0
 Outcome = Result LoadedView Refusal

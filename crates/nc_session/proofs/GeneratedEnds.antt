@@ -3,19 +3,20 @@ use Rattle.std.proofs.Common.{◌≡◌, ◌≢◌, ◌⊎◌, ℕ, true, false,
 use Rattle.nc_outside.specs.Named.{Named}
 use Rattle.nc_outside.specs.Counts.{Faults, Rose, Follows}
 use Rattle.nc_words.specs.Words.{Generated, RequestView}
-use Rattle.nc_session.specs.declared.refusal.LoadFault.{LoadFault}
-use Rattle.nc_session.specs.declared.refusal.LoadFault.TheVariants as load
+use Rattle.nc_load.specs.declared.refusal.LoadFault.{LoadFault}
+use Rattle.nc_load.specs.declared.refusal.LoadFault.TheVariants as load
 use Rattle.nc_session.specs.declared.status.Status.{Status}
 use Rattle.nc_session.specs.declared.status.Status.TheVariants.{Done, Config, Usage, Unstable, InputFault, OutputFault, FileFault, Memory, Limit}
 use Rattle.nc_engine.specs.File.{LoadedView}
-use Rattle.nc_session.specs.Reading.{HasStopCause}
-use Rattle.nc_session.specs.declared.reading.Stop.{Stop}
-use Rattle.nc_session.specs.declared.reading.Stop.TheVariants as stops
+use Rattle.nc_load.specs.Reading.{HasStopCause}
+use Rattle.nc_load.specs.declared.reading.Stop.{Stop}
+use Rattle.nc_load.specs.declared.reading.Stop.TheVariants as stops
 use Rattle.nc_report.specs.Views.{FileView}
 use Rattle.nc_tables.specs.State.{StateView}
 use Rattle.nc_session.specs.Generated.{tree_files, tree_names, tree_session}
-use Rattle.nc_session.specs.Load.{Refusal, Missing, load_names, load_over, load_request, load_settled}
-use Rattle.nc_session.specs.Loading.{IsFault, IsMissingOf, HasFaultCause, AreFilesNamed}
+use Rattle.nc_load.specs.Load.{Refusal, Missing, load_names, load_settled}
+use Rattle.nc_session.specs.Load.{load_over, load_request}
+use Rattle.nc_load.specs.Loading.{IsFault, IsMissingOf, HasFaultCause, AreFilesNamed}
 use Rattle.nc_session.specs.Output.{heading_in}
 use Rattle.nc_session.specs.Leaving.{Told, told, failures, Begins, IsBegun, Leaves, FailsAs}
 use Rattle.nc_engine.specs.Session.{GoesOn}

@@ -18,14 +18,14 @@ use Rattle.nc_reader.specs.Configuration.{configuration}
 use Rattle.nc_network.specs.Judged.{Names, Overlaps, Addresses, References, Judgement, Clashing, OverLimit, Fine, judged}
 use Rattle.nc_tables.specs.State.{StateView}
 use Rattle.nc_tables.specs.Settling.{settled}
-use Rattle.nc_session.specs.Limits.{most_file_bytes, most_lines, most_routers}
-use Rattle.nc_session.specs.declared.refusal.Quantity.TheVariants.{Routers, Bytes, Lines}
+use Rattle.nc_load.specs.Limits.{most_file_bytes, most_lines, most_routers}
+use Rattle.nc_load.specs.declared.refusal.Quantity.TheVariants.{Routers, Bytes, Lines}
 use Rattle.nc_gen.specs.declared.generated.GenFile.{GenFile}
 use Rattle.nc_gen.specs.Tree.{below, is_size, routers}
 use Rattle.nc_gen.specs.Files.{FileView, fat_tree, file_name, file_of, file_view, name_of}
 use Rattle.nc_gen.proofs.Sizes.{sizes}
 use Rattle.nc_session.specs.Generated.{name_of_file, named_file, tree_files, tree_names}
-use Rattle.nc_session.specs.Load.{Refusal, Missing, TooMany, Unsettled, and_then, load_content, load_each, load_joined, load_judged, load_lines, load_names, load_result, load_settled}
+use Rattle.nc_load.specs.Load.{Refusal, Missing, TooMany, Unsettled, and_then, load_content, load_each, load_joined, load_judged, load_lines, load_names, load_result, load_settled}
 
 -- ---- names are texts
 

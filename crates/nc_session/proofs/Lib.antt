@@ -1,11 +1,5 @@
 pub mod Steady
 mod Options
-mod EachFile
-mod OneFile
-mod Joined
-mod AllFiles
-mod Taking
-mod Entering
 mod WithFiles
 mod Ends
 mod GeneratedFiles

@@ -12,7 +12,7 @@ use Rattle.nc_marks.specs.declared.mark.Mark.{Mark}
 use Rattle.nc_marks.specs.declared.mark.Mark.TheVariants.{Outside}
 use Rattle.nc_reader.specs.Configuration.{configuration}
 use Rattle.nc_types.specs.Joining.{IsValid}
-use Rattle.nc_session.specs.Limits.{most_routers}
+use Rattle.nc_load.specs.Limits.{most_routers}
 use Rattle.nc_tables.specs.State.{StateView, IsState}
 use Rattle.nc_tables.specs.Settling.{settled}
 use Rattle.nc_fact.specs.declared.fact.Fact.{Fact}
@@ -27,7 +27,8 @@ use Rattle.nc_engine.specs.Session.{accepted_of, forgot_of}
 use Rattle.nc_engine.specs.File.{LoadedView}
 use Rattle.nc_engine.specs.Marks.{AreLineMarks, IsSheet, IsFormOf}
 use Rattle.nc_engine.specs.Session.{KeptTest, TellsDead, live_each, State, no_tests, test_in, with_pair, live_place, IsReported, IsCrowded, Forgets, Compares, Questions, CutsNamed, asked_in, live_in, router_of, until_quit, IsReply, Counts, Tests, Lined, Named as IsNamed, has_line, Tells, Shows, listing_at, Answers, Run, AreReplies}
-use Rattle.nc_session.specs.Load.{Refusal, load}
+use Rattle.nc_load.specs.Load.{Refusal}
+use Rattle.nc_session.specs.Load.{load}
 use Rattle.nc_session.specs.Refusals.{long_session_text}
 use Rattle.nc_session.specs.Output.{ServesWithin, Concludes, Output, heading_asked, is_within, served_lines, session_of}
 use Rattle.nc_words.specs.Words.{request_of}

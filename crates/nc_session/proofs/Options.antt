@@ -1,17 +1,8 @@
--- What holds of a value that may be there, and of bytes that may be told.
-use Rattle.std.proofs.Common.{◌≡◌, ◌⊎◌, ℕ, ◌<◌, ◌≤◌, Bool, true, false, nat_le, List, [], Option, Some, None, IfSome, refl, sym, ◌∙◌, append-nil, inl, inr, ◌++◌, append_assoc, ap}
+-- What holds of bytes that may be told.
+use Rattle.std.proofs.Common.{◌≡◌, ◌⊎◌, ℕ, ◌<◌, ◌≤◌, Bool, true, false, nat_le, List, [], Option, Some, None, refl, sym, ◌∙◌, append-nil, inl, inr, ◌++◌, append_assoc, ap}
 use Rattle.std.proofs.lemmas.Bool.{leb-true, leb-false}
 use Rattle.std.specs.Io.KnownBytes.{Appends, Keeps}
 use Rattle.nc_session.specs.Output.{Writes}
-
--- what holds of every value holds of one that may be there
-pub some_of : {A : Type 0} (o : Option A) (P : A → Type 0) → ((x : A) → P x) → IfSome o P
-some_of None P holds = tt
-some_of (Some x) P holds = holds x
-
-pub some_more : {A : Type 0} (o : Option A) (P Q : A → Type 0) → ((x : A) → P x → Q x) → IfSome o P → IfSome o Q
-some_more None P Q holds h = tt
-some_more (Some x) P Q holds h = holds x h
 
 -- the same bytes are kept
 pub keeps_same : (old new : Option (List ℕ)) → new ≡ old → Keeps old new

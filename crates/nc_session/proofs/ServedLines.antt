@@ -14,7 +14,7 @@ use Rattle.nc_command.specs.Cutting.{cut_of}
 use Rattle.nc_lines.specs.Lines.{words_of, without_return}
 use Rattle.nc_engine.specs.declared.engine.Flow.{Flow}
 use Rattle.nc_engine.specs.declared.engine.Flow.TheVariants.{Go, Stop}
-use Rattle.nc_session.specs.declared.reading.Stop as stop
+use Rattle.nc_load.specs.declared.reading.Stop as stop
 use Rattle.nc_engine.specs.Session.{State, Step, Answers, Run, ends, is_quit, until_quit}
 use Rattle.nc_session.specs.Output.{has_quit}
 use Rattle.nc_engine.specs.Engine.{Progress, flow_behind, Turns}

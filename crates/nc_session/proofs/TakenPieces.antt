@@ -15,8 +15,8 @@ use Rattle.nc_command.proofs.CutLemmas.{cut_front, front_more}
 use Rattle.nc_session.specs.Limits.{most_session_bytes}
 use Rattle.nc_engine.specs.declared.engine.Flow.{Flow}
 use Rattle.nc_engine.specs.declared.engine.Flow.TheVariants as flow
-use Rattle.nc_session.specs.declared.reading.Stop.{Stop}
-use Rattle.nc_session.specs.declared.reading.Stop.TheVariants as stop
+use Rattle.nc_load.specs.declared.reading.Stop.{Stop}
+use Rattle.nc_load.specs.declared.reading.Stop.TheVariants as stop
 use Rattle.nc_session.specs.declared.status.Status.{Status}
 use Rattle.nc_session.specs.declared.status.Status.TheVariants.{Done, Config, Usage, Unstable, InputFault, OutputFault, FileFault, Memory, Limit}
 use Rattle.nc_engine.specs.File.{LoadedView}

@@ -13,12 +13,13 @@ use Rattle.nc_reader.specs.Configuration.{configuration}
 use Rattle.nc_network.specs.Judged.{ClashKind, Names, Overlaps, Addresses, References, Judgement, Clashing, OverLimit, Fine, or_clash, judged}
 use Rattle.nc_tables.specs.State.{StateView, IsState}
 use Rattle.nc_tables.specs.Settling.{settled}
-use Rattle.nc_session.specs.Limits.{most_file_bytes, most_lines, most_routers}
-use Rattle.nc_session.specs.declared.refusal.Quantity.TheVariants.{Routers, Bytes, Lines}
+use Rattle.nc_load.specs.Limits.{most_file_bytes, most_lines, most_routers}
+use Rattle.nc_load.specs.declared.refusal.Quantity.TheVariants.{Routers, Bytes, Lines}
 use Rattle.nc_words.specs.Words.{RequestView, request_of}
 use Rattle.nc_report.specs.Views.{FileView}
 use Rattle.nc_engine.specs.File.{LoadedView}
-use Rattle.nc_session.specs.Load.{Refusal, TooMany, Unsettled, load, load_result, load_lines, load_content, load_each, and_then, load_judged, load_joined, load_names, load_settled, load_asked, names_in, files_in, lists_in, file_of, with_files}
+use Rattle.nc_load.specs.Load.{Refusal, TooMany, Unsettled, load_result, load_lines, load_content, load_each, and_then, load_judged, load_joined, load_names, load_settled, file_of}
+use Rattle.nc_session.specs.Load.{load, load_asked, names_in, files_in, lists_in, with_files}
 
 -- ---- joining
 

@@ -4,12 +4,13 @@ use Rattle.nc_outside.specs.Named.{Named}
 use Rattle.nc_outside.specs.Counts.{Faults}
 use Rattle.nc_tables.specs.State.{StateView}
 use Rattle.nc_report.specs.Views.{FileView}
-use Rattle.nc_session.specs.declared.refusal.LoadFault.{LoadFault}
-use Rattle.nc_session.specs.declared.refusal.LoadFault.TheVariants.{Outside, Over, Bad, Memory}
-use Rattle.nc_session.specs.declared.refusal.LoadFault.TheVariants as faults
-use Rattle.nc_session.specs.Load.{Refusal, file_of, load_names, load_settled, load_over, with_files}
-use Rattle.nc_session.specs.Loading.{IsFault, IsMissingOf, HasFaultCause, AreFilesNamed}
-use Rattle.nc_session.proofs.Options.{some_more}
+use Rattle.nc_load.specs.declared.refusal.LoadFault.{LoadFault}
+use Rattle.nc_load.specs.declared.refusal.LoadFault.TheVariants.{Outside, Over, Bad, Memory}
+use Rattle.nc_load.specs.declared.refusal.LoadFault.TheVariants as faults
+use Rattle.nc_load.specs.Load.{Refusal, file_of, load_names, load_settled}
+use Rattle.nc_session.specs.Load.{load_over, with_files}
+use Rattle.nc_load.specs.Loading.{IsFault, IsMissingOf, HasFaultCause, AreFilesNamed}
+use Rattle.nc_load.proofs.Options.{some_more}
 
 fault_one : (listed : Bool) (names : List (List ℕ)) (files : List FileView) (outcome : Result StateView Refusal) (fault : LoadFault) → IsFault names fault outcome → IsFault names fault (with_files listed files outcome)
 fault_one listed names files outcome Outside is = tt

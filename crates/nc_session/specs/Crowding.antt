@@ -7,7 +7,7 @@ use Rattle.nc_command.specs.Command.{Line, Asks, command_of}
 use Rattle.nc_engine.specs.File.{LoadedView}
 use Rattle.nc_engine.specs.Session.{State, no_tests, with_pair, live_place, IsCrowded, Run, until_quit}
 use Rattle.nc_engine.specs.Cuts.{unknown_among}
-use Rattle.nc_session.specs.Load.{Refusal}
+use Rattle.nc_load.specs.Load.{Refusal}
 use Rattle.nc_session.specs.Output.{served_lines}
 
 -- a question about the tests at two places, where they are live, has too many parts

@@ -3,14 +3,15 @@ use Rattle.std.specs.Prelude.{◌≡◌, ◌⊎◌, ℕ, ◌≤◌, true, List, 
 use Rattle.std.specs.Io.KnownBytes.{Appends, Keeps}
 use Rattle.nc_outside.specs.Named.{Named}
 use Rattle.nc_outside.specs.Counts.{Faults, Rose}
-use Rattle.nc_session.specs.Limits.{most_routers}
-use Rattle.nc_session.specs.declared.refusal.LoadFault.{LoadFault}
-use Rattle.nc_session.specs.declared.refusal.LoadFault.TheVariants as load
+use Rattle.nc_load.specs.Limits.{most_routers}
+use Rattle.nc_load.specs.declared.refusal.LoadFault.{LoadFault}
+use Rattle.nc_load.specs.declared.refusal.LoadFault.TheVariants as load
 use Rattle.nc_session.specs.declared.status.Status.{Status}
 use Rattle.nc_session.specs.declared.status.Status.TheVariants.{Done, Config, Usage, Unstable, InputFault, OutputFault, FileFault, Memory, Limit}
 use Rattle.nc_words.specs.Words.{RequestView}
 use Rattle.nc_engine.specs.File.{LoadedView}
-use Rattle.nc_session.specs.Load.{load_asked, file_named}
+use Rattle.nc_session.specs.Load.{load_asked}
+use Rattle.nc_load.specs.Load.{file_named}
 use Rattle.nc_session.specs.Refusals.{usage_text, limit_text, fault_text, unsettled_text}
 use Rattle.nc_session.specs.Output.{OutputAsked, Writes, is_within, session_asked, needed_asked, TookAsked}
 use Rattle.nc_session.specs.Causes.{Settles, IsAbsentAsked, IsOverLimit, IsUnsettled, IsOpenSession, AnswersTaken, IsBegunAsked, named_in}

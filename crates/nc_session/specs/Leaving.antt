@@ -5,8 +5,8 @@ use Rattle.nc_outside.specs.Counts.{Faults, Rose}
 use Rattle.nc_lines.specs.WholeLines.{whole_lines_of}
 use Rattle.nc_engine.specs.File.{LoadedView}
 use Rattle.nc_session.specs.Limits.{most_session_bytes}
-use Rattle.nc_session.specs.declared.reading.Stop.{Stop}
-use Rattle.nc_session.specs.declared.reading.Stop.TheVariants as stop
+use Rattle.nc_load.specs.declared.reading.Stop.{Stop}
+use Rattle.nc_load.specs.declared.reading.Stop.TheVariants as stop
 use Rattle.nc_session.specs.declared.status.Status.{Status}
 use Rattle.nc_session.specs.declared.status.Status.TheVariants.{Done, InputFault, OutputFault, Memory, Limit}
 use Rattle.nc_engine.specs.Session.{AreReplies}

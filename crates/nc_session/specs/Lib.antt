@@ -4,10 +4,8 @@ pub mod Load
 pub mod Refusals
 pub mod Output
 pub mod Crowding
-pub mod Reading
 pub mod Serving
 pub mod Leaving
 pub mod SoFar
 pub mod Causes
-pub mod Loading
 pub mod Ending

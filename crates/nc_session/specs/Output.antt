@@ -13,7 +13,8 @@ use Rattle.nc_session.specs.Limits.{most_session_bytes}
 use Rattle.nc_session.specs.declared.status.Status.{Status}
 use Rattle.nc_session.specs.declared.status.Status.TheVariants.{Done, Limit}
 use Rattle.nc_engine.specs.Session.{AreReplies, is_quit}
-use Rattle.nc_session.specs.Load.{Refusal, load_asked}
+use Rattle.nc_load.specs.Load.{Refusal}
+use Rattle.nc_session.specs.Load.{load_asked}
 use Rattle.nc_session.specs.Refusals.{long_session_text, refusal_status, refusal_text}
 
 -- ---- a session

@@ -1,14 +1,13 @@
 -- What is written where a run is refused, and the numbers and statuses with which it ends.
 use Rattle.std.specs.Prelude.{ℕ, List, [], ◌∷◌, ◌++◌, codes}
 use Rattle.std.specs.Fmt.{decimal}
-use Rattle.nc_session.specs.declared.refusal.Quantity.{Quantity}
-use Rattle.nc_session.specs.declared.refusal.Quantity.TheVariants.{Routers, Bytes, Lines, Prefixes, Neighbors}
-use Rattle.nc_session.specs.declared.refusal.Reason.{Reason}
-use Rattle.nc_session.specs.declared.refusal.Reason.TheVariants.{Syntax, Unsupported, NoName, TwoProcesses, SameName, Overlap, SameAddress, Undefined}
+use Rattle.nc_load.specs.declared.refusal.Quantity.{Quantity}
+use Rattle.nc_load.specs.declared.refusal.Reason.{Reason}
 use Rattle.nc_session.specs.declared.status.Status.{Status}
 use Rattle.nc_session.specs.declared.status.Status.TheVariants.{Done, Config, Usage, Unstable, InputFault, OutputFault, FileFault, Memory, Limit}
 use Rattle.nc_report.specs.Texts.{line_of}
-use Rattle.nc_session.specs.Load.{Refusal, WrongWords, TooMany, Missing, Faulty, Unsettled}
+use Rattle.nc_load.specs.Load.{Refusal, WrongWords, TooMany, Missing, Faulty, Unsettled}
+use Rattle.nc_load.specs.Reasons.{quantity_text, reason_text}
 
 -- the number that a program ends with
 abbrev pub number_of : Status → ℕ
@@ -27,24 +26,6 @@ usage_text = line_of (codes "refused usage")
 
 abbrev pub long_session_text : List ℕ
 long_session_text = line_of (codes "refused limit session")
-
--- the word of a quantity, and of a reason
-abbrev pub quantity_text : Quantity → List ℕ
-quantity_text Routers = codes "routers"
-quantity_text Bytes = codes "bytes"
-quantity_text Lines = codes "lines"
-quantity_text Prefixes = codes "prefixes"
-quantity_text Neighbors = codes "neighbours"
-
-abbrev pub reason_text : Reason → List ℕ
-reason_text Syntax = codes "syntax"
-reason_text Unsupported = codes "unsupported"
-reason_text NoName = codes "no-name"
-reason_text TwoProcesses = codes "two-processes"
-reason_text SameName = codes "same-name"
-reason_text Overlap = codes "overlap"
-reason_text SameAddress = codes "same-address"
-reason_text Undefined = codes "undefined"
 
 abbrev pub limit_text : Quantity → List ℕ
 limit_text quantity = line_of (codes "refused limit " ++ quantity_text quantity)

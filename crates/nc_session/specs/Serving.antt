@@ -7,8 +7,8 @@ use Rattle.nc_lines.specs.WholeLines.{whole_lines_of, open_of}
 use Rattle.nc_command.specs.Cutting.{held_of, HoldsAll}
 use Rattle.nc_engine.specs.declared.engine.Flow.{Flow}
 use Rattle.nc_engine.specs.declared.engine.Flow.TheVariants as flow
-use Rattle.nc_session.specs.declared.reading.Stop.{Stop}
-use Rattle.nc_session.specs.declared.reading.Stop.TheVariants as stop
+use Rattle.nc_load.specs.declared.reading.Stop.{Stop}
+use Rattle.nc_load.specs.declared.reading.Stop.TheVariants as stop
 use Rattle.nc_engine.specs.Session.{State, Run, is_quit, until_quit}
 use Rattle.nc_session.specs.Output.{has_quit}
 use Rattle.nc_engine.specs.Engine.{Progress}

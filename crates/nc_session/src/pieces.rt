@@ -5,22 +5,23 @@ ghost use Rattle.std.specs.Prelude.{◌≡◌, ◌≢◌, ℕ, ◌+◌, ◌<◌,
 ghost use Rattle.std.specs.Io.KnownBytes.{Consumes, Keeps, IsAtEnd};
 ghost use Rattle.nc_outside.specs.Counts.{Faults, HasCause};
 ghost use Rattle.nc_report.specs.Views.{file_view};
-ghost use Rattle.nc_engine.specs.File.{AreFilesOf, LoadedView};
+ghost use Rattle.nc_report.specs.Files.{AreFilesOf};
+ghost use Rattle.nc_engine.specs.File.{LoadedView};
 ghost use Rattle.nc_session.specs.Limits.{most_session_bytes};
-ghost use Rattle.nc_session.specs.Reading.{TakesAtMost, StaysInTime};
+ghost use Rattle.nc_load.specs.Reading.{TakesAtMost, StaysInTime};
 ghost use Rattle.nc_engine.specs.Engine.{begin_at};
 ghost use Rattle.nc_session.specs.Leaving.{Told, told, failures, Leaves, FailsAs, stopped_as};
 ghost use Rattle.nc_engine.specs.Session.{GoesOn};
 ghost use Rattle.nc_session.specs.SoFar.{IsTaken, RefusesRest};
 
 use crate::SESSION_LIMIT;
-use crate::reading::Stop;
 use crate::serving::{answer_last, take_piece};
 use crate::status::Status;
 use crate::writing::write_all;
 use nc_command::Cutter;
 use nc_engine::laws::sessions_go_on;
 use nc_engine::{Engine, Flow};
+use nc_load::Stop;
 use nc_outside::{Failed, Sink, Source};
 use nc_report::LoadedFile;
 use nc_stable::SettledNetwork;

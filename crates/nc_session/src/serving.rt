@@ -11,15 +11,15 @@ ghost use Rattle.nc_command.specs.Cutting.{cut_of, held_of};
 ghost use Rattle.nc_session.specs.declared.serving.TheConstants.{PENDING_LIMIT};
 ghost use Rattle.nc_engine.specs.declared.engine.Flow.TheVariants as flow;
 ghost use Rattle.nc_report.specs.Texts.{line_of};
-ghost use Rattle.nc_session.specs.Reading.{HasStopCause};
+ghost use Rattle.nc_load.specs.Reading.{HasStopCause};
 ghost use Rattle.nc_engine.specs.Engine.{Progress};
 ghost use Rattle.nc_session.specs.Serving.{AppendsFront, AppendsPart, EndsWith, AreServed, ArePending, AnswersLine, IsFirst, AnswersFirst, AnswersNone, ServesLines};
 
-use crate::reading::Stop;
 use crate::writing::{write_all, write_both};
 use nc_command::{Cut, Cutter, cut_at_feed};
 use nc_engine::{Engine, Flow};
 use nc_lines::line_end::line_len;
+use nc_load::Stop;
 use nc_outside::Sink;
 use std::alloc::{AllocError, Global};
 

@@ -2,10 +2,10 @@
 
 ghost use Rattle.std.specs.Prelude.{◌++◌, OnOk, OnErr, IsErrOf};
 ghost use Rattle.std.specs.Io.KnownBytes.{Appends};
-ghost use Rattle.nc_session.specs.Reading.{HasStopCause};
+ghost use Rattle.nc_load.specs.Reading.{HasStopCause};
 ghost use Rattle.nc_session.specs.Serving.{AppendsFront};
 
-use crate::reading::Stop;
+use nc_load::Stop;
 use nc_outside::Sink;
 
 /// Writes all bytes. A write that failed is not tried again: a front of the bytes stands written then.

@@ -1,5 +1,5 @@
 use Rattle.std.proofs.Common.{◌≡◌, ◌≤◌, ◌*◌, map, take}
-use Rattle.nc_session.specs.Limits.{most_lines}
+use Rattle.nc_load.specs.Limits.{most_lines}
 use Rattle.nc_report.specs.Views.{file_view}
 use Rattle.nc_session.specs.Generated.{line_count}
 use Rattle.nc_session.proofs.generated.line_count.Given as goal

@@ -1,9 +1,9 @@
 use Rattle.std.proofs.Common.{ℕ, List, ap, sym, subst}
-use Rattle.nc_session.specs.declared.refusal.LoadFault.{LoadFault}
+use Rattle.nc_load.specs.declared.refusal.LoadFault.{LoadFault}
 use Rattle.nc_session.specs.declared.status.Status.TheVariants.{Config, Limit, Unstable}
 use Rattle.nc_words.specs.Words.{texts}
 use Rattle.nc_session.specs.Refusals.{limit_text, fault_text, unsettled_text}
-use Rattle.nc_session.specs.Load.{file_named}
+use Rattle.nc_load.specs.Load.{file_named}
 use Rattle.nc_session.specs.Ending.{SinkSeen, EndsRefused}
 use Rattle.nc_session.proofs.Ends.{said_made, made_as}
 use Rattle.nc_session.proofs.runs.refuse.Goals as goal

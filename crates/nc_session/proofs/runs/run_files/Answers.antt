@@ -1,9 +1,9 @@
 use Rattle.std.proofs.Common.{◌≡◌, ◌⊎◌, ◌≤◌, true, refl, ap, sym, Err, subst, length, map, arith, ℕ}
 use Rattle.std.proofs.lemmas.List.{length-map}
 use Rattle.std.specs.String.{string_bytes}
-use Rattle.nc_session.specs.Limits.{most_routers}
-use Rattle.nc_session.specs.declared.refusal.LoadFault.TheVariants.{Over}
-use Rattle.nc_session.specs.declared.refusal.Quantity.TheVariants.{Routers}
+use Rattle.nc_load.specs.Limits.{most_routers}
+use Rattle.nc_load.specs.declared.refusal.LoadFault.TheVariants.{Over}
+use Rattle.nc_load.specs.declared.refusal.Quantity.TheVariants.{Routers}
 use Rattle.nc_report.specs.Views.{file_view}
 use Rattle.nc_engine.specs.File.{LoadedView}
 use Rattle.nc_words.specs.Words.{Files, RequestView, texts}

@@ -4,7 +4,7 @@ use Rattle.nc_tables.specs.State.{StateView}
 use Rattle.nc_rules.specs.Seen.{state_of}
 use Rattle.nc_engine.specs.declared.work.Work.{Work}
 use Rattle.nc_report.specs.Views.{file_view}
-use Rattle.nc_engine.specs.File.{AreFilesOf}
+use Rattle.nc_report.specs.Files.{AreFilesOf}
 use Rattle.nc_engine.specs.Engine.{Progress}
 use Rattle.nc_engine.specs.Work.{IsWork}
 use Rattle.nc_engine.proofs.engine.Engine.begin.Goals as goal

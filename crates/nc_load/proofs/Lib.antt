@@ -1,0 +1,7 @@
+pub mod Options
+mod EachFile
+mod OneFile
+mod Joined
+mod AllFiles
+mod Taking
+mod Entering

@@ -1,0 +1,6 @@
+pub mod Limits
+pub mod Load
+pub mod Reasons
+pub mod Reading
+pub mod Entering
+pub mod Loading
