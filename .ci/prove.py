@@ -1,0 +1,295 @@
+#!/usr/bin/env python3
+"""Proves crates each by a call of its own, those first behind which most waits, and keeps what passes for rt ci.
+
+    .ci/prove.py [--until NAME] [NAME ..]     (all crates, or these and those below them)
+
+The toolchain's gate takes crates in the same order, but gives a crate one processor where another one could be proved.
+So while all processors are busy the longest chain of crates, by which the whole is bound, goes at the pace of one. A
+call of its own, rt ci over a copy of the crate and those below it, has two; here the crate with the longest chain behind
+it gets these, and the others one each while more could be proved than there are processors. What such a call reads and
+compares takes up to half a minute, so that of the crate that comes next begins before the one below it is proved, and
+waits for that.
+
+It prints a line for each crate that is proved, and all that is said of one that isn't. It ends with 1 where a crate isn't
+proved, and with 3 where this toolchain keeps nothing that passed, so that a crate below is proved again: then rt ci has
+all to do. With --until it ends when that crate is proved, and leaves what is being proved then to run on, with what can
+be begun behind it: rt ci waits for that. Where the first crate of the longest chain is kept it ends at once, for then
+most mostly is, and one rt ci over all takes that sooner.
+"""
+import argparse
+import contextlib
+import os
+import re
+import shutil
+import signal
+import subprocess
+import sys
+import tempfile
+import time
+
+ROOT = os.path.dirname(os.path.dirname(os.path.realpath(__file__)))
+PROVED, REFUSED, UNKEPT, KEPT = 0, 1, 3, -1
+# About what a proof takes, in minutes of one processor: of itself, for each line of code, for each line and crate below,
+# and for a program, which is compiled with all below it.
+EACH, A_LINE, A_LINE_OVER_A_CRATE, A_PROGRAM = 0.5, 0.0018, 0.0001, 3
+GIGABYTES_A_PROOF = 4
+# How many minutes such a call takes at most until its proof begins.
+A_CALL = 0.6
+# What a call for one processor gives way by, to the one for two: from 0 to 19.
+GIVES_WAY = 5
+# With less memory free, in gigabytes, a call may take one processor alone, for what it finds free is what it goes by.
+MEMORY_OF_A_CALL = 16
+# Proves all crates of a folder, and removes it.
+CALL = 'rt ci; status=$?; cd /; rm -rf "$1"; exit $status'
+
+
+def named_in(text):
+    """Returns the crates that a crates.txt names, each with those of them that it stands on.
+
+    >>> named_in("# low\\nb: a serde\\na: thiserror\\n")
+    {'b': ['a'], 'a': []}
+    """
+    rows = [line.split("#")[0].partition(":") for line in text.splitlines()]
+    named = {name.split()[0]: words.split() for name, colon, words in rows if colon}
+    return {name: [it for it in words if it in named] for name, words in named.items()}
+
+
+def all_below(name, named):
+    """Returns all crates below one.
+
+    >>> sorted(all_below("c", {"a": [], "b": ["a"], "c": ["b"]}))
+    ['a', 'b']
+    """
+    return set(named[name]).union(*(all_below(it, named) for it in named[name]))
+
+
+def chains_of(minutes, named):
+    """Returns how long the longest chain takes that begins with each crate and leads over those that stand on it.
+
+    >>> chains_of({"a": 1, "b": 2, "c": 4}, {"a": [], "b": ["a"], "c": ["a"]})
+    {'a': 5, 'b': 2, 'c': 4}
+    """
+    chains = {}
+
+    def chain(name):
+        if name not in chains:
+            above = [chain(it) for it in named if name in named[it]]
+            chains[name] = minutes[name] + max(above, default=0)
+        return chains[name]
+
+    return {name: chain(name) for name in named}
+
+
+def shares(ready, idle, chains, longest, is_end):
+    """Returns which crates are begun, and by how many processors, of those that can be.
+
+    The one with the longest chain of all that is left gets two, though that may be one more than there is; `longest` is
+    what is left of the longest chain of those that run. Others get two at the end, where no more come behind them.
+
+    >>> shares(["a", "b", "c"], 2, {"a": 9, "b": 5, "c": 4}, 8, False)
+    {'a': 2}
+    >>> shares(["a", "b", "c"], 4, {"a": 7, "b": 5, "c": 4}, 8, False)
+    {'a': 1, 'b': 1, 'c': 1}
+    >>> shares(["a"], 3, {"a": 7}, 8, True)
+    {'a': 2}
+    """
+    begun = {}
+    for name in sorted(ready, key=lambda it: -chains[it]):
+        if idle < 1:
+            break
+        leads = chains[name] >= longest or is_end and idle >= 2 * (len(ready) - len(begun))
+        longest = max(longest, chains[name])
+        begun[name] = 2 if leads else 1
+        idle -= begun[name]
+    return begun
+
+
+def behind(named, chains, left, done, running):
+    """Returns the crate with the longest chain of those that are left, if it waits for one alone, which runs.
+
+    >>> named = {"a": [], "b": [], "c": ["a"], "d": ["a", "b"], "e": ["c"]}
+    >>> behind(named, {"c": 7, "d": 8, "e": 3}, ["c", "d", "e"], {"b"}, ["a"])
+    'd'
+    >>> behind(named, {"c": 7, "d": 8, "e": 3}, ["c", "d", "e"], set(), ["a", "b"])
+    """
+    name = max(left, key=chains.get, default=None)
+    waits = set(named[name]) - done if name else set()
+    return name if len(waits) == 1 and waits <= set(running) else None
+
+
+def processors():
+    """Returns how many crates are proved side by side: as many as there are processors and memory."""
+    memory = os.sysconf("SC_PAGE_SIZE") * os.sysconf("SC_PHYS_PAGES") / 2**30
+    return max(1, min(len(os.sched_getaffinity(0)), round(memory / GIGABYTES_A_PROOF)))
+
+
+def gigabytes_free():
+    """Returns how much memory is free, or 0 where the system doesn't tell."""
+    try:
+        with open("/proc/meminfo", encoding="ascii") as file:
+            found = re.search(r"MemAvailable:\s+(\d+) kB", file.read())
+    except OSError:
+        found = None
+    return int(found[1]) / 10**6 if found else 0
+
+
+def lines_of(name):
+    """Returns how many lines of code a crate has."""
+    count = 0
+    for folder, _, files in os.walk(f"{ROOT}/crates/{name}/src"):
+        for file in files:
+            with open(f"{folder}/{file}", "rb") as code:
+                count += code.read().count(b"\n")
+    return count
+
+
+def minutes_of(name, below):
+    """Returns about how many minutes of one processor a crate takes, over so many crates."""
+    program = A_PROGRAM if os.path.exists(f"{ROOT}/crates/{name}/src/main.rt") else 0
+    return EACH + (A_LINE + A_LINE_OVER_A_CRATE * below) * lines_of(name) + program
+
+
+def copied(names):
+    """Returns a new folder with a copy of these crates, as a repository of their own."""
+    room = tempfile.mkdtemp(prefix="prove-")
+    for name in names:
+        shutil.copytree(f"{ROOT}/crates/{name}", f"{room}/crates/{name}", ignore=shutil.ignore_patterns("out"))
+    shutil.copyfile(f"{ROOT}/HANDLES", f"{room}/HANDLES")
+    with open(f"{ROOT}/crates.txt", encoding="utf-8") as lines, open(f"{room}/crates.txt", "w", encoding="utf-8") as kept:
+        kept.writelines(line for line in lines if line.partition(":")[0].strip() in names)
+    return room
+
+
+class Call:
+    """A proof that runs: that of a crate over those below it, which are done, but for one where it is early."""
+
+    def __init__(self, name, below, done, jobs):
+        self.name, self.jobs, self.begun = name, jobs, time.monotonic()
+        self.kept, self.is_early = below & done, not below <= done
+        self.room = copied({name, *below})
+        self.said = tempfile.TemporaryFile("w+", encoding="utf-8", errors="replace")
+        environment = dict(os.environ) if jobs > 1 else {**os.environ, "RT_JOBS": "1"}
+        how = {"cwd": self.room, "env": environment, "stdin": subprocess.DEVNULL, "stdout": self.said, "stderr": self.said}
+        self.run = subprocess.Popen(["sh", "-c", CALL, "sh", self.room], start_new_session=True, **how)
+        if jobs == 1:
+            with contextlib.suppress(OSError), open(f"/proc/{self.run.pid}/autogroup", "w", encoding="ascii") as file:
+                file.write(str(GIVES_WAY))
+
+    def minutes(self):
+        """Returns for how many minutes it runs."""
+        return (time.monotonic() - self.begun) / 60
+
+    def stop(self):
+        """Ends it."""
+        os.killpg(self.run.pid, signal.SIGTERM)
+        self.run.wait()
+        shutil.rmtree(self.room, ignore_errors=True)
+
+    def status(self):
+        """Tells how it ended, and returns that."""
+        self.said.seek(0)
+        text = self.said.read()
+        proved = re.findall(r"^rt: (\w+) proved$", text, re.M)
+        if self.run.returncode:
+            print(f"{text}== {self.name} isn't proved", flush=True)
+            return REFUSED
+        if not self.kept.isdisjoint(proved):
+            print(f"== {self.name} is proved, but nothing is kept", flush=True)
+            return UNKEPT
+        by = "two processors" if self.jobs > 1 else "one processor"
+        if self.name not in proved:
+            print(f"== {self.name} is kept", flush=True)
+            return KEPT
+        print(f"== {self.name} proved, after {60 * self.minutes():.0f} s by {by}", flush=True)
+        return PROVED
+
+
+class Proofs:
+    """The crates that are proved, and those that run."""
+
+    def __init__(self, named, until):
+        minutes = {it: minutes_of(it, len(all_below(it, named))) for it in named}
+        self.named, self.until, self.chains = named, until, chains_of(minutes, named)
+        self.left, self.running, self.ended, self.done = set(named), {}, set(), set()
+        self.lanes, self.status = processors(), PROVED
+
+    def begin(self, more=0):
+        """Begins what can be: crates that stand on what is done; with so many more processors than there are."""
+        idle = self.lanes + more - sum(it.jobs for it in self.running.values() if not it.is_early)
+        ready = [it for it in self.left if self.done.issuperset(self.named[it])]
+        longest = max((self.chains[it] - ran.minutes() for it, ran in self.running.items()), default=0)
+        for name, jobs in shares(ready, idle, self.chains, longest, self.left == set(ready)).items():
+            self.left.remove(name)
+            self.running[name] = Call(name, all_below(name, self.named), self.done, jobs)
+        if not any(it.is_early for it in self.running.values()) and gigabytes_free() > MEMORY_OF_A_CALL:
+            self.begin_early()
+
+    def begin_early(self):
+        """Begins the call that comes next on the longest chain, where the one that it waits for has begun its proof."""
+        proofs = [it for it, ran in self.running.items() if ran.minutes() > A_CALL and not ran.is_early]
+        name = behind(self.named, self.chains, self.left, self.done, proofs)
+        if name:
+            self.left.remove(name)
+            self.running[name] = Call(name, all_below(name, self.named), self.done, 2)
+
+    def end(self):
+        """Takes what has ended."""
+        for name in [it for it, ran in self.running.items() if ran.run.poll() is not None]:
+            status = self.running.pop(name).status()
+            self.ended.add(name)
+            self.status = max(self.status, status)
+            if status in (PROVED, KEPT):
+                self.done.add(name)
+            if status == KEPT and self.chains[name] == max(self.chains.values()):
+                self.left.clear()
+            for it, ran in self.running.items():
+                if ran.is_early and self.done.issuperset(self.named[it]):
+                    ran.is_early, ran.begun = False, time.monotonic()
+        if self.status == UNKEPT:
+            self.left.clear()
+            self.stop()
+
+    def goes_on(self):
+        """Says whether there is something to wait for."""
+        return bool(self.running) and self.until not in self.ended
+
+    def whole(self):
+        """Proves all, and returns the status."""
+        self.begin()
+        while self.goes_on():
+            time.sleep(0.2)
+            self.end()
+            self.begin()
+        if self.until in self.done:
+            # (rt ci would begin it later)
+            self.begin(len(self.left))
+        return self.status
+
+    def stop(self):
+        """Ends what runs."""
+        for ran in self.running.values():
+            ran.stop()
+        self.running.clear()
+
+
+def main():
+    words = argparse.ArgumentParser(description=__doc__, formatter_class=argparse.RawDescriptionHelpFormatter)
+    words.add_argument("--until", metavar="NAME", help="end when this crate is proved")
+    words.add_argument("names", nargs="*", metavar="NAME", help="a crate that is proved, with those below it (all)")
+    given = words.parse_args()
+    with open(f"{ROOT}/crates.txt", encoding="utf-8") as file:
+        named = named_in(file.read())
+    absent = [it for it in [*given.names, *([given.until] if given.until else [])] if it not in named]
+    if absent:
+        words.error(f"there is no crate {absent[0]}")
+    wanted = set(given.names).union(*(all_below(it, named) for it in given.names)) if given.names else set(named)
+    proofs = Proofs({it: named[it] for it in named if it in wanted}, given.until)
+    try:
+        return proofs.whole()
+    except KeyboardInterrupt:
+        proofs.stop()
+        return REFUSED
+
+
+if __name__ == "__main__":
+    sys.exit(main())
