@@ -29,13 +29,15 @@ import time
 
 ROOT = os.path.dirname(os.path.dirname(os.path.realpath(__file__)))
 PROVED, REFUSED, UNKEPT, KEPT = 0, 1, 3, -1
-# About what a proof takes, in minutes of one processor: of itself, for each line of code, for each line and crate below,
-# and for a program, which is compiled with all below it.
+# About what the proof of a crate that .ci/seconds doesn't name takes, in minutes of one processor: of itself, for each line
+# of code, for each line and crate below, and for a program, which is compiled with all below it.
 EACH, A_LINE, A_LINE_OVER_A_CRATE, A_PROGRAM = 0.5, 0.0018, 0.0001, 3
 GIGABYTES_A_PROOF = 4
 # How many minutes such a call takes at most until its proof begins.
 A_CALL = 0.6
-# What a call for one processor gives way by, to the one for two: from 0 to 19.
+# Which part of the time of one processor a proof by two takes.
+BY_TWO = 0.6
+# What a call gives way by, to the one of the longest chain: from 0 to 19.
 GIVES_WAY = 5
 # With less memory free, in gigabytes, a call may take one processor alone, for what it finds free is what it goes by.
 MEMORY_OF_A_CALL = 16
@@ -80,26 +82,26 @@ def chains_of(minutes, named):
     return {name: chain(name) for name in named}
 
 
-def shares(ready, idle, chains, longest, is_end):
+def shares(ready, idle, chains, rest):
     """Returns which crates are begun, and by how many processors, of those that can be.
 
-    The one with the longest chain of all that is left gets two, though that may be one more than there is; `longest` is
-    what is left of the longest chain of those that run. Others get two at the end, where no more come behind them.
+    Each gets one, those with the longest chains first. One gets two where fewer crates wait than there are processors, or
+    where its chain is so long that all the rest, which takes so many minutes by all processors, would wait for it even by
+    two: these take more than half as much work again as one, so that elsewhere they would only keep others waiting.
 
-    >>> shares(["a", "b", "c"], 2, {"a": 9, "b": 5, "c": 4}, 8, False)
-    {'a': 2}
-    >>> shares(["a", "b", "c"], 4, {"a": 7, "b": 5, "c": 4}, 8, False)
+    >>> shares(["a", "b", "c"], 4, {"a": 9, "b": 8, "c": 4}, 9)
+    {'a': 2, 'b': 1, 'c': 1}
+    >>> shares(["a", "b", "c"], 3, {"a": 9, "b": 8, "c": 4}, 9)
     {'a': 1, 'b': 1, 'c': 1}
-    >>> shares(["a"], 3, {"a": 7}, 8, True)
+    >>> shares(["a", "b", "c"], 1, {"a": 9, "b": 8, "c": 4}, 5)
     {'a': 2}
     """
     begun = {}
     for name in sorted(ready, key=lambda it: -chains[it]):
         if idle < 1:
             break
-        leads = chains[name] >= longest or is_end and idle >= 2 * (len(ready) - len(begun))
-        longest = max(longest, chains[name])
-        begun[name] = 2 if leads else 1
+        waiting = len(ready) - len(begun)
+        begun[name] = 2 if idle > waiting or BY_TWO * chains[name] > rest else 1
         idle -= begun[name]
     return begun
 
@@ -143,8 +145,16 @@ def lines_of(name):
     return count
 
 
-def minutes_of(name, below):
+def noted_seconds():
+    """Returns how many processor seconds the proof of each crate took that .ci/seconds names."""
+    with open(f"{ROOT}/.ci/seconds", encoding="utf-8") as file:
+        return {name: int(seconds) for name, seconds in (line.split() for line in file)}
+
+
+def minutes_of(name, below, noted):
     """Returns about how many minutes of one processor a crate takes, over so many crates."""
+    if name in noted:
+        return noted[name] / 60
     program = A_PROGRAM if os.path.exists(f"{ROOT}/crates/{name}/src/main.rt") else 0
     return EACH + (A_LINE + A_LINE_OVER_A_CRATE * below) * lines_of(name) + program
 
@@ -163,21 +173,30 @@ def copied(names):
 class Call:
     """A proof that runs: that of a crate over those below it, which are done, but for one where it is early."""
 
-    def __init__(self, name, below, done, jobs):
-        self.name, self.jobs, self.begun = name, jobs, time.monotonic()
+    def __init__(self, name, below, done, jobs, leads):
+        self.name, self.jobs, self.begun, self.seconds = name, jobs, time.monotonic(), 0
         self.kept, self.is_early = below & done, not below <= done
         self.room = copied({name, *below})
         self.said = tempfile.TemporaryFile("w+", encoding="utf-8", errors="replace")
         environment = dict(os.environ) if jobs > 1 else {**os.environ, "RT_JOBS": "1"}
         how = {"cwd": self.room, "env": environment, "stdin": subprocess.DEVNULL, "stdout": self.said, "stderr": self.said}
         self.run = subprocess.Popen(["sh", "-c", CALL, "sh", self.room], start_new_session=True, **how)
-        if jobs == 1:
+        if not leads:
             with contextlib.suppress(OSError), open(f"/proc/{self.run.pid}/autogroup", "w", encoding="ascii") as file:
                 file.write(str(GIVES_WAY))
 
     def minutes(self):
         """Returns for how many minutes it runs."""
         return (time.monotonic() - self.begun) / 60
+
+    def has_ended(self):
+        """Says whether it has ended, and notes with what status and after how many processor seconds."""
+        if self.run.returncode is None:
+            number, status, used = os.wait4(self.run.pid, os.WNOHANG)
+            if number:
+                self.run.returncode = os.waitstatus_to_exitcode(status)
+                self.seconds = used.ru_utime + used.ru_stime
+        return self.run.returncode is not None
 
     def stop(self):
         """Ends it."""
@@ -200,7 +219,7 @@ class Call:
         if self.name not in proved:
             print(f"== {self.name} is kept", flush=True)
             return KEPT
-        print(f"== {self.name} proved, after {60 * self.minutes():.0f} s by {by}", flush=True)
+        print(f"== {self.name} proved, after {60 * self.minutes():.0f} s by {by}: {self.seconds:.0f} processor seconds", flush=True)
         return PROVED
 
 
@@ -208,19 +227,23 @@ class Proofs:
     """The crates that are proved, and those that run."""
 
     def __init__(self, named, until):
-        minutes = {it: minutes_of(it, len(all_below(it, named))) for it in named}
-        self.named, self.until, self.chains = named, until, chains_of(minutes, named)
+        noted = noted_seconds()
+        minutes = {it: minutes_of(it, len(all_below(it, named)), noted) for it in named}
+        self.named, self.until, self.minutes, self.chains = named, until, minutes, chains_of(minutes, named)
         self.left, self.running, self.ended, self.done = set(named), {}, set(), set()
         self.lanes, self.status = processors(), PROVED
+
+    def rest(self):
+        """Returns about how many minutes all takes that is left, by all processors."""
+        runs = sum(max(0, self.minutes[it] - ran.minutes()) for it, ran in self.running.items())
+        return (sum(self.minutes[it] for it in self.left) + runs) / self.lanes
 
     def begin(self, more=0):
         """Begins what can be: crates that stand on what is done; with so many more processors than there are."""
         idle = self.lanes + more - sum(it.jobs for it in self.running.values() if not it.is_early)
         ready = [it for it in self.left if self.done.issuperset(self.named[it])]
-        longest = max((self.chains[it] - ran.minutes() for it, ran in self.running.items()), default=0)
-        for name, jobs in shares(ready, idle, self.chains, longest, self.left == set(ready)).items():
-            self.left.remove(name)
-            self.running[name] = Call(name, all_below(name, self.named), self.done, jobs)
+        for name, jobs in shares(ready, idle, self.chains, self.rest()).items():
+            self.call(name, jobs)
         if not any(it.is_early for it in self.running.values()) and gigabytes_free() > MEMORY_OF_A_CALL:
             self.begin_early()
 
@@ -229,12 +252,17 @@ class Proofs:
         proofs = [it for it, ran in self.running.items() if ran.minutes() > A_CALL and not ran.is_early]
         name = behind(self.named, self.chains, self.left, self.done, proofs)
         if name:
-            self.left.remove(name)
-            self.running[name] = Call(name, all_below(name, self.named), self.done, 2)
+            self.call(name, shares([name], 1, self.chains, self.rest())[name])
+
+    def call(self, name, jobs):
+        """Begins the call of a crate."""
+        self.left.remove(name)
+        leads = self.chains[name] >= max((self.chains[it] for it in [*self.left, *self.running]), default=0)
+        self.running[name] = Call(name, all_below(name, self.named), self.done, jobs, leads)
 
     def end(self):
         """Takes what has ended."""
-        for name in [it for it, ran in self.running.items() if ran.run.poll() is not None]:
+        for name in [it for it, ran in self.running.items() if ran.has_ended()]:
             status = self.running.pop(name).status()
             self.ended.add(name)
             self.status = max(self.status, status)

@@ -1,6 +1,7 @@
 //! How long the marks take that grow with a graph: of layers of disjunctive facts, of one fact over many
 //! leaves, and of the last of many hops; and the marks by diagrams, in a store with room and in one without.
-ghost use Rattle.std.specs.Prelude.{◌≡◌, ◌<◌, true, length, All};
+ghost use Rattle.std.specs.Prelude.{◌≡◌, ◌<◌, ◌≤◌, true, length, All, IfOk, OnOk};
+ghost use Rattle.nc_marks.specs.Kept.{kept_nodes};
 ghost use Rattle.nc_marks.specs.Marks.{marked_elements};
 ghost use Rattle.bench.specs.Table.{flow_of};
 
@@ -16,6 +17,7 @@ use nc_marks::by_diagrams::marks_by_diagrams;
 use nc_marks::kept::KeptMarks;
 use nc_marks::mark::{Mark, Marks};
 use nc_types::ElementId;
+use std::alloc::{AllocError, Global};
 use std::time::Instant;
 
 const LAYER_FACTS: u32 = 130_000;
@@ -96,6 +98,22 @@ fn counted(facts: u32, marks: &Marks, elements: u32, micros: u128) -> Outcome
     }
 }
 
+// Adds nodes of a graph to the marks that are kept, and tells how long that took.
+fn time_adding(
+    rt: &HostRuntime,
+    kept: &mut KeptMarks,
+    graph: &Graph<u32>,
+    nodes: &[NodeId],
+) -> Result<u128>
+    requires valid { All (λ p. p.0 < length graph.now.facts) nodes.now }
+    requires grown { kept_nodes kept.old ≤ length graph.now.facts }
+    ensures { OnOk result (marked_elements kept.new.marks ≡ marked_elements kept.old.marks) }
+{
+    let start = Instant::now(rt)?;
+    kept.add(graph, nodes)?;
+    Ok(start.elapsed(rt)?.as_micros())
+}
+
 // Times the marks for nodes of a graph, by sets, and counts them over so many elements.
 fn time_sets(
     rt: &HostRuntime,
@@ -106,13 +124,28 @@ fn time_sets(
     requires { All (λ p. p.0 < length graph.now.facts) nodes.now }
 {
     let mut kept = KeptMarks::new(rt.alloc(), elements)?;
-    let start = Instant::now(rt)?;
-    kept.add(graph, nodes)?;
-    let micros = start.elapsed(rt)?.as_micros();
+    let micros = time_adding(rt, &mut kept, graph, nodes)?;
     Ok(counted(graph.len(), kept.marks(), elements, micros))
 }
 
-// The same by diagrams, in a store that has room for them, or room for one node.
+// The marks by diagrams, in a store that has room for them, or room for one node.
+fn marks_in(
+    alloc: Global,
+    elements: u32,
+    graph: &Graph<u32>,
+    nodes: &[NodeId],
+    has_room: bool,
+) -> Result<Marks, AllocError>
+    requires { All (λ p. p.0 < length graph.now.facts) nodes.now }
+    ensures { IfOk result (λ marks. marked_elements marks ≡ elements) }
+{
+    let limit = if has_room { ROOM } else { 1 };
+    let mut store = Store::new(alloc, limit);
+    let mut formulas = Formulas::new(alloc);
+    marks_by_diagrams(alloc, graph, &mut formulas, &mut store, elements, nodes)
+}
+
+// Times and counts these marks.
 fn time_diagrams(
     rt: &HostRuntime,
     elements: u32,
@@ -122,18 +155,8 @@ fn time_diagrams(
 ) -> Result<Outcome>
     requires { All (λ p. p.0 < length graph.now.facts) nodes.now }
 {
-    let limit = if has_room { ROOM } else { 1 };
-    let mut store = Store::new(rt.alloc(), limit);
-    let mut formulas = Formulas::new(rt.alloc());
     let start = Instant::now(rt)?;
-    let marks = marks_by_diagrams(
-        rt.alloc(),
-        graph,
-        &mut formulas,
-        &mut store,
-        elements,
-        nodes,
-    )?;
+    let marks = marks_in(rt.alloc(), elements, graph, nodes, has_room)?;
     let micros = start.elapsed(rt)?.as_micros();
     Ok(counted(graph.len(), &marks, elements, micros))
 }
@@ -156,21 +179,33 @@ impl Subject {
         }
     }
 
+    // What the marks of nodes of a graph come to.
+    fn outcome(self, rt: &HostRuntime, graph: &Graph<u32>, nodes: &[NodeId]) -> Result<Outcome>
+        requires { All (λ p. p.0 < length graph.now.facts) nodes.now }
+    {
+        match self.method {
+            Method::Sets => time_sets(rt, self.elements, graph, nodes),
+            Method::Diagrams => time_diagrams(rt, self.elements, graph, nodes, true),
+            Method::TooManyDiagrams => time_diagrams(rt, self.elements, graph, nodes, false),
+        }
+    }
+
+    // Tells it, where these are nodes of the graph.
+    fn measure_nodes(self, rt: &HostRuntime, graph: &Graph<u32>, nodes: &[NodeId]) -> Result<()> {
+        if !are_nodes(graph, nodes) {
+            return Ok(());
+        }
+        let outcome = self.outcome(rt, graph, nodes)?;
+        outcome.tell(rt, self.name)
+    }
+
     // Measures the marks of tested facts.
     fn measure_facts(self, rt: &HostRuntime, table: &Table, facts: &[u32]) -> Result<()>
         requires { All (λ f. (flow_of table.now).holds f ≡ true) facts.now }
     {
         let mut graph = Graph::new(rt.alloc(), u32::MAX);
         let nodes = graph.add(&mut TableRules::new(table), facts)?;
-        if !are_nodes(&graph, &nodes) {
-            return Ok(());
-        }
-        let outcome = match self.method {
-            Method::Sets => time_sets(rt, self.elements, &graph, &nodes)?,
-            Method::Diagrams => time_diagrams(rt, self.elements, &graph, &nodes, true)?,
-            Method::TooManyDiagrams => time_diagrams(rt, self.elements, &graph, &nodes, false)?,
-        };
-        outcome.tell(rt, self.name)
+        self.measure_nodes(rt, &graph, &nodes)
     }
 
     // Measures the marks of the last fact of a shape.
@@ -183,13 +218,17 @@ impl Subject {
     }
 }
 
-// By sets: layers, one fact over many leaves, and many hops.
-fn measure_sets(rt: &HostRuntime) -> Result<()> {
+// By sets: layers of which all is tested.
+fn measure_layers(rt: &HostRuntime) -> Result<()> {
     let layers = Shape::Layers.table(rt.alloc(), LAYER_FACTS)?;
     let all = layers.facts(rt.alloc())?;
+    let subject = Subject::new("layers, all tested", Method::Sets, LAYER_ELEMENTS);
+    subject.measure_facts(rt, &layers, &all)
+}
+
+// By sets: layers of which one fact is tested, one fact over many leaves, and many hops.
+fn measure_sets(rt: &HostRuntime) -> Result<()> {
     let by = Method::Sets;
-    let subject = Subject::new("layers, all tested", by, LAYER_ELEMENTS);
-    subject.measure_facts(rt, &layers, &all)?;
     let subject = Subject::new("layers, one tested", by, LAYER_ELEMENTS);
     subject.measure_last(rt, Shape::Layers, LAYER_FACTS)?;
     let subject = Subject::new("over all leaves", by, WIDTH);
@@ -217,6 +256,7 @@ fn measure_diagrams(rt: &HostRuntime) -> Result<()> {
 
 /// Measures all of them.
 pub fn measure(rt: &HostRuntime) -> Result<()> {
+    measure_layers(rt)?;
     measure_sets(rt)?;
     measure_diagrams(rt)
 }

@@ -126,6 +126,29 @@ fn verdict(spare: bool) -> &'static str {
     if spare { "spare" } else { "kept" }
 }
 
+// Leaves out tests that are counted, from the last to the first, and tells of each whether it is spare.
+fn leave_out_each(
+    rt: &HostRuntime,
+    name: &str,
+    tally: &mut Tally,
+    left: &mut Vec<KeptMarks>,
+) -> Result<()>
+    requires few { length left.old.items ≤ 1000 }
+    requires marked { All (λ k. marked_elements k.marks ≡ 4) left.old.items }
+    requires counted { AreSums 4 left.old.items tally.old }
+{
+    let count = left.len();
+    'turns: for turn in 0..count {
+        let Some(test) = left.pop() else {
+            break;
+        };
+        let spare = leaves_out(tally, &test);
+        drop(test);
+        println!(rt; "{name}: test {} {}", count - turn, verdict(spare))?;
+    }
+    Ok(())
+}
+
 // Leaves out tests, from the last to the first, and tells of each whether it is spare.
 fn leave_out(rt: &HostRuntime, name: &str, tests: Vec<KeptMarks>) -> Result<()>
     requires few { length tests.items ≤ 1000 }
@@ -133,16 +156,28 @@ fn leave_out(rt: &HostRuntime, name: &str, tests: Vec<KeptMarks>) -> Result<()>
 {
     let mut tally = Tally::new(rt.alloc(), ELEMENTS)?;
     count_all(&tests, &mut tally);
-    let count = tests.len();
     let mut left = tests;
-    'turns: for turn in 0..count {
-        let Some(test) = left.pop() else {
-            break;
-        };
-        let verdict = verdict(leaves_out(&mut tally, &test));
-        println!(rt; "{name}: test {} {verdict}", count - turn)?;
+    leave_out_each(rt, name, &mut tally, &mut left)
+}
+
+// The numbers of the tests of a suite, each behind a space.
+fn suite_numbers(
+    alloc: Global,
+    graph: &Graph<u32>,
+    kept: &KeptMarks,
+    tests: &[&[NodeId]],
+) -> Result<String, AllocError>
+    requires few { length tests.now ≤ 1000 }
+    requires valid { All (λ t. All (λ p. p.0 < length graph.now.facts) t.now) tests.now }
+    requires kept { AreKept (node_flow graph.now) (length graph.now.facts) [] 4 kept.now }
+{
+    let mut numbers = String::new(alloc);
+    for place in suite(alloc, graph, kept, tests)? {
+        let number = u64::from(place) + 1;
+        let text = format!(in alloc; " {number}")?;
+        numbers.push_str(text.as_str())?;
     }
-    Ok(())
+    Ok(numbers)
 }
 
 // Tells the numbers of the tests of a suite.
@@ -152,10 +187,7 @@ fn tell_suite(rt: &HostRuntime, name: &str, graph: &Graph<u32>, tests: &[&[NodeI
 {
     let alloc = rt.alloc();
     let kept = kept_for(alloc, graph, &[])?;
-    let mut numbers = String::new(alloc);
-    for place in suite(alloc, graph, &kept, tests)? {
-        numbers.push_str(format!(in alloc; " {}", u64::from(place) + 1)?.as_str())?;
-    }
+    let numbers = suite_numbers(alloc, graph, &kept, tests)?;
     println!(rt; "{name}: suite{numbers}")?;
     Ok(())
 }
@@ -175,19 +207,43 @@ fn nodes_of_each(
     Ok(each)
 }
 
-// Leaves out tests one by one, and tells their suite.
+// Leaves out tests one by one, and tells their suite, where they are of nodes of the graph.
+fn measure_lists(
+    rt: &HostRuntime,
+    name: &str,
+    graph: &Graph<u32>,
+    tests: &[&[NodeId]],
+) -> Result<()> {
+    if !are_tests(graph, tests) {
+        return Ok(());
+    }
+    leave_out(rt, name, marks_of_each(rt.alloc(), graph, tests)?)?;
+    tell_suite(rt, name, graph, tests)
+}
+
+// The same of tests, given the nodes of all facts.
+fn measure_nodes(
+    rt: &HostRuntime,
+    graph: &Graph<u32>,
+    nodes: &[NodeId],
+    tests: Tests,
+) -> Result<()> {
+    let each = nodes_of_each(rt.alloc(), nodes, tests)?;
+    let lists: Vec<&[NodeId]> = each
+        .iter()
+        .map(|nodes| nodes.as_slice())
+        .collect(rt.alloc())?;
+    measure_lists(rt, tests.name, graph, &lists)
+}
+
+// The same over a graph that is made for them.
 fn measure_tests(rt: &HostRuntime, tests: Tests) -> Result<()> {
     let alloc = rt.alloc();
     let table = Shape::Pairs.table(alloc, FACTS)?;
+    let facts = table.facts(alloc)?;
     let mut graph = Graph::new(alloc, FACTS);
-    let nodes = graph.add(&mut TableRules::new(&table), &table.facts(alloc)?)?;
-    let each = nodes_of_each(alloc, &nodes, tests)?;
-    let lists: Vec<&[NodeId]> = each.iter().map(|nodes| nodes.as_slice()).collect(alloc)?;
-    if !are_tests(&graph, &lists) {
-        return Ok(());
-    }
-    leave_out(rt, tests.name, marks_of_each(alloc, &graph, &lists)?)?;
-    tell_suite(rt, tests.name, &graph, &lists)
+    let nodes = graph.add(&mut TableRules::new(&table), &facts)?;
+    measure_nodes(rt, &graph, &nodes, tests)
 }
 
 /// Leaves out tests one by one of which the strong marks are spare, or the weak ones, or none.

@@ -6,7 +6,8 @@ ghost use Rattle.std.specs.Option.{ForSome};
 ghost use Rattle.std.specs.List.{flat_map};
 ghost use Rattle.nc_fact.specs.Roots.{roots};
 ghost use Rattle.nc_graph.specs.Closure.{IsClosure};
-ghost use Rattle.nc_graph.specs.Nodes.{Mirrors};
+ghost use Rattle.nc_graph.specs.Nodes.{Mirrors, no_nodes};
+ghost use Rattle.nc_engine.specs.Limits.{most_facts};
 ghost use Rattle.nc_rules.specs.Rules.{flow_of};
 ghost use Rattle.nc_rules.specs.Seen.{state_of, asked_of};
 ghost use Rattle.nc_tables.specs.State.{IsState};
@@ -104,6 +105,31 @@ fn dead_in(alloc: Global, rules: &Rules, graph: &Graph<Fact>) -> Result<Vec<Elem
     Ok(elements)
 }
 
+// Finds the dead elements of the rules' network, by these facts, which are the roots, and a graph that is empty.
+fn find_dead_from(
+    alloc: Global,
+    rules: &mut Rules,
+    graph: &mut Graph<Fact>,
+    facts: &[Fact],
+) -> Result<DeadElements, AllocError>
+    requires state { IsState (state_of rules.old) }
+    requires facts { facts.now ≡ roots (state_of rules.old) }
+    requires hold { All (λ f. (flow_of (state_of rules.old)).holds f ≡ true) facts.now }
+    requires empty { graph.old ≡ no_nodes most_facts }
+    requires mirrors { Mirrors (flow_of (state_of rules.old)) graph.old }
+    ensures known { IfOk result (IsKnownDead (state_of rules.old)) }
+    ensures state { state_of rules.new ≡ state_of rules.old }
+    ensures infers { OnOk result (InfersApart (asked_of rules.old) (asked_of rules.new)) }
+{
+    match ask(rules, graph, facts) {
+        Ok(_nodes) => {}
+        Err(GraphFault::Full) => return Ok(DeadElements::TooMany),
+        Err(GraphFault::Memory) => return Err(AllocError),
+    }
+    let elements = dead_in(alloc, rules, graph)?;
+    Ok(DeadElements::Known(elements))
+}
+
 // Finds the dead elements of the rules' network, by a graph of its own.
 fn find_dead(alloc: Global, rules: &mut Rules) -> Result<DeadElements, AllocError>
     requires { IsState (state_of rules.old) }
@@ -113,13 +139,7 @@ fn find_dead(alloc: Global, rules: &mut Rules) -> Result<DeadElements, AllocErro
 {
     let facts = root_facts(alloc, rules)?;
     let mut graph = Graph::new(alloc, FACT_LIMIT);
-    match ask(rules, &mut graph, &facts) {
-        Ok(_nodes) => {}
-        Err(GraphFault::Full) => return Ok(DeadElements::TooMany),
-        Err(GraphFault::Memory) => return Err(AllocError),
-    }
-    let elements = dead_in(alloc, rules, &graph)?;
-    Ok(DeadElements::Known(elements))
+    find_dead_from(alloc, rules, &mut graph, &facts)
 }
 
 // What is known of the dead elements, which are found where they aren't known yet.

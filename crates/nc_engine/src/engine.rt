@@ -68,7 +68,7 @@ fn hand_on(reply: &mut Vec<u8>, out: &mut Vec<u8>) -> Result<(), AllocError>
 fn spend(work: &mut Option<Work>)
     ensures { work.new ≡ None }
 {
-    *work = None;
+    drop(work.take());
 }
 
 impl Engine {
