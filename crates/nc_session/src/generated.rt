@@ -119,9 +119,11 @@ fn serve_behind<K: Sink>(
     sessions_go_on();
     let _state = loaded.settled.state.network();
     let Ok(heading) = heading_line(alloc, pods, &loaded.files) else {
+        drop(loaded);
         return Status::Memory;
     };
     let Ok(()) = write_all(output, &heading) else {
+        drop(loaded);
         return Status::OutputFault;
     };
     let mut input = PlainSource::new(session);

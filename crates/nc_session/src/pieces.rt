@@ -183,5 +183,7 @@ pub(crate) fn serve<S: Source, K: Sink>(
     let Ok(mut engine) = Engine::begin(alloc, settled, files, listed) else {
         return Status::Memory;
     };
-    serve_pieces(alloc, &mut engine, input, output)
+    let status = serve_pieces(alloc, &mut engine, input, output);
+    drop(engine);
+    status
 }

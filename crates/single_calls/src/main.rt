@@ -33,13 +33,19 @@ fn add_policies(rt: &HostRuntime, calls: &mut Vec<Call>) -> Result<()> {
     Ok(())
 }
 
-// Makes the calls on texts, lines and functions, and adds what came of each.
-fn add_others(rt: &HostRuntime, calls: &mut Vec<Call>) -> Result<()> {
+// Makes the calls on texts, and adds what came of each.
+fn add_texts(rt: &HostRuntime, calls: &mut Vec<Call>) -> Result<()> {
     let alloc = rt.alloc();
     calls.push(("a report", texts::reports(alloc)?))?;
     calls.push(("a listing", texts::lists(alloc)?))?;
     calls.push(("a tracefile", texts::traces(alloc)?))?;
     calls.push(("a line of JSON", texts::tells_json(alloc)?))?;
+    Ok(())
+}
+
+// Makes the calls on lines and functions, and adds what came of each.
+fn add_others(rt: &HostRuntime, calls: &mut Vec<Call>) -> Result<()> {
+    let alloc = rt.alloc();
     calls.push(("bytes that end in a line", sessions::cuts(alloc)?))?;
     calls.push(("the value of a function", diagrams::evaluates(alloc)?))?;
     calls.push(("one function made twice", diagrams::are_equal(alloc)?))?;
@@ -49,6 +55,7 @@ fn add_others(rt: &HostRuntime, calls: &mut Vec<Call>) -> Result<()> {
 fn main(rt: HostRuntime) -> Result<ExitCode> {
     let mut calls = Vec::new(rt.alloc());
     add_policies(&rt, &mut calls)?;
+    add_texts(&rt, &mut calls)?;
     add_others(&rt, &mut calls)?;
     let mut failed: usize = 0;
     for (name, is_right) in &calls {

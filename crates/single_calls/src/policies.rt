@@ -1,10 +1,13 @@
 //! Entries of prefix lists, and what maps make of routes.
 
+ghost use Rattle.nc_types.specs.Config.{config_view};
+ghost use Rattle.nc_types.specs.WellFormed.{IsWellFormed};
+
 use crate::network::{config, lines_of};
 use nc_policy::{Verdict, apply};
 use nc_read_policy::read_list_entry;
 use nc_tables::{Path, Place, Route};
-use nc_types::{Addr, Cause, Communities, ConfigFault, OriginCode, Prefix};
+use nc_types::{Addr, Cause, Communities, ConfigFault, OriginCode, Prefix, RouterConfig};
 use std::alloc::{AllocError, Global};
 
 // 10.9.0.0/16
@@ -68,6 +71,32 @@ fn route(alloc: Global) -> Route {
     }
 }
 
+// What the router's map of this name makes of the route.
+fn verdict(alloc: Global, config: &RouterConfig, map: &[u8]) -> Result<Verdict, AllocError>
+    requires { IsWellFormed (config_view config.now) }
+{
+    let route = route(alloc);
+    apply(alloc, config, map, &route)
+}
+
+// Whether a route is permitted by a first clause that sets the metric, and by the first entry of a list.
+fn is_permitted(verdict: &Verdict) -> bool {
+    match verdict {
+        Verdict::Deny => false,
+        Verdict::Permit {
+            route,
+            clause,
+            entry,
+            community,
+        } => {
+            route.metric == 50
+                && *clause == 0
+                && *entry == Some(Place { list: 0, entry: 0 })
+                && community.is_none()
+        }
+    }
+}
+
 /// A map permits a route by its first clause, which sets the metric, and by the entry of its list.
 ///
 /// # Errors
@@ -77,20 +106,8 @@ pub fn permits(alloc: Global) -> Result<bool, AllocError> {
     let Some(config) = config(alloc)? else {
         return Ok(false);
     };
-    match apply(alloc, &config, b"OUT", &route(alloc))? {
-        Verdict::Deny => Ok(false),
-        Verdict::Permit {
-            route,
-            clause,
-            entry,
-            community,
-        } => Ok(
-            route.metric == 50
-                && clause == 0
-                && entry == Some(Place { list: 0, entry: 0 })
-                && community.is_none(),
-        ),
-    }
+    let verdict = verdict(alloc, &config, b"OUT")?;
+    Ok(is_permitted(&verdict))
 }
 
 /// A map that no clause names permits nothing.
@@ -102,8 +119,6 @@ pub fn denies(alloc: Global) -> Result<bool, AllocError> {
     let Some(config) = config(alloc)? else {
         return Ok(false);
     };
-    match apply(alloc, &config, b"IN", &route(alloc))? {
-        Verdict::Deny => Ok(true),
-        Verdict::Permit { .. } => Ok(false),
-    }
+    let verdict = verdict(alloc, &config, b"IN")?;
+    Ok(matches!(verdict, Verdict::Deny))
 }

@@ -7,7 +7,7 @@ ghost use Rattle.nc_types.specs.Network.{element_count};
 use crate::network::{TEXT, lines_of, network};
 use nc_marks::kept::KeptMarks;
 use nc_report::{LoadedFile, json_text, lcov_text, report_text, show_text};
-use nc_types::{RouterId, Text};
+use nc_types::{Network, RouterId, Text};
 use std::alloc::{AllocError, Global};
 
 const REPORT: &[u8] = b"strong 0 weak 0 uncovered 10 outside 1\nr1 .UUUUUUUUUU\n";
@@ -35,6 +35,13 @@ fn file(alloc: Global) -> Result<Option<LoadedFile>, AllocError> {
     }
 }
 
+// Whether the report on a network without marks is the one that is expected.
+fn is_reported(alloc: Global, network: &Network) -> Result<bool, AllocError> {
+    let kept = KeptMarks::new(alloc, network.element_count())?;
+    let text = report_text(alloc, network, kept.marks())?;
+    Ok(text.as_slice() == REPORT)
+}
+
 /// The report: the counts, and the letters of each router.
 ///
 /// # Errors
@@ -44,9 +51,14 @@ pub fn reports(alloc: Global) -> Result<bool, AllocError> {
     let Some(network) = network(alloc)? else {
         return Ok(false);
     };
+    is_reported(alloc, &network)
+}
+
+// Whether the listing of a file of a network without marks is the one that is expected.
+fn is_listed(alloc: Global, network: &Network, file: &LoadedFile) -> Result<bool, AllocError> {
     let kept = KeptMarks::new(alloc, network.element_count())?;
-    let text = report_text(alloc, &network, kept.marks())?;
-    Ok(text.as_slice() == REPORT)
+    let text = show_text(alloc, network, kept.marks(), RouterId(0), file)?;
+    Ok(text.as_slice() == LISTING)
 }
 
 /// The listing of the file, each line behind its letter and its number.
@@ -55,15 +67,20 @@ pub fn reports(alloc: Global) -> Result<bool, AllocError> {
 ///
 /// Memory that runs out.
 pub fn lists(alloc: Global) -> Result<bool, AllocError> {
-    let Some(network) = network(alloc)? else {
-        return Ok(false);
-    };
     let Some(file) = file(alloc)? else {
         return Ok(false);
     };
+    match network(alloc)? {
+        Some(network) => is_listed(alloc, &network, &file),
+        None => Ok(false),
+    }
+}
+
+// Whether the tracefile of files of a network without marks is the one that is expected.
+fn is_traced(alloc: Global, network: &Network, files: &[LoadedFile]) -> Result<bool, AllocError> {
     let kept = KeptMarks::new(alloc, network.element_count())?;
-    let text = show_text(alloc, &network, kept.marks(), RouterId(0), &file)?;
-    Ok(text.as_slice() == LISTING)
+    let text = lcov_text(alloc, network, kept.marks(), files)?;
+    Ok(text.as_slice() == TRACEFILE)
 }
 
 /// The tracefile of the file.
@@ -72,15 +89,20 @@ pub fn lists(alloc: Global) -> Result<bool, AllocError> {
 ///
 /// Memory that runs out.
 pub fn traces(alloc: Global) -> Result<bool, AllocError> {
-    let Some(network) = network(alloc)? else {
-        return Ok(false);
-    };
     let Some(file) = file(alloc)? else {
         return Ok(false);
     };
+    match network(alloc)? {
+        Some(network) => is_traced(alloc, &network, &[file]),
+        None => Ok(false),
+    }
+}
+
+// Whether the marks of a network without any are told in JSON as is expected.
+fn is_told(alloc: Global, network: &Network) -> Result<bool, AllocError> {
     let kept = KeptMarks::new(alloc, network.element_count())?;
-    let text = lcov_text(alloc, &network, kept.marks(), &[file])?;
-    Ok(text.as_slice() == TRACEFILE)
+    let text = json_text(alloc, network, kept.marks())?;
+    Ok(text.as_slice() == JSON)
 }
 
 /// The line of JSON.
@@ -92,7 +114,5 @@ pub fn tells_json(alloc: Global) -> Result<bool, AllocError> {
     let Some(network) = network(alloc)? else {
         return Ok(false);
     };
-    let kept = KeptMarks::new(alloc, network.element_count())?;
-    let text = json_text(alloc, &network, kept.marks())?;
-    Ok(text.as_slice() == JSON)
+    is_told(alloc, &network)
 }

@@ -13,4 +13,4 @@ returns-in_default-clause-leaves g c =
 pub returns-clause-leaves : goal.returns-clause-leaves
 returns-clause-leaves g c =
     let loaded : LoadedView = record { state = c.args.settled.state; files = map file_view c.args.files.items; listed = c.args.listed } in
-    c.serve_pieces.ensures.leaves loaded c.in-Ok.ensures.progress (c.sessions_go_on.ensures loaded c.network-state.ensures.state)
+    c.serve_pieces-status.ensures.leaves loaded c.in-Ok.ensures.progress (c.sessions_go_on.ensures loaded c.network-state.ensures.state)
