@@ -257,8 +257,10 @@ class Proofs:
     def call(self, name, jobs):
         """Begins the call of a crate."""
         self.left.remove(name)
-        leads = self.chains[name] >= max((self.chains[it] for it in [*self.left, *self.running]), default=0)
-        self.running[name] = Call(name, all_below(name, self.named), self.done, jobs, leads)
+        below = all_below(name, self.named)
+        others = [self.chains[it] for it in {*self.left, *self.running} - below]
+        leads = self.chains[name] >= max(others, default=0)
+        self.running[name] = Call(name, below, self.done, jobs, leads)
 
     def end(self):
         """Takes what has ended."""
