@@ -3,12 +3,11 @@
 
     .ci/prove.py [--until NAME] [NAME ..]     (all crates, or these and those below them)
 
-The toolchain's gate takes crates in the same order, but gives a crate one processor where another one could be proved.
-So while all processors are busy the longest chain of crates, by which the whole is bound, goes at the pace of one. A
-call of its own, rt ci over a copy of the crate and those below it, has two; here the crate with the longest chain behind
-it gets these, and the others one each while more could be proved than there are processors. What such a call reads and
-compares takes up to half a minute, so that of the crate that comes next begins before the one below it is proved, and
-waits for that.
+The toolchain's gate takes crates in such an order too, by their lines, and each with one processor while another could be
+proved. Here they come in the order of what their proofs took (.ci/seconds, in processor seconds), by a call of rt ci each,
+over a copy of the crate and those below it. A crate gets two processors where all else would wait for it, and gives way to
+those with longer chains. What a call reads and compares takes up to half a minute, so that of the crate that comes next
+begins before the one below it is proved, and waits for that.
 
 It prints a line for each crate that is proved, and all that is said of one that isn't. It ends with 1 where a crate isn't
 proved, and with 3 where this toolchain keeps nothing that passed, so that a crate below is proved again: then rt ci has
@@ -36,11 +35,14 @@ GIGABYTES_A_PROOF = 4
 # How many minutes such a call takes at most until its proof begins.
 A_CALL = 0.6
 # Which part of the time of one processor a proof by two takes.
-BY_TWO = 0.6
-# What a call gives way by, to the one of the longest chain: from 0 to 19.
-GIVES_WAY = 5
-# With less memory free, in gigabytes, a call may take one processor alone, for what it finds free is what it goes by.
-MEMORY_OF_A_CALL = 16
+BY_TWO = 0.67
+# What a call without a chain would give way by, to the one of the longest: from 0 to 19.
+GIVES_WAY = 15
+# How many calls more than processors run at most, where those with shorter chains give way to one with a longer.
+MORE = 2
+# With less memory free, in gigabytes, none is begun so; and with less a call may take one processor alone, for what it finds
+# free is what it goes by.
+MEMORY_OF_MORE, MEMORY_OF_A_CALL = 10, 16
 # Proves all crates of a folder, and removes it.
 CALL = 'rt ci; status=$?; cd /; rm -rf "$1"; exit $status'
 
@@ -82,41 +84,52 @@ def chains_of(minutes, named):
     return {name: chain(name) for name in named}
 
 
-def shares(ready, idle, chains, rest):
-    """Returns which crates are begun, and by how many processors, of those that can be.
+def shares(ready, running, lanes, chains, rest, more=0):
+    """Returns which crates are begun, and by how many processors, of those that can be, beside those that run by so many.
 
-    Each gets one, those with the longest chains first. One gets two where fewer crates wait than there are processors, or
-    where its chain is so long that all the rest, which takes so many minutes by all processors, would wait for it even by
-    two: these take more than half as much work again as one, so that elsewhere they would only keep others waiting.
+    Those with the longest chains come first. One begins where those that run and have a longer chain leave a processor; for
+    those with a shorter one give way, it may be one of `more` than there are. It gets one processor, and two where fewer
+    crates wait than there are idle ones, or where its chain is so long that all the rest, which takes so many minutes by all
+    processors, would wait for it even by two: these take somewhat more together than one does.
 
-    >>> shares(["a", "b", "c"], 4, {"a": 9, "b": 8, "c": 4}, 9)
+    >>> shares(["a", "b", "c"], {}, 4, {"a": 9, "b": 8, "c": 4}, 9)
     {'a': 2, 'b': 1, 'c': 1}
-    >>> shares(["a", "b", "c"], 3, {"a": 9, "b": 8, "c": 4}, 9)
+    >>> shares(["a", "b", "c"], {}, 3, {"a": 9, "b": 8, "c": 4}, 9)
     {'a': 1, 'b': 1, 'c': 1}
-    >>> shares(["a", "b", "c"], 1, {"a": 9, "b": 8, "c": 4}, 5)
+    >>> shares(["b", "c"], {"a": 2, "d": 1}, 3, {"a": 9, "b": 8, "c": 4, "d": 5}, 9, 1)
+    {'b': 1}
+    >>> shares(["a"], {}, 1, {"a": 9}, 5)
     {'a': 2}
     """
     begun = {}
     for name in sorted(ready, key=lambda it: -chains[it]):
-        if idle < 1:
+        by = {**running, **begun}
+        ahead = sum(jobs for it, jobs in by.items() if chains[it] >= chains[name])
+        idle = lanes - sum(by.values())
+        if ahead >= lanes or idle + more < 1:
             break
         waiting = len(ready) - len(begun)
         begun[name] = 2 if idle > waiting or BY_TWO * chains[name] > rest else 1
-        idle -= begun[name]
     return begun
 
 
 def behind(named, chains, left, done, running):
-    """Returns the crate with the longest chain of those that are left, if it waits for one alone, which runs.
+    """Returns which crates of those that are left may be begun early: they wait for one alone, which runs.
+
+    That is the one with the longest chain of all, or each of them where no other is left.
 
     >>> named = {"a": [], "b": [], "c": ["a"], "d": ["a", "b"], "e": ["c"]}
     >>> behind(named, {"c": 7, "d": 8, "e": 3}, ["c", "d", "e"], {"b"}, ["a"])
-    'd'
+    ['d']
     >>> behind(named, {"c": 7, "d": 8, "e": 3}, ["c", "d", "e"], set(), ["a", "b"])
+    []
+    >>> behind(named, {"c": 7, "d": 8}, ["c", "d"], {"b"}, ["a"])
+    ['c', 'd']
     """
-    name = max(left, key=chains.get, default=None)
-    waits = set(named[name]) - done if name else set()
-    return name if len(waits) == 1 and waits <= set(running) else None
+    waits = {it: set(named[it]) - done for it in left}
+    near = [it for it in left if len(waits[it]) == 1 and waits[it] <= set(running)]
+    first = max(left, key=chains.get, default=None)
+    return near if len(near) == len(left) else [it for it in near if it == first]
 
 
 def processors():
@@ -173,7 +186,7 @@ def copied(names):
 class Call:
     """A proof that runs: that of a crate over those below it, which are done, but for one where it is early."""
 
-    def __init__(self, name, below, done, jobs, leads):
+    def __init__(self, name, below, done, jobs, way):
         self.name, self.jobs, self.begun, self.seconds = name, jobs, time.monotonic(), 0
         self.kept, self.is_early = below & done, not below <= done
         self.room = copied({name, *below})
@@ -181,9 +194,9 @@ class Call:
         environment = dict(os.environ) if jobs > 1 else {**os.environ, "RT_JOBS": "1"}
         how = {"cwd": self.room, "env": environment, "stdin": subprocess.DEVNULL, "stdout": self.said, "stderr": self.said}
         self.run = subprocess.Popen(["sh", "-c", CALL, "sh", self.room], start_new_session=True, **how)
-        if not leads:
+        if way:
             with contextlib.suppress(OSError), open(f"/proc/{self.run.pid}/autogroup", "w", encoding="ascii") as file:
-                file.write(str(GIVES_WAY))
+                file.write(str(way))
 
     def minutes(self):
         """Returns for how many minutes it runs."""
@@ -238,29 +251,32 @@ class Proofs:
         runs = sum(max(0, self.minutes[it] - ran.minutes()) for it, ran in self.running.items())
         return (sum(self.minutes[it] for it in self.left) + runs) / self.lanes
 
-    def begin(self, more=0):
-        """Begins what can be: crates that stand on what is done; with so many more processors than there are."""
-        idle = self.lanes + more - sum(it.jobs for it in self.running.values() if not it.is_early)
+    def begin(self, lanes):
+        """Begins what can be: crates that stand on what is done; by so many processors, or somewhat more."""
+        running = {it: ran.jobs for it, ran in self.running.items() if not ran.is_early}
         ready = [it for it in self.left if self.done.issuperset(self.named[it])]
-        for name, jobs in shares(ready, idle, self.chains, self.rest()).items():
+        more = MORE if gigabytes_free() > MEMORY_OF_MORE else 0
+        for name, jobs in shares(ready, running, lanes, self.chains, self.rest(), more).items():
             self.call(name, jobs)
         if not any(it.is_early for it in self.running.values()) and gigabytes_free() > MEMORY_OF_A_CALL:
             self.begin_early()
 
     def begin_early(self):
-        """Begins the call that comes next on the longest chain, where the one that it waits for has begun its proof."""
+        """Begins the call that comes next on the longest chain, where the one that it waits for has begun its proof, or all
+        that are left."""
         proofs = [it for it, ran in self.running.items() if ran.minutes() > A_CALL and not ran.is_early]
-        name = behind(self.named, self.chains, self.left, self.done, proofs)
-        if name:
-            self.call(name, shares([name], 1, self.chains, self.rest())[name])
+        names = behind(self.named, self.chains, self.left, self.done, proofs)
+        idle = self.lanes if len(names) == len(self.left) else 1
+        for name, jobs in shares(names, {}, idle, self.chains, self.rest()).items():
+            self.call(name, jobs)
 
     def call(self, name, jobs):
         """Begins the call of a crate."""
         self.left.remove(name)
         below = all_below(name, self.named)
-        others = [self.chains[it] for it in {*self.left, *self.running} - below]
-        leads = self.chains[name] >= max(others, default=0)
-        self.running[name] = Call(name, below, self.done, jobs, leads)
+        longest = max((self.chains[it] for it in {name, *self.left, *self.running} - below))
+        way = round(GIVES_WAY * (1 - self.chains[name] / longest))
+        self.running[name] = Call(name, below, self.done, jobs, way)
 
     def end(self):
         """Takes what has ended."""
@@ -285,14 +301,14 @@ class Proofs:
 
     def whole(self):
         """Proves all, and returns the status."""
-        self.begin()
+        self.begin(self.lanes)
         while self.goes_on():
             time.sleep(0.2)
             self.end()
-            self.begin()
+            self.begin(self.lanes)
         if self.until in self.done:
             # (rt ci would begin it later)
-            self.begin(len(self.left))
+            self.begin(self.lanes + 2 * len(self.left))
         return self.status
 
     def stop(self):

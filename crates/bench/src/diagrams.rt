@@ -74,24 +74,22 @@ fn measure_and(rt: &HostRuntime, name: &str, store: &mut Store, a: Ref, b: Ref) 
     measure_counter(rt, "one to both", store, a, both)
 }
 
-// The conjunction of two chains of variables.
-fn measure_chains(rt: &HostRuntime) -> Result<()> {
-    let mut store = Store::new(rt.alloc(), LIMIT);
-    let even = chain(&mut store, 0, 100_000)?;
-    let odd = chain(&mut store, 1, 100_000)?;
-    measure_and(rt, "chains", &mut store, even, odd)
+// The conjunction of two chains of variables, in a store with room for them.
+fn measure_chains(rt: &HostRuntime, store: &mut Store) -> Result<()> {
+    let even = chain(store, 0, 100_000)?;
+    let odd = chain(store, 1, 100_000)?;
+    measure_and(rt, "chains", store, even, odd)
 }
 
-// The conjunction of two chains of clauses.
-fn measure_clauses(rt: &HostRuntime) -> Result<()> {
-    let mut store = Store::new(rt.alloc(), LIMIT);
-    let even = clauses(&mut store, 0, 50_000)?;
-    let odd = clauses(&mut store, 1, 50_000)?;
-    measure_and(rt, "clauses", &mut store, even, odd)
+// The conjunction of two chains of clauses, in a store with room for them.
+fn measure_clauses(rt: &HostRuntime, store: &mut Store) -> Result<()> {
+    let even = clauses(store, 0, 50_000)?;
+    let odd = clauses(store, 1, 50_000)?;
+    measure_and(rt, "clauses", store, even, odd)
 }
 
-/// Measures both.
+/// Measures both, each in a store of its own.
 pub fn measure(rt: &HostRuntime) -> Result<()> {
-    measure_chains(rt)?;
-    measure_clauses(rt)
+    measure_chains(rt, &mut Store::new(rt.alloc(), LIMIT))?;
+    measure_clauses(rt, &mut Store::new(rt.alloc(), LIMIT))
 }

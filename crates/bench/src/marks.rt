@@ -1,6 +1,6 @@
 //! How long the marks take that grow with a graph: of layers of disjunctive facts, of one fact over many
 //! leaves, and of the last of many hops; and the marks by diagrams, in a store with room and in one without.
-ghost use Rattle.std.specs.Prelude.{◌≡◌, ◌<◌, ◌≤◌, true, length, All, IfOk, OnOk};
+ghost use Rattle.std.specs.Prelude.{◌≡◌, ◌<◌, ◌≤◌, true, length, All, IfOk};
 ghost use Rattle.nc_marks.specs.Kept.{kept_nodes};
 ghost use Rattle.nc_marks.specs.Marks.{marked_elements};
 ghost use Rattle.bench.specs.Table.{flow_of};
@@ -98,20 +98,22 @@ fn counted(facts: u32, marks: &Marks, elements: u32, micros: u128) -> Outcome
     }
 }
 
-// Adds nodes of a graph to the marks that are kept, and tells how long that took.
+// Adds nodes of a graph to the marks that are kept, and tells what that came to.
 fn time_adding(
     rt: &HostRuntime,
     kept: &mut KeptMarks,
+    elements: u32,
     graph: &Graph<u32>,
     nodes: &[NodeId],
-) -> Result<u128>
+) -> Result<Outcome>
+    requires elements { marked_elements kept.old.marks ≡ elements }
     requires valid { All (λ p. p.0 < length graph.now.facts) nodes.now }
     requires grown { kept_nodes kept.old ≤ length graph.now.facts }
-    ensures { OnOk result (marked_elements kept.new.marks ≡ marked_elements kept.old.marks) }
 {
     let start = Instant::now(rt)?;
     kept.add(graph, nodes)?;
-    Ok(start.elapsed(rt)?.as_micros())
+    let micros = start.elapsed(rt)?.as_micros();
+    Ok(counted(graph.len(), kept.marks(), elements, micros))
 }
 
 // Times the marks for nodes of a graph, by sets, and counts them over so many elements.
@@ -124,8 +126,7 @@ fn time_sets(
     requires { All (λ p. p.0 < length graph.now.facts) nodes.now }
 {
     let mut kept = KeptMarks::new(rt.alloc(), elements)?;
-    let micros = time_adding(rt, &mut kept, graph, nodes)?;
-    Ok(counted(graph.len(), kept.marks(), elements, micros))
+    time_adding(rt, &mut kept, elements, graph, nodes)
 }
 
 // The marks by diagrams, in a store that has room for them, or room for one node.
