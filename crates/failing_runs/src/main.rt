@@ -1,8 +1,7 @@
 //! Whole runs over objects in memory that are cut, that fail or that meet a limit.
 //!
 //! The runs are the trials of `nc_trials`, of which the session's top call is the tool. Beside them
-//! stands what no run shows of a settled network, and what those trials have of the adapters and of
-//! sets.
+//! stands what those trials have of the adapters and of sets.
 //! The program prints a line for each kind of runs and, last, how many came to what they must; it
 //! ends with 1 where one did not.
 //!
@@ -10,13 +9,10 @@
 //! fail, ends as the words, the files and the session have it, or for want of memory; and
 //! [`session::ending_of`] tells a status by the ending of its number. The crate
 //! stands on `nc_session` for the run, on `nc_trials` for the trials, on `nc_outside` for the objects
-//! in memory, on `nc_words` for what is said of words, on `nc_engine` for what is said of files and on
-//! `nc_types` for names; and on `nc_lines`, `nc_reader`, `nc_network`, `nc_stable`, `nc_tables`,
-//! `nc_trace` and `nc_fact` for states and what is asked of them.
+//! in memory, on `nc_words` for what is said of words and on `nc_engine` for what is said of files.
 #![tactic(auto)]
 
 mod session;
-mod states;
 pub mod steady;
 
 use nc_session::Status;
@@ -54,7 +50,6 @@ fn add_rows(rt: &HostRuntime, rows: &mut Vec<Row>) -> IoResult<()> {
     add_trials(&Session, alloc, rows)?;
     add_adapters(rt, rows)?;
     add_sets(alloc, rows)?;
-    states::add_states(alloc, rows)?;
     Ok(())
 }
 

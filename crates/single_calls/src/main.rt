@@ -4,14 +4,16 @@
 //! gave no other one would meet its contract. The program prints a line for each call and, last, how many answered as
 //! expected; it ends with 1 where one did not. It promises nothing but safety, and stands on the crates whose calls it
 //! makes: on `nc_read_policy` and `nc_policy` for entries and maps, on `nc_report` with `nc_marks` for texts, on
-//! `nc_command` for lines and on `nc_diagram` for functions; and on `nc_lines`, `nc_reader`, `nc_network`, `nc_tables`
-//! and `nc_types` for what they are asked of. None of these stands on a network that has settled, so it is proved early.
+//! `nc_command` for lines, on `nc_diagram` for functions and on `nc_stable`, `nc_trace` and `nc_fact` for states; and on
+//! `nc_lines`, `nc_reader`, `nc_network`, `nc_tables` and `nc_types` for what they are asked of. None of these stands on
+//! the rules or the session, so it is proved beside them.
 #![tactic(auto)]
 
 mod diagrams;
 mod network;
 mod policies;
 mod sessions;
+mod states;
 mod texts;
 
 use std::io::Result;
@@ -52,11 +54,22 @@ fn add_others(rt: &HostRuntime, calls: &mut Vec<Call>) -> Result<()> {
     Ok(())
 }
 
+// Makes the calls on a network that settles, and adds what came of each.
+fn add_states(rt: &HostRuntime, calls: &mut Vec<Call>) -> Result<()> {
+    let alloc = rt.alloc();
+    calls.push(("a state that settles", states::settles(alloc)?))?;
+    calls.push(("no round is enough", states::is_unstable(alloc)?))?;
+    calls.push(("the ways out of a router", states::has_two_ways(alloc)?))?;
+    calls.push(("the rank of a fact", states::ranks(alloc)?))?;
+    Ok(())
+}
+
 fn main(rt: HostRuntime) -> Result<ExitCode> {
     let mut calls = Vec::new(rt.alloc());
     add_policies(&rt, &mut calls)?;
     add_texts(&rt, &mut calls)?;
     add_others(&rt, &mut calls)?;
+    add_states(&rt, &mut calls)?;
     let mut failed: usize = 0;
     for (name, is_right) in &calls {
         let verdict = if *is_right { "ok" } else { "FAILED" };
