@@ -34,8 +34,10 @@ EACH, A_LINE, A_LINE_OVER_A_CRATE, A_PROGRAM = 0.5, 0.0018, 0.0001, 3
 GIGABYTES_A_PROOF = 4
 # How many minutes such a call takes at most until its proof begins.
 A_CALL = 0.6
-# Which part of the time of one processor a proof by two takes.
-BY_TWO = 0.67
+# Which part of the time of one processor a proof by two may take: 0.58 to 0.86 were measured.
+BY_TWO = 0.8
+# A chain this near to the longest is taken for as long: what proofs take isn't known better.
+AS_LONG = 0.97
 # What a call without a chain would give way by, to the one of the longest: from 0 to 19.
 GIVES_WAY = 15
 # How many calls more than processors run at most, where those with shorter chains give way to one with a longer.
@@ -89,19 +91,22 @@ def shares(ready, running, lanes, chains, rest, more=0):
 
     Those with the longest chains come first. One begins where those that run and have a longer chain leave a processor; for
     those with a shorter one give way, it may be one of `more` than there are. It gets one processor, and two where fewer
-    crates wait than there are idle ones, or where its chain is so long that all the rest, which takes so many minutes by all
-    processors, would wait for it even by two: these take somewhat more together than one does.
+    crates wait than there are idle ones, or where its chain is the longest and so long that all the rest, which takes so
+    many minutes by all processors, would wait for it even by two: these take somewhat more together than one does.
 
     >>> shares(["a", "b", "c"], {}, 4, {"a": 9, "b": 8, "c": 4}, 9)
     {'a': 2, 'b': 1, 'c': 1}
     >>> shares(["a", "b", "c"], {}, 3, {"a": 9, "b": 8, "c": 4}, 9)
     {'a': 1, 'b': 1, 'c': 1}
+    >>> shares(["a", "b", "c"], {}, 3, {"a": 9, "b": 8, "c": 4}, 5)
+    {'a': 2, 'b': 1}
     >>> shares(["b", "c"], {"a": 2, "d": 1}, 3, {"a": 9, "b": 8, "c": 4, "d": 5}, 9, 1)
     {'b': 1}
     >>> shares(["a"], {}, 1, {"a": 9}, 5)
     {'a': 2}
     """
     begun = {}
+    longest = max((chains[it] for it in [*ready, *running]), default=0)
     for name in sorted(ready, key=lambda it: -chains[it]):
         by = {**running, **begun}
         ahead = sum(jobs for it, jobs in by.items() if chains[it] >= chains[name])
@@ -109,7 +114,8 @@ def shares(ready, running, lanes, chains, rest, more=0):
         if ahead >= lanes or idle + more < 1:
             break
         waiting = len(ready) - len(begun)
-        begun[name] = 2 if idle > waiting or BY_TWO * chains[name] > rest else 1
+        is_longest = chains[name] >= AS_LONG * longest
+        begun[name] = 2 if idle > waiting or (is_longest and BY_TWO * chains[name] > rest) else 1
     return begun
 
 

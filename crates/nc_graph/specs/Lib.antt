@@ -3,5 +3,6 @@ pub mod Derivation
 pub mod Flow
 pub mod Lists
 pub mod Nodes
+pub mod Numbered
 pub mod Tasks
 pub mod Walk
