@@ -5,7 +5,6 @@ pub mod ListLemmas
 pub mod Members
 pub mod NodeLaws
 pub mod NodeLemmas
-pub mod Numbering
 pub mod StackLemmas
 pub mod WalkLemmas
 pub mod Weights

@@ -3,6 +3,5 @@ pub mod Derivation
 pub mod Flow
 pub mod Lists
 pub mod Nodes
-pub mod Numbered
 pub mod Tasks
 pub mod Walk

@@ -9,8 +9,8 @@ use crate::fault::GraphFault;
 use crate::inference::Inference;
 use crate::lists::Lists;
 use crate::node::{NodeId, NodeKind};
-use crate::numbered::Numbered;
 use crate::walk::walk;
+use indexmap::IndexSet;
 use std::alloc::{AllocError, Global};
 use std::hash::Hash;
 use std::marker::Model;
@@ -19,7 +19,7 @@ use std::marker::Model;
 /// nodes of its parents.
 #[derive(Drop)]
 pub struct Graph<F: Copy + Eq + Hash> {
-    facts: Numbered<F>,
+    facts: IndexSet<F>,
     kinds: Vec<NodeKind>,
     parents: Lists<NodeId>,
     limit: u32,
@@ -32,14 +32,14 @@ impl<F: Copy + Eq + Hash> Model for Graph<F> {
     ghost Value = { Nodes F };
 
     ghost view = { λ g. record {
-      facts = g.facts;
+      facts = g.facts.keys;
       kinds = g.kinds.items;
       parents = g.parents;
       limit = g.limit;
     } };
 
     ghost invariant = { λ g. IsGraph (record {
-      facts = g.facts;
+      facts = g.facts.keys;
       kinds = g.kinds.items;
       parents = g.parents;
       limit = g.limit;
@@ -53,7 +53,7 @@ impl<F: Copy + Eq + Hash> Graph<F> {
         ensures mirrors { (g : Flow F) → Mirrors g result }
     {
         Graph {
-            facts: Numbered::new(alloc),
+            facts: IndexSet::new(alloc),
             kinds: Vec::new(alloc),
             parents: Lists::new(alloc),
             limit,
@@ -82,7 +82,7 @@ impl<F: Copy + Eq + Hash> Graph<F> {
         requires { node.0 < length self.now.facts }
         ensures { slice_get self.now.facts node.0 ≡ Some result.now }
     {
-        self.facts.get(node.0 as usize)
+        &self.facts.as_slice()[node.0 as usize]
     }
 
     /// The kind of a node's fact.
@@ -168,8 +168,8 @@ impl<F: Copy + Eq + Hash> Graph<F> {
         ensures { MatchOption result (list_any (F.eq fact.now) self.now.facts ≡ false)
             (λ node. slice_get self.now.facts node.0 ≡ Some fact.now) }
     {
-        match self.facts.find(fact) {
-            Some(number) => Some(NodeId(number)),
+        match self.facts.get_index_of(fact) {
+            Some(number) => Some(NodeId(number as u32)),
             None => None,
         }
     }
@@ -189,15 +189,13 @@ impl<F: Copy + Eq + Hash> Graph<F> {
         ensures ok { OnOk result (self.new ≡ with_node self.old fact kind parents.now) }
         ensures err { OnErr result (self.new ≡ self.old) }
     {
-        let number = self.facts.len();
+        let number = self.facts.len() as u32;
         self.kinds.reserve(1)?;
+        self.facts.reserve(1)?;
         self.parents.push(parents)?;
-        if let Err(error) = self.facts.push(fact) {
-            self.parents.truncate(number);
-            return Err(error);
-        }
+        self.facts.insert_full(fact).unwrap();
         self.kinds.push(kind).unwrap();
-        Ok(NodeId(number as u32))
+        Ok(NodeId(number))
     }
 
     // Keeps the nodes with numbers below `len`.

@@ -5,10 +5,10 @@ use Rattle.nc_graph.proofs.graph.Graph.cut.Goals as goal
 
 pub invariant_of-self : goal.invariant_of-self
 invariant_of-self g c =
-    subst IsGraph (sym (same_nodes c.self.inside.limit c.truncate.ensures c.truncate-2.ensures.items c.truncate-3.ensures))
+    subst IsGraph (sym (same_nodes c.self.inside.limit c.truncate.ensures.keys c.truncate-2.ensures.items c.truncate-3.ensures))
     (IsGraph-first_nodes _ c.self.invariant c.args.len)
 
 pub returns : goal.returns
 returns g c =
-    same_nodes c.self.inside.limit c.truncate.ensures c.truncate-2.ensures.items c.truncate-3.ensures
+    same_nodes c.self.inside.limit c.truncate.ensures.keys c.truncate-2.ensures.items c.truncate-3.ensures
     ∙ ap (first_nodes c.args.len) c.self.view_is
