@@ -13,7 +13,8 @@ It prints a line for each crate that is proved, and all that is said of one that
 proved, and with 3 where this toolchain keeps nothing that passed, so that a crate below is proved again: then rt ci has
 all to do. With --until it ends when that crate is proved, and leaves what is being proved then to run on, with what can
 be begun behind it: rt ci waits for that. Where the first crate of the longest chain is kept it ends at once, for then
-most mostly is, and one rt ci over all takes that sooner.
+most mostly is, and one rt ci over all takes that sooner. With two processors or one it begins nothing: nearly always as
+many crates can be proved then, in whatever order, and each call reads those below once more.
 """
 import argparse
 import contextlib
@@ -32,6 +33,8 @@ PROVED, REFUSED, UNKEPT, KEPT = 0, 1, 3, -1
 # of code, for each line and crate below, and for a program, which is compiled with all below it.
 EACH, A_LINE, A_LINE_OVER_A_CRATE, A_PROGRAM = 0.5, 0.0018, 0.0001, 3
 GIGABYTES_A_PROOF = 4
+# With fewer processors one rt ci over all takes it sooner.
+LEAST_PROCESSORS = 3
 # How many minutes such a call takes at most until its proof begins.
 A_CALL = 0.6
 # Which part of the time of one processor a proof by two may take: 0.58 to 0.86 were measured.
@@ -339,6 +342,8 @@ def main():
     absent = [it for it in [*given.names, *([given.until] if given.until else [])] if it not in named]
     if absent:
         words.error(f"there is no crate {absent[0]}")
+    if processors() < LEAST_PROCESSORS:
+        return PROVED
     wanted = set(given.names).union(*(all_below(it, named) for it in given.names)) if given.names else set(named)
     proofs = Proofs({it: named[it] for it in named if it in wanted}, given.until)
     try:
