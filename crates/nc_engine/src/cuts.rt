@@ -90,16 +90,21 @@ fn free_elements(alloc: Global, network: &Network, names: &[Text]) -> Result<Vec
 }
 
 // The first of the elements that are strong for some of these nodes and may be cut.
-fn first_strong(marks: &KeptMarks, nodes: &[NodeId], free: &[bool]) -> Option<u32>
+fn first_strong(
+    marks: &KeptMarks,
+    nodes: &[NodeId],
+    free: &[bool],
+) -> Result<Option<u32>, AllocError>
     requires { All (λ p. p.0 < kept_nodes marks.now) nodes.now }
-    ensures { plain.IsFirstFree free.now
-        (flat_map (λ p. strong_at marks.now p.0) nodes.now) result }
+    ensures { IfOk result (λ first. plain.IsFirstFree free.now
+        (flat_map (λ p. strong_at marks.now p.0) nodes.now) first) }
 {
     let mut first = None;
     'nodes: for node in nodes {
-        first = first_free(free, first, marks.strong_of(*node));
+        let strong = marks.strong_of(*node)?;
+        first = first_free(free, first, &strong);
     }
-    first
+    Ok(first)
 }
 
 // Appends the answer for the test of a number that it has no cut.
@@ -159,20 +164,21 @@ impl Work {
 
     // The element that alone is the least cut of the test at a place, if one is: without it the test
     // isn't carried, so that it is strong for a fact of the test.
-    fn single_cut(&self, place: usize, free: &[bool]) -> Option<u32>
+    fn single_cut(&self, place: usize, free: &[bool]) -> Result<Option<u32>, AllocError>
         requires work { IsWork self.now }
         requires place { place < length self.now.tests.items }
         requires elements { (element : ℕ) → plain.is_free free.now element ≡ true
             → element < element_count (state_of self.now.rules).routers }
-        ensures { IfSome result (λ element. plain.IsLeastCut
+        ensures { IfOk result (λ first. IfSome first (λ element. plain.IsLeastCut
             (carrying_each (flow_of (state_of self.now.rules))
-            (test_in (tests_of self.now) place).facts) free.now (element ∷ [])) }
+            (test_in (tests_of self.now) place).facts) free.now (element ∷ []))) }
     {
         rules_make_a_flow();
         carrying_is_evaluation::<Fact>();
         law_of_one_variable();
         let _facts = self.graph.len();
-        first_strong(&self.marks, &self.tests[place].nodes, free)
+        let first = first_strong(&self.marks, &self.tests[place].nodes, free)?;
+        Ok(first)
     }
 
     // The least cut of the test at a place, of elements of routers that none of these names is of: by
@@ -202,7 +208,8 @@ impl Work {
         let _facts = self.graph.len();
         let network = self.rules.state().network();
         let free = free_elements(alloc, network, names)?;
-        if let Some(element) = self.single_cut(place, &free) {
+        let first = self.single_cut(place, &free)?;
+        if let Some(element) = first {
             let single = vec![in alloc; element]?;
             return Ok(Some(single));
         }

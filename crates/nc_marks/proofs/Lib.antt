@@ -5,6 +5,7 @@ pub mod KeptLemmas
 pub mod LawLemmas
 pub mod MarkLemmas
 pub mod OwnerLemmas
+pub mod PartLemmas
 pub mod NeededLemmas
 pub mod ReachLemmas
 pub mod SetLemmas

@@ -1,5 +1,5 @@
 -- Sets of elements as lists, kept in a table, where each has a place.
-use Rattle.std.specs.Prelude.{◌≡◌, ℕ, ◌+◌, ◌<◌, ◌≤◌, Bool, true, false, All, List, [], length, nat_eq, slice_index_or}
+use Rattle.std.specs.Prelude.{◌≡◌, ℕ, ◌+◌, ◌<◌, ◌≤◌, Bool, true, false, All, List, [], ◌∷◌, ◌++◌, length, nat_eq, slice_index_or}
 use Rattle.std.specs.List.{list_any, list_all}
 use Rattle.nc_graph.specs.declared.node.NodeId.{NodeId}
 
@@ -25,6 +25,21 @@ pub record Lists (flags : List Bool) (passes : ℕ → Bool) (old new : List ℕ
 pub record Table : Type 0 where
   pub sets : List (List ℕ)
   pub width : ℕ
+
+-- elements, followed by those of the set of a number, counted from 1; 0 is none
+abbrev pub followed : List (List ℕ) → ℕ → List ℕ → List ℕ
+followed sets tail own = own ++ slice_index_or ([] ∷ sets) tail []
+
+-- sets behind others, each by its own elements and the number of an earlier one that follows
+abbrev pub sets_from : List (List ℕ) → List ℕ → List (List ℕ) → List (List ℕ)
+sets_from before [] owns = []
+sets_from before (tail ∷ tails) [] = []
+sets_from before (tail ∷ tails) (own ∷ owns) = followed before tail own ∷ sets_from (before ++ followed before tail own ∷ []) tails owns
+
+-- each set has own elements, and what follows it is earlier
+pub record AreParts (tails : List ℕ) (owns : List (List ℕ)) : Type 0 where
+  pub len : length owns ≡ length tails
+  pub earlier : (i : ℕ) → i < length tails → slice_index_or tails i 0 ≤ i
 
 -- the set at a place has an element
 abbrev pub has_at : Table → ℕ → ℕ → Bool

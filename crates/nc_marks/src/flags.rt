@@ -30,7 +30,7 @@ pub(crate) fn flag_strong(sets: &Sets, places: &[u32], nodes: &[NodeId], flags: 
         → flag flags.new e ≡ (in_some sets.now places.now nodes.now e || flag flags.old e) }
 {
     'nodes: for node in nodes {
-        flag_set(flags, sets.get(places[node.0 as usize]), true);
+        sets.flag(places[node.0 as usize], flags, true);
     }
 }
 
@@ -91,8 +91,10 @@ pub(crate) fn list_sets(
     ensures { OnOk result (Lists flags.now
         (in_some sets.now places.now nodes.now) list.old.items list.new.items) }
 {
+    let mut set = sets.new_list();
     'nodes: for node in nodes {
-        list_set(flags, sets.get(places[node.0 as usize]), list)?;
+        sets.list(places[node.0 as usize], &mut set)?;
+        list_set(flags, &set, list)?;
     }
     Ok(())
 }
@@ -110,7 +112,7 @@ pub(crate) fn all_flagged(flags: &[bool], set: &[u32]) -> bool
 }
 
 // Keeps the elements of a list that have a raised flag.
-fn keep_flagged(flags: &[bool], elements: &mut Vec<u32>)
+pub(crate) fn keep_flagged(flags: &[bool], elements: &mut Vec<u32>)
     ensures { elements.new.items ≡ filter (flag flags.now) elements.old.items }
 {
     elements.retain(|element| is_flagged(flags, *element));

@@ -1,8 +1,9 @@
 //! A set of elements that is being worked out.
-ghost use Rattle.std.specs.Prelude.{◌≡◌, ◌||◌, ◌&&◌, ◌<◌, ℕ, [], true, nat_eq, IfOk, OnOk};
-ghost use Rattle.nc_marks.specs.Sets.{has};
+ghost use Rattle.std.specs.Prelude.{◌≡◌, ◌||◌, ◌&&◌, ◌<◌, ℕ, [], length, true, nat_eq, IfOk, OnOk};
+ghost use Rattle.nc_marks.specs.Sets.{has, has_at};
 
-use crate::flags::{all_flagged, flag_set, keep_common};
+use crate::flags::{all_flagged, flag_set, keep_common, keep_flagged};
+use crate::sets::Sets;
 use std::alloc::{AllocError, Global};
 use std::marker::Model;
 
@@ -75,6 +76,33 @@ impl Gathered {
             self.add(*element)?;
         }
         Ok(())
+    }
+
+    // Adds the elements of the set at a place.
+    pub(crate) fn add_at(&mut self, sets: &Sets, place: u32) -> Result<(), AllocError>
+        requires { place < length sets.now.sets }
+        ensures width { self.new.width ≡ self.old.width }
+        ensures union { OnOk result ((e : ℕ) → e < self.old.width
+            → has self.new.elements e ≡ (has self.old.elements e || has_at sets.now place e)) }
+    {
+        let mut tail = place as usize + 1;
+        'parts: while tail > 0 {
+            let (own, next) = sets.parts(tail - 1);
+            self.add_all(own)?;
+            tail = next;
+        }
+        Ok(())
+    }
+
+    // Leaves out the elements of the set at a place.
+    pub(crate) fn leave_out(&mut self, sets: &Sets, place: u32)
+        requires { place < length sets.now.sets }
+        ensures width { self.new.width ≡ self.old.width }
+        ensures others { (e : ℕ) → e < self.old.width → (has self.new.elements e || has_at sets.now place e)
+            ≡ (has self.old.elements e || has_at sets.now place e) }
+    {
+        sets.flag(place, &mut self.flags, false);
+        keep_flagged(&self.flags, &mut self.elements);
     }
 
     // Keeps the elements that a set has too.

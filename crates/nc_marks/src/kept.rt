@@ -265,11 +265,16 @@ impl KeptMarks {
     }
 
     /// The strong elements of a node that is kept.
-    pub fn strong_of(&self, node: NodeId) -> &[u32]
+    ///
+    /// # Errors
+    ///
+    /// That memory is refused.
+    pub fn strong_of(&self, node: NodeId) -> Result<Vec<u32>, AllocError>
         requires { node.0 < kept_nodes self.now }
-        ensures { result.now ≡ strong_at self.now node.0 }
+        ensures { IfOk result (λ set. set.items ≡ strong_at self.now node.0) }
     {
-        self.nodes.sets.get(self.nodes.places[node.0 as usize])
+        let set = self.nodes.sets.copy(self.nodes.places[node.0 as usize])?;
+        Ok(set)
     }
 
     /// Adds tested nodes of a graph, whose first nodes are those that are kept, to the live ones,

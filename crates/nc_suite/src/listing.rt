@@ -119,7 +119,8 @@ impl Listing {
             (marked_if (list_any (λ p. has (strong_at marks.now p.0) e) nodes.now) Strong)) }
     {
         'nodes: for node in nodes {
-            self.add_set(marks.strong_of(*node))?;
+            let set = marks.strong_of(*node)?;
+            self.add_set(&set)?;
         }
         Ok(())
     }

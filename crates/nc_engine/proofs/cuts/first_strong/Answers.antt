@@ -1,4 +1,4 @@
-use Rattle.std.proofs.Common.{arith, subst, List}
+use Rattle.std.proofs.Common.{arith, ◌∙◌, subst, List}
 use Rattle.std.specs.List.{flat_map}
 use Rattle.std.proofs.lemmas.List.{take_all}
 use Rattle.nc_cut.specs.Cuts as plain
@@ -9,8 +9,8 @@ use Rattle.nc_engine.proofs.cuts.first_strong.Goals as goal
 
 pub nodes-preserved : goal.nodes-preserved
 nodes-preserved c =
-    sets_more c.args.free.now (λ (p : NodeId). strong_at c.args.marks.now p.0) c.args.nodes.now c.nodes.node-index _ c.strong_of.result.now c.first_free-first.result c.nodes-test.true
-    c.strong_of.ensures (c.first_free-first.ensures _ c.nodes.invariant)
+    sets_more c.args.free.now (λ (p : NodeId). strong_at c.args.marks.now p.0) c.args.nodes.now c.nodes.node-index _ c.deref.result.now c.first_free-first.result c.nodes-test.true
+    (c.deref.ensures.value ∙ c.in_ok-strong.ensures) (c.first_free-first.ensures _ c.nodes.invariant)
 
 pub returns : goal.returns
 returns c =

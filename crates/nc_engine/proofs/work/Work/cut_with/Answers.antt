@@ -1,4 +1,4 @@
-use Rattle.std.proofs.Common.{◌≡◌, ◌∙◌, ℕ, Bool, false, List, ap, sym, subst}
+use Rattle.std.proofs.Common.{◌≡◌, ◌∙◌, ℕ, Bool, false, List, [], ◌∷◌, Option, IfSome, ap, sym, subst}
 use Rattle.std.specs.Prelude.{slice_index_or}
 use Rattle.nc_types.specs.Config.{ConfigView}
 use Rattle.nc_tables.specs.State.{StateView}
@@ -38,7 +38,8 @@ returns-in-Some c =
     let frees : (v : ℕ) → plain.is_free free v ≡ may_be_cut s.routers names v =
     λ v. ap (λ (fs : List Bool). slice_index_or fs v false) c.deref.ensures.value ∙ c.in_ok-free.ensures v ∙ ap (λ (cs : List ConfigView). may_be_cut cs names v) net in
     least-from g (c.carrying_is_evaluation.ensures.is g flow) s.routers names facts hold free frees c.in_ok-single.single.items
-    (subst (λ (cut : List ℕ). plain.IsLeastCut (carrying_each g facts) free cut) (sym c.in_ok-single.ensures.items) c.in-Some.ensures)
+    (subst (λ (cut : List ℕ). plain.IsLeastCut (carrying_each g facts) free cut) (sym c.in_ok-single.ensures.items)
+    (subst (λ (first : Option ℕ). IfSome first (λ v. plain.IsLeastCut (carrying_each g facts) free (v ∷ []))) c.in-Some.is c.in_ok-first.ensures))
 
 pub returns : goal.returns
 returns c =

@@ -30,4 +30,4 @@ returns c =
     let hold = facts-hold g w.graph marked.mirrors w.tests.items c.args.place c.requires.work.nodes in
     first-alone g flow w.graph c.len-facts.ensures.graph marked.mirrors w.marks (numbers marked.nodes) (element_count s.routers) marked.kept
     (c.carrying_is_evaluation.ensures.is g flow) c.law_of_one_variable.ensures ids (test_in (tests_of w) c.args.place).facts are hold c.args.free.now c.requires.elements
-    c.first_strong.result c.first_strong.ensures
+    c.in_ok-first.first c.in_ok-first.ensures
