@@ -48,6 +48,7 @@ NEAREST = {
     "Rounds": ["CaseChoice", "CaseMessages", "CaseCommunities", "CaseRounds", "CaseRelations"],
     "Settling": ["CaseRounds"],
     "State": ["CaseRounds", "CaseRelations"],
+    "Distances": ["CaseForwarding"],
     "Main": ["CaseForwarding"],
     "Forwarding": ["CaseForwarding"],
     "Levels": ["CaseForwarding"],

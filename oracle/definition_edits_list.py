@@ -381,9 +381,13 @@ STATE = of(
     ("state_at", "      bgp = bgp;", "      bgp = no_routes routers;", "the table of BGP is empty"),
 )
 
+DISTANCES = of(
+    "Distances",
+    ("main_table", "if best.internal then INTERNAL_DISTANCE else EXTERNAL_DISTANCE", "if best.internal then EXTERNAL_DISTANCE else INTERNAL_DISTANCE", "internal routes are nearer"),
+)
+
 MAIN = of(
     "Main",
-    ("main_table", "if best.internal then INTERNAL_DISTANCE else EXTERNAL_DISTANCE", "if best.internal then EXTERNAL_DISTANCE else INTERNAL_DISTANCE", "internal routes are nearer"),
     ("main_table", "if is_learnt best.from then map", "if nat_le 0 0 then map", "what a router begins has rows"),
     ("main_table", "range_with_len 0 (length others + 1)", "range_with_len 0 1", "the best alone has a row"),
     ("main_table", "if nat_le row.distance other.distance then", "if nat_le (row.distance + 1) other.distance then", "of equal distances BGP's is nearer"),
@@ -491,4 +495,4 @@ FILTERS = of(
     ("flow_step_at", "lets router way && arrives_by (goes_on", "arrives_by (goes_on", "a step isn't filtered"),
 )
 
-EDITS = NETWORK + JOINING + COMMUNITIES + SETTING + WORDS + BASE + ORDER + LONGEST + REACH + SESSIONS + POLICY + CHOICE + ROUNDS + SETTLING + STATE + MAIN + FORWARDING + LEVELS + RELATIONS + FILTERS
+EDITS = NETWORK + JOINING + COMMUNITIES + SETTING + WORDS + BASE + ORDER + LONGEST + REACH + SESSIONS + POLICY + CHOICE + ROUNDS + SETTLING + STATE + DISTANCES + MAIN + FORWARDING + LEVELS + RELATIONS + FILTERS

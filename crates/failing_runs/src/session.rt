@@ -5,7 +5,7 @@ ghost use Rattle.nc_session.specs.Refusals.{number_of as status_number};
 ghost use Rattle.nc_trials.specs.Ending.{number_of as ending_number};
 
 use nc_outside::{MemFiles, MemSink, MemSource};
-use nc_session::{Status, run};
+use nc_session::{Afterwards, Status, run};
 use nc_trials::{Ending, Tool};
 use std::alloc::Global;
 
@@ -38,6 +38,6 @@ impl Tool for Session {
         input: &mut MemSource,
         output: &mut MemSink,
     ) -> Ending {
-        ending_of(run(alloc, words, files, input, output))
+        ending_of(run(alloc, words, Afterwards::GoesOn, files, input, output))
     }
 }

@@ -9,7 +9,7 @@ ghost use Rattle.nc_session.specs.Causes.{status_of};
 ghost use Rattle.nc_session.specs.declared.status.Status.TheVariants as Status;
 
 use nc_outside::{CountSink, MemFile, MemFiles, MemSource};
-use nc_session::{Status, run};
+use nc_session::{Afterwards, Status, run};
 use std::alloc::Global;
 
 /// Runs over files and a session in memory, of which nothing fails, and keeps none of the replies. They aren't used
@@ -32,5 +32,12 @@ pub fn run_in_memory(
     let mut files = MemFiles::new(files, Vec::new(alloc));
     let mut input = MemSource::new(session, Vec::new(alloc), Vec::new(alloc));
     let mut output = CountSink::new();
-    run(alloc, words, &mut files, &mut input, &mut output)
+    run(
+        alloc,
+        words,
+        Afterwards::GoesOn,
+        &mut files,
+        &mut input,
+        &mut output,
+    )
 }

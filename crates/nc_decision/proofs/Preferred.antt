@@ -20,10 +20,11 @@ use Rattle.nc_tables.specs.Base.{same_prefix}
 use Rattle.nc_tables.specs.declared.bgp.BgpFrom.TheVariants.{Aggregate}
 use Rattle.nc_tables.specs.Rounds.{BgpRowView, Link, begun, best_at, candidates_at, chosen_by, entry_at, has_longer, link_at, made_from}
 use Rattle.nc_tables.specs.Sessions.{first_of}
+use Rattle.nc_message.specs.Inputs.{IsOf}
 use Rattle.nc_select.proofs.Ranking.{preference_total}
 use Rattle.nc_select.proofs.Unchosen.{chosen_single}
 use Rattle.nc_decision.specs.Beginning.{aggregates_of, has_base_row, networks_of}
-use Rattle.nc_decision.specs.BestPath.{best_among, best_from, best_with, better_of, is_beaten, IsOutranked}
+use Rattle.nc_decision.specs.BestPath.{best_among, best_from, best_with, better_of, is_beaten, stays_beside, IsOutranked}
 use Rattle.nc_decision.proofs.Making.{active_alike, made_alike, one_on}
 use Rattle.nc_decision.proofs.Outranked.{outranked_cannot_win}
 
@@ -64,6 +65,20 @@ stays_with x (Some b) e = sym (ap (λ (t : Bool). Some (cond t b x)) e)
 pub gives_way : (x : Chosen) (best : Option Chosen) → option_map_or (λ b. is_gt (preference_cmp x b)) best false ≡ false → Some x ≡ Some (better_of x best)
 gives_way x None e = refl
 gives_way x (Some b) e = sym (ap (λ (t : Bool). Some (cond t b x)) e)
+
+-- where there may be one
+pub stays_best : (found best : Option Chosen) → stays_beside found best ≡ true → best ≡ best_with found best
+stays_best None best e = refl
+stays_best (Some x) best e = stays_with x best e
+
+pub takes_best : (found best : Option Chosen) → stays_beside found best ≡ false → found ≡ best_with found best
+takes_best None best e = absurd cc
+takes_best (Some x) best e = gives_way x best e
+
+-- what is found of a candidate has its prefix
+pub own_found : (found : Option Chosen) (sent : Chosen) (prefix : Cidr) → IfSome found (λ x. x.route.prefix ≡ sent.route.prefix) → sent.route.prefix ≡ prefix → IfSome found (IsOf prefix)
+own_found None sent prefix own is = tt
+own_found (Some x) sent prefix own is = own ∙ is
 
 not_less : (o p : Ordering) → p ≡ ordering_reverse o → is_lt o ≡ true → is_gt p ≡ true
 not_less Less p e f = ap is_gt e

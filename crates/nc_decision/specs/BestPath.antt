@@ -54,6 +54,11 @@ abbrev pub better_of : Chosen → Option Chosen → Chosen
 better_of x None = x
 better_of x (Some best) = if is_gt (preference_cmp x best) then best else x
 
+-- the best so far stays: there is nothing beside it, or it is preferred
+abbrev pub stays_beside : Option Chosen → Option Chosen → Bool
+stays_beside None best = true
+stays_beside (Some x) best = option_map_or (λ b. is_gt (preference_cmp x b)) best false
+
 -- the best, where there may be one more candidate before the others
 abbrev pub best_with : Option Chosen → Option Chosen → Option Chosen
 best_with None best = best

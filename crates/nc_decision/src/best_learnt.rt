@@ -7,7 +7,7 @@ ghost use Rattle.nc_tables.specs.Choice.{preference_cmp};
 ghost use Rattle.nc_tables.specs.LocRibs.{IsNumbered};
 ghost use Rattle.nc_tables.specs.Rounds.{entry_at, made_from};
 ghost use Rattle.nc_sessions.specs.Views.{link_view};
-ghost use Rattle.nc_decision.specs.BestPath.{best_among, best_from, best_with, better_of, IsOutranked};
+ghost use Rattle.nc_decision.specs.BestPath.{best_among, best_from, best_with, better_of, stays_beside, IsOutranked};
 ghost use Rattle.nc_decision.specs.SessionMaps.{AreMapsOf};
 ghost use Rattle.nc_message.specs.Inputs.{AreRoutingInputs, IsOf};
 ghost use Rattle.nc_decision.specs.Peerings.{ArePeerings, IsPeering};
@@ -44,6 +44,16 @@ fn is_preferred_to(best: &Option<FeasibleRoute<'_>>, route: &FeasibleRoute<'_>) 
     }
 }
 
+// Whether the best so far stays beside what may have been found: nothing was, or the best is preferred.
+fn stays(best: &Option<FeasibleRoute<'_>>, found: &Option<FeasibleRoute<'_>>) -> bool
+    ensures { result ≡ stays_beside found.now best.now }
+{
+    match found {
+        None => true,
+        Some(route) => is_preferred_to(best, route),
+    }
+}
+
 // Takes what a router learns over a session, unless the best so far is preferred.
 fn prefer<'a>(
     best: &mut Option<FeasibleRoute<'a>>,
@@ -69,13 +79,11 @@ fn prefer<'a>(
     if is_outranked_by(&*best, peering, sent) {
         return;
     }
-    let Some(route) = feasible_over(inputs, router, peering, sent, of.number) else {
-        return;
-    };
-    if is_preferred_to(&*best, &route) {
+    let found = feasible_over(inputs, router, peering, sent, of.number);
+    if stays(&*best, &found) {
         return;
     }
-    *best = Some(route);
+    *best = found;
 }
 
 // Takes what a router learns by the neighbor statement at a place, unless the best so far is
@@ -135,28 +143,24 @@ pub(crate) fn best_learnt<'a>(
     best
 }
 
-// A candidate, or the best of those behind it.
-fn better<'a>(
-    route: FeasibleRoute<'a>,
-    best: Option<FeasibleRoute<'a>>,
-) -> Option<FeasibleRoute<'a>>
-    ensures { result ≡ Some (better_of route.entry best.entry) }
+// Takes a candidate, unless the best of those behind it is preferred.
+fn prefer_one<'a>(best: &mut Option<FeasibleRoute<'a>>, route: FeasibleRoute<'a>)
+    ensures { best.new ≡ Some (better_of route.entry best.old) }
 {
-    if is_preferred_to(&best, &route) {
-        return best;
+    if is_preferred_to(&*best, &route) {
+        return;
     }
-    Some(route)
+    *best = Some(route);
 }
 
-/// The best of some candidates and of the best of those behind them.
-pub(crate) fn best_of_all<'a>(
+/// Takes each of some candidates, the last first, unless the best of those behind it is preferred.
+pub(crate) fn prefer_each<'a>(
+    best: &mut Option<FeasibleRoute<'a>>,
     mut routes: Vec<FeasibleRoute<'a>>,
-    mut best: Option<FeasibleRoute<'a>>,
-) -> Option<FeasibleRoute<'a>>
-    ensures { result ≡ best_from routes.entry.items best.entry }
+)
+    ensures { best.new ≡ best_from routes.entry.items best.old }
 {
     'routes: while let Some(route) = routes.pop() {
-        best = better(route, best);
+        prefer_one(best, route);
     }
-    best
 }

@@ -11,7 +11,7 @@ ghost use Rattle.nc_tables.specs.Sessions.{process_of};
 ghost use Rattle.nc_message.specs.Inputs.{AreRoutingInputs};
 ghost use Rattle.nc_decision.specs.Peerings.{ArePeerings};
 
-use crate::best_learnt::{best_learnt, best_of_all};
+use crate::best_learnt::{best_learnt, prefer_each};
 use crate::candidates::{begun_routes, candidates};
 use crate::feasible::FeasibleRoute;
 use crate::peerings::Peerings;
@@ -64,14 +64,14 @@ fn made_at(
 fn alone(
     alloc: Global,
     recent: &mut RecentAttributes,
-    best: Option<FeasibleRoute<'_>>,
+    best: &Option<FeasibleRoute<'_>>,
 ) -> Result<RibEntries, AllocError>
-    ensures { IfOk result (λ chosen. chosen ≡ option_to_list best.entry) }
+    ensures { IfOk result (λ chosen. chosen ≡ option_to_list best.now) }
 {
     let Some(best) = best else {
         return Ok(RibEntries::none());
     };
-    let entry = make(alloc, recent, &best)?;
+    let entry = make(alloc, recent, best)?;
     Ok(RibEntries::one(entry))
 }
 
@@ -106,8 +106,9 @@ fn best_alone<'a>(
 {
     let begun = begun_routes(alloc, inputs, ribs, router, process, of.prefix)?;
     let neighbors = &process.neighbors;
-    let learnt = best_learnt(inputs, peerings, ribs, router, neighbors, of);
-    let chosen = alone(alloc, recent, best_of_all(begun, learnt))?;
+    let mut best = best_learnt(inputs, peerings, ribs, router, neighbors, of);
+    prefer_each(&mut best, begun);
+    let chosen = alone(alloc, recent, &best)?;
     Ok(chosen)
 }
 

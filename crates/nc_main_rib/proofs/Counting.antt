@@ -19,7 +19,8 @@ use Rattle.nc_tables.specs.declared.bgp.Chosen.{Chosen}
 use Rattle.nc_tables.specs.declared.bgp.MainRow.{MainRow}
 use Rattle.nc_tables.specs.Base.{prefix_cmp, same_prefix}
 use Rattle.nc_tables.specs.Choice.{is_learnt}
-use Rattle.nc_tables.specs.Main.{base_side, bgp_side, distance_of, learnt_rows, main_rows_at, main_table, main_tables, nearer}
+use Rattle.nc_tables.specs.Distances.{distance_of}
+use Rattle.nc_tables.specs.Main.{base_side, bgp_side, learnt_rows, main_rows_at, main_table, main_tables, nearer}
 use Rattle.nc_tables.specs.Order.{in_order}
 use Rattle.nc_tables.specs.Rounds.{AreBgpRows, BgpRowView, chosen_at, distinct, made_from}
 use Rattle.nc_tables.specs.Sessions.{process_of}

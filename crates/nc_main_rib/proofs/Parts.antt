@@ -16,7 +16,8 @@ use Rattle.nc_tables.specs.declared.bgp.MainFrom.TheVariants.{Discard}
 use Rattle.nc_tables.specs.Base.{same_prefix}
 use Rattle.nc_tables.specs.Choice.{is_learnt}
 use Rattle.nc_tables.specs.Longest.{places_from}
-use Rattle.nc_tables.specs.Main.{base_side, bgp_side, distance_of, learnt_rows, main_rows_at, nearer}
+use Rattle.nc_tables.specs.Distances.{distance_of}
+use Rattle.nc_tables.specs.Main.{base_side, bgp_side, learnt_rows, main_rows_at, nearer}
 use Rattle.nc_tables.specs.Rounds.{BgpRowView, chosen_at, chosen_in, is_active, made_from}
 use Rattle.nc_tables.specs.Sessions.{first_of, process_of}
 use Rattle.nc_main_rib.specs.Sides.{active_from, base_in, base_row, base_rows, bgp_rows, first_distance, learnt_row, stands}

@@ -71,6 +71,7 @@ pub(crate) fn prefixes_of(
         ++ (map (λ row. row.prefix) bgp.now ++ map (λ a. a.prefix) aggregates.now)))) }
 {
     let mut prefixes = Vec::new(alloc);
+    prefixes.reserve(base.len().saturating_add(bgp.len()))?;
     add_of_base(&mut prefixes, base)?;
     add_of_bgp(&mut prefixes, bgp)?;
     add_of_aggregates(&mut prefixes, aggregates)?;

@@ -1,56 +1,40 @@
 //! The main rows of one prefix.
 
-ghost use Rattle.std.specs.Prelude.{◌≡◌, ◌+◌, ◌++◌, ◌^◌, ◌<◌, ◌≤◌, ℕ, length, map, None, OnOk, Some, if◌then◌else◌};
+ghost use Rattle.std.specs.Prelude.{◌≡◌, ◌+◌, ◌++◌, ◌^◌, ◌<◌, ◌≤◌, ℕ, [], length, map, OnOk};
 ghost use Rattle.std.specs.List.{range_with_len};
-ghost use Rattle.std.specs.Option.{option_map};
+ghost use Rattle.std.specs.Option.{option_map, option_map_or};
 ghost use Rattle.nc_types.specs.Cidr.{Cidr};
 ghost use Rattle.nc_types.specs.declared.TheConstants.{MULTIPATH_LIMIT};
-ghost use Rattle.nc_tables.specs.declared.TheConstants.{EXTERNAL_DISTANCE, INTERNAL_DISTANCE};
-ghost use Rattle.nc_tables.specs.Choice.{is_learnt};
-ghost use Rattle.nc_tables.specs.Main.{distance_of, nearer};
-ghost use Rattle.nc_tables.specs.Sessions.{first_of};
+ghost use Rattle.nc_tables.specs.Main.{nearer};
 ghost use Rattle.nc_main_rib.specs.Sides.{base_rows, bgp_rows, learnt_row, first_distance, stands};
 
-use nc_tables::{
-    BaseRow, BgpFrom, EXTERNAL_DISTANCE, INTERNAL_DISTANCE, LOCAL_DISTANCE, MainFrom, MainRow,
-    RibEntry,
-};
+use nc_tables::{BaseRow, LOCAL_DISTANCE, MainFrom, MainRow, RibEntries};
 use nc_types::Prefix;
 use std::alloc::AllocError;
 
 // ---- distances
 
-// The distance of what is learnt within the own system, or from another.
-fn distance_of(internal: bool) -> u8
-    ensures { result ≡ (if internal then INTERNAL_DISTANCE else EXTERNAL_DISTANCE) }
-{
-    if internal {
-        INTERNAL_DISTANCE
-    } else {
-        EXTERNAL_DISTANCE
-    }
-}
-
-// The distance of what was learnt; `None` where the router began it itself.
-fn learnt_distance(best: &RibEntry) -> Option<u8>
-    ensures { result ≡ (if is_learnt best.now.from then Some (distance_of best.now) else None) }
-{
-    match best.from() {
-        BgpFrom::Entry(_) => Some(distance_of(best.is_internal())),
-        BgpFrom::Origin(_) | BgpFrom::Aggregate(_) => None,
-    }
-}
-
 // The distance of what BGP has of a prefix: of the discard, if there is one, else of the best
 // candidate.
-fn bgp_distance(discard: Option<u32>, chosen: &[RibEntry]) -> Option<u8>
-    ensures { (prefix : Cidr) → result ≡ first_distance (bgp_rows prefix discard chosen.now) }
+fn bgp_distance(discard: Option<u32>, chosen: Option<&RibEntries>) -> Option<u8>
+    ensures { (prefix : Cidr)
+        → result ≡ first_distance (bgp_rows prefix discard (option_map_or (λ c. c.now) chosen.entry [])) }
 {
     if discard.is_some() {
         return Some(LOCAL_DISTANCE);
     }
-    let best = chosen.first()?;
-    learnt_distance(best)
+    let chosen = chosen?;
+    chosen.learnt_distance()
+}
+
+// How many candidates are chosen.
+fn count_of(chosen: Option<&RibEntries>) -> usize
+    ensures { result ≡ length (option_map_or (λ c. c.now) chosen.entry []) }
+{
+    match chosen {
+        Some(chosen) => chosen.as_slice().len(),
+        None => 0,
+    }
 }
 
 // The distance of the base rows of a prefix.
@@ -124,11 +108,11 @@ fn add_bgp(
     main: &mut Vec<MainRow>,
     prefix: Prefix,
     discard: Option<u32>,
-    chosen: &[RibEntry],
+    chosen: Option<&RibEntries>,
 ) -> Result<(), AllocError>
-    requires { length chosen.now ≤ MULTIPATH_LIMIT }
+    requires { length (option_map_or (λ c. c.now) chosen []) ≤ MULTIPATH_LIMIT }
     ensures { OnOk result (main.new.items
-        ≡ main.old.items ++ bgp_rows prefix discard chosen.now) }
+        ≡ main.old.items ++ bgp_rows prefix discard (option_map_or (λ c. c.now) chosen.entry [])) }
 {
     if let Some(place) = discard {
         main.push(MainRow {
@@ -140,7 +124,7 @@ fn add_bgp(
     }
     match bgp_distance(None, chosen) {
         Some(distance) => {
-            add_learnt(main, prefix, distance, chosen.len())?;
+            add_learnt(main, prefix, distance, count_of(chosen))?;
             Ok(())
         }
         None => Ok(()),
@@ -155,12 +139,12 @@ pub(crate) fn add_rows(
     base: &[BaseRow],
     first: usize,
     discard: Option<u32>,
-    chosen: &[RibEntry],
+    chosen: Option<&RibEntries>,
 ) -> Result<(), AllocError>
     requires base { first + length base.now < 2 ^ 32 }
-    requires chosen { length chosen.now ≤ MULTIPATH_LIMIT }
+    requires chosen { length (option_map_or (λ c. c.now) chosen []) ≤ MULTIPATH_LIMIT }
     ensures { OnOk result (main.new.items ≡ main.old.items
-        ++ nearer (base_rows prefix first base.now) (bgp_rows prefix discard chosen.now)) }
+        ++ nearer (base_rows prefix first base.now) (bgp_rows prefix discard (option_map_or (λ c. c.now) chosen.entry []))) }
 {
     if stands(base_distance(base), bgp_distance(discard, chosen)) {
         add_base(main, prefix, base, first)?;

@@ -14,7 +14,7 @@ use crate::discards::active_places;
 use crate::prefixes::prefixes_of;
 use crate::rows::add_rows;
 use nc_tables::{
-    BaseRow, BaseTables, BgpRow, BgpTable, MainRow, MainTables, RibEntry, Rows, rows_on,
+    BaseRow, BaseTables, BgpRow, BgpTable, MainRow, MainTables, RibEntries, Rows, rows_on,
 };
 use nc_types::{AggregateStatement, Network, Prefix, RouterId};
 use std::alloc::{AllocError, Global};
@@ -38,16 +38,16 @@ struct Passed {
 }
 
 // What is chosen of the prefix whose row stands here, of which there is one at most.
-fn chosen_at(rows: &[BgpRow], found: Rows) -> &[RibEntry]
+fn chosen_at(rows: &[BgpRow], found: Rows) -> Option<&RibEntries>
     requires { found.to ≤ length rows.now }
     ensures { (prefix : Cidr) → places_from (λ row. same_prefix row.prefix prefix) 0 rows.now
         ≡ range_with_len found.from (found.to - found.from)
-        → result.now ≡ chosen_in (map bgp_row_view rows.now) prefix }
+        → option_map_or (λ c. c.now) result [] ≡ chosen_in (map bgp_row_view rows.now) prefix }
 {
     if found.from >= found.to {
-        return &[];
+        return None;
     }
-    rows[found.from].chosen.as_slice()
+    Some(&rows[found.from].chosen)
 }
 
 // Adds the main rows of a prefix of a router, given its base rows and its BGP rows, how many of each were passed

@@ -100,10 +100,6 @@ flag-more true true value flag = refl
 flag-more true false value flag = refl
 flag-more false rest value flag = refl
 
-pub or_assoc : (a b c : Bool) → ((a || b) || c) ≡ (a || (b || c))
-or_assoc true b c = refl
-or_assoc false b c = refl
-
 pub or_again : (a b : Bool) → ((a || b) || b) ≡ (a || b)
 or_again true b = refl
 or_again false true = refl

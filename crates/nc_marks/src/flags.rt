@@ -99,18 +99,6 @@ pub(crate) fn list_sets(
     Ok(())
 }
 
-// Whether each element of a set has a raised flag.
-pub(crate) fn all_flagged(flags: &[bool], set: &[u32]) -> bool
-    ensures { result ≡ true → (e : ℕ) → has set.now e ≡ true → flag flags.now e ≡ true }
-{
-    'elements: for element in set {
-        if !is_flagged(flags, *element) {
-            return false;
-        }
-    }
-    true
-}
-
 // Keeps the elements of a list that have a raised flag.
 pub(crate) fn keep_flagged(flags: &[bool], elements: &mut Vec<u32>)
     ensures { elements.new.items ≡ filter (flag flags.now) elements.old.items }

@@ -2,7 +2,7 @@
 ghost use Rattle.std.specs.Prelude.{◌≡◌, ◌||◌, ◌&&◌, ◌<◌, ℕ, [], length, true, nat_eq, IfOk, OnOk};
 ghost use Rattle.nc_marks.specs.Sets.{has, has_at};
 
-use crate::flags::{all_flagged, flag_set, keep_common, keep_flagged};
+use crate::flags::{flag_set, keep_common, keep_flagged};
 use crate::sets::Sets;
 use std::alloc::{AllocError, Global};
 use std::marker::Model;
@@ -112,13 +112,5 @@ impl Gathered {
             → has self.new.elements e ≡ (has self.old.elements e && has set.now e) }
     {
         keep_common(&mut self.flags, &mut self.elements, set);
-    }
-
-    // Whether all elements of a set were gathered.
-    pub(crate) fn has_all(&self, set: &[u32]) -> bool
-        ensures { result ≡ true → (e : ℕ) → e < self.now.width
-            → has set.now e ≡ true → has self.now.elements e ≡ true }
-    {
-        all_flagged(&self.flags, set)
     }
 }

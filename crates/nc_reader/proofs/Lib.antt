@@ -30,6 +30,7 @@ pub mod SeenLemmas
 pub mod GatherLemmas
 pub mod RouteLemmas
 pub mod OrderLemmas
+pub mod AscentLemmas
 pub mod MarkLemmas
 pub mod ThingLemmas
 pub mod PlacedLemmas

@@ -21,7 +21,8 @@ use Rattle.nc_tables.specs.Base.{same_prefix, prefix_cmp}
 use Rattle.nc_tables.specs.Choice.{is_learnt}
 use Rattle.nc_tables.specs.Forwarding.{Alternative, going, mains_of, bgp_hop, ways_of, alternatives}
 use Rattle.nc_tables.specs.Longest.{AreByPrefix, is_longest, longest}
-use Rattle.nc_tables.specs.Main.{discards, distance_of, learnt_rows, nearer, bgp_side, base_side, prefixes_at, main_rows_at, main_table}
+use Rattle.nc_tables.specs.Distances.{distance_of}
+use Rattle.nc_tables.specs.Main.{discards, learnt_rows, nearer, bgp_side, base_side, prefixes_at, main_rows_at, main_table}
 use Rattle.nc_tables.specs.Order.{in_order}
 use Rattle.nc_tables.specs.Reach.{rows_of, is_hit, hits, leads_to}
 use Rattle.nc_tables.specs.Rounds.{BgpRowView, chosen_at, distinct}

@@ -18,7 +18,8 @@ use Rattle.nc_tables.specs.Reach.{rows_of}
 use Rattle.nc_tables.specs.Sessions.{first_of, process_of}
 use Rattle.nc_tables.specs.Choice.{is_learnt}
 use Rattle.nc_tables.specs.Rounds.{BgpRowView, chosen_at, is_active, made_from}
-use Rattle.nc_tables.specs.Main.{discards, distance_of, learnt_rows, bgp_side, base_side, nearer, prefixes_at, main_rows_at, main_table}
+use Rattle.nc_tables.specs.Distances.{distance_of}
+use Rattle.nc_tables.specs.Main.{discards, learnt_rows, bgp_side, base_side, nearer, prefixes_at, main_rows_at, main_table}
 use Rattle.nc_types.proofs.Members.{In, in_by_flat_map, in_by_map}
 use Rattle.nc_tables.proofs.Ordered.{in_by_made}
 use Rattle.nc_rules_route.proofs.Members.{in_range}

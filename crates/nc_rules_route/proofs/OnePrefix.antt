@@ -17,7 +17,8 @@ use Rattle.nc_tables.specs.declared.bgp.MainFrom.TheVariants.{Base, Bgp, Discard
 use Rattle.nc_tables.specs.Base.{covers, same_prefix}
 use Rattle.nc_tables.specs.Choice.{is_learnt}
 use Rattle.nc_tables.specs.Longest.{is_longest}
-use Rattle.nc_tables.specs.Main.{discards, distance_of, learnt_rows, bgp_side, base_side, main_rows_at}
+use Rattle.nc_tables.specs.Distances.{distance_of}
+use Rattle.nc_tables.specs.Main.{discards, learnt_rows, bgp_side, base_side, main_rows_at}
 use Rattle.nc_tables.specs.Reach.{rows_of}
 use Rattle.nc_tables.specs.Rounds.{BgpRowView, chosen_at, is_active, made_from}
 use Rattle.nc_tables.specs.Sessions.{first_of, process_of}

@@ -15,6 +15,7 @@ ghost use Rattle.nc_session.specs.Generated.{heading_text, line_count, name_of_f
 ghost use Rattle.nc_session.specs.Ending.{EndsAs, ServesBehind};
 ghost use Rattle.nc_session.specs.declared.status.Status.TheVariants as Status;
 
+use crate::afterwards::Afterwards;
 use crate::pieces::serve;
 use crate::runs::refuse;
 use crate::status::Status;
@@ -99,6 +100,7 @@ fn serve_behind<K: Sink>(
     pods: u32,
     loaded: Loaded,
     session: Vec<u8>,
+    afterwards: Afterwards,
     output: &mut K,
 ) -> Status
     requires few { length loaded.files.items ≤ most_routers }
@@ -132,6 +134,7 @@ fn serve_behind<K: Sink>(
         loaded.settled,
         loaded.files,
         false,
+        afterwards,
         &mut input,
         output,
     )
@@ -145,6 +148,7 @@ fn run_network<K: Sink>(
     names: &[String],
     files: &mut MemFiles,
     session: Vec<u8>,
+    afterwards: Afterwards,
     output: &mut K,
 ) -> Status
     requires names { texts names.now ≡ tree_names pods }
@@ -169,14 +173,20 @@ fn run_network<K: Sink>(
     ensures calm { (result ≢ Status.FileFault) × (result ≢ Status.InputFault) }
 {
     match load(alloc, names, rounds, files) {
-        Ok(loaded) => serve_behind(alloc, pods, loaded, session, output),
+        Ok(loaded) => serve_behind(alloc, pods, loaded, session, afterwards, output),
         Err(fault) => refuse(alloc, names, fault, output),
     }
 }
 
 /// Runs over the generated fat tree of so many pods: its files are loaded and its session is answered, behind a line of
 /// its numbers.
-pub(crate) fn run_fat_tree<K: Sink>(alloc: Global, pods: u32, rounds: u32, output: &mut K) -> Status
+pub(crate) fn run_fat_tree<K: Sink>(
+    alloc: Global,
+    pods: u32,
+    rounds: u32,
+    afterwards: Afterwards,
+    output: &mut K,
+) -> Status
     requires { is_size pods ≡ true }
     ensures ends { (told : Option (List Named)) (rest : Option (List ℕ)) (faults source : Faults)
         → EndsAs (Some (record { rounds = rounds; input = Generated pods }))
@@ -212,6 +222,7 @@ pub(crate) fn run_fat_tree<K: Sink>(alloc: Global, pods: u32, rounds: u32, outpu
         &names,
         &mut files,
         generated.session,
+        afterwards,
         output,
     )
 }

@@ -11,6 +11,7 @@
 //! files and session.
 #![tactic(auto)]
 
+mod afterwards;
 mod generated;
 pub mod laws;
 mod pieces;
@@ -19,6 +20,7 @@ mod serving;
 mod status;
 mod writing;
 
+pub use afterwards::Afterwards;
 pub use nc_engine::{Engine, Flow};
 pub use runs::run;
 pub use status::Status;

@@ -15,6 +15,7 @@ ghost use Rattle.nc_engine.specs.Session.{GoesOn};
 ghost use Rattle.nc_session.specs.SoFar.{IsTaken, RefusesRest};
 
 use crate::SESSION_LIMIT;
+use crate::afterwards::{Afterwards, let_go};
 use crate::serving::{answer_last, take_piece};
 use crate::status::Status;
 use crate::writing::write_all;
@@ -156,12 +157,13 @@ fn serve_pieces<S: Source, K: Sink>(
 
 /// Answers a session while it is read: each whole line before the next read, up to one that ends the session, to the
 /// end of the source, or to the limit of [`SESSION_LIMIT`] bytes, past which one byte is taken and the rest refused.
-/// Reports list the lines of the routers, or have their counts alone.
+/// Reports list the lines of the routers, or have their counts alone. What becomes of the network's memory is told too.
 pub(crate) fn serve<S: Source, K: Sink>(
     alloc: Global,
     settled: SettledNetwork,
     files: Vec<LoadedFile>,
     listed: bool,
+    afterwards: Afterwards,
     input: &mut S,
     output: &mut K,
 ) -> Status
@@ -184,6 +186,6 @@ pub(crate) fn serve<S: Source, K: Sink>(
         return Status::Memory;
     };
     let status = serve_pieces(alloc, &mut engine, input, output);
-    drop(engine);
+    let_go(engine, afterwards);
     status
 }

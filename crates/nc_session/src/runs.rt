@@ -17,6 +17,7 @@ ghost use Rattle.nc_load.specs.Entering.{EntersInTurn, IsInTurn, EntersEach, Tak
 ghost use Rattle.nc_session.specs.Ending.{Says, Silent, EndsRefused, EndsAs, IsNamingFew};
 ghost use Rattle.nc_session.specs.declared.status.Status.TheVariants as Status;
 
+use crate::afterwards::Afterwards;
 use crate::generated::run_fat_tree;
 use crate::pieces::serve;
 use crate::status::Status;
@@ -131,6 +132,7 @@ fn run_files<F: Files, S: Source, K: Sink>(
     alloc: Global,
     names: &[String],
     rounds: u32,
+    afterwards: Afterwards,
     files: &mut F,
     input: &mut S,
     output: &mut K,
@@ -171,7 +173,15 @@ fn run_files<F: Files, S: Source, K: Sink>(
         → (S.rest input.new ≡ S.rest input.old) × (S.end input.new ≡ S.end input.old) }
 {
     match load(alloc, names, rounds, files) {
-        Ok(loaded) => serve(alloc, loaded.settled, loaded.files, true, input, output),
+        Ok(loaded) => serve(
+            alloc,
+            loaded.settled,
+            loaded.files,
+            true,
+            afterwards,
+            input,
+            output,
+        ),
         Err(fault) => refuse(alloc, names, fault, output),
     }
 }
@@ -180,6 +190,7 @@ fn run_files<F: Files, S: Source, K: Sink>(
 fn run_words<F: Files, S: Source, K: Sink>(
     alloc: Global,
     words: &[String],
+    afterwards: Afterwards,
     files: &mut F,
     input: &mut S,
     output: &mut K,
@@ -226,13 +237,13 @@ fn run_words<F: Files, S: Source, K: Sink>(
                 rounds,
                 input: Input::Files(names),
             },
-        ) => run_files(alloc, &names, rounds, files, input, output),
+        ) => run_files(alloc, &names, rounds, afterwards, files, input, output),
         Ok(
             Request {
                 rounds,
                 input: Input::FatTree(pods),
             },
-        ) => run_fat_tree(alloc, pods, rounds, output),
+        ) => run_fat_tree(alloc, pods, rounds, afterwards, output),
         Err(WordsFault::Usage) => say(output, b"refused usage\n", Status::Usage),
         Err(WordsFault::Memory) => Status::Memory,
     }
@@ -254,10 +265,13 @@ fn run_words<F: Files, S: Source, K: Sink>(
 /// stands written is a beginning of that. Want of memory alone is free: [`Status::Memory`] may come in place of
 /// any other status.
 ///
+/// What the process does afterwards is told in front, for the sake of its memory alone.
+///
 /// [`SESSION_LIMIT`]: crate::SESSION_LIMIT
 pub fn run<F: Files, S: Source, K: Sink>(
     alloc: Global,
     words: &[String],
+    afterwards: Afterwards,
     files: &mut F,
     input: &mut S,
     output: &mut K,
@@ -335,5 +349,5 @@ pub fn run<F: Files, S: Source, K: Sink>(
         → IfSome (needed (texts words.now) (F.files files.old))
         (λ fs. IsUnsettled (load (texts words.now) fs)) }
 {
-    run_words(alloc, words, files, input, output)
+    run_words(alloc, words, afterwards, files, input, output)
 }

@@ -14,8 +14,8 @@ use Rattle.nc_tables.proofs.Remainders.{none_alike}
 -- a piece has the bits of its numbers and of all behind them
 pub bits_on : (a : Piece) → IsPiece a → AreBitsOf (piece_numbers a) (out-Piece a).bits
 unfolding out-Piece denote.Hole.Carrier.out
-bits_on (Piece' numbers bits None') is = is.2
-bits_on (Piece' numbers bits (Some' p piece)) is = is.2
+bits_on (Piece' numbers None' bits) is = is.2
+bits_on (Piece' numbers (Some' p piece) bits) is = is.2
 
 -- a number whose bit isn't set is neither in a piece nor behind it
 pub absent : (a : Piece) (number : ℕ) → IsPiece a → has_bit (out-Piece a).bits number ≡ false → list_any (λ n. n == number) (piece_numbers a) ≡ false
@@ -31,8 +31,8 @@ made numbers bits (Some piece) full pieces has = (full, pieces piece refl, has)
 -- a number that is in a piece or behind it is in its own numbers or behind it
 one_of : (a : Piece) (number : ℕ) → list_any (λ n. n == number) (piece_numbers a) ≡ (list_any (λ n. n == number) (out-Piece a).numbers || list_any (λ n. n == number) (shared_numbers (out-Piece a).rest))
 unfolding out-Piece denote.Hole.Carrier.out
-one_of (Piece' numbers bits None') number = list_any-append (λ n. n == number) numbers []
-one_of (Piece' numbers bits (Some' p piece)) number = list_any-append (λ n. n == number) numbers (piece_numbers piece)
+one_of (Piece' numbers None' bits) number = list_any-append (λ n. n == number) numbers []
+one_of (Piece' numbers (Some' p piece) bits) number = list_any-append (λ n. n == number) numbers (piece_numbers piece)
 
 pub in_piece : (a : Piece) (number : ℕ) → list_any (λ n. n == number) (out-Piece a).numbers ≡ true → list_any (λ n. n == number) (piece_numbers a) ≡ true
 in_piece a number own = one_of a number ∙ ap (λ b. b || list_any (λ n. n == number) (shared_numbers (out-Piece a).rest)) own

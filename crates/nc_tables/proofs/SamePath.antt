@@ -15,7 +15,7 @@ use Rattle.nc_tables.specs.Pieces.{own_numbers, piece_numbers, numbers_behind, s
 abbrev mutual
   -- how many pieces there are from one on
   pieces_from : Piece → ℕ
-  pieces_from (Piece' numbers bits rest) = suc (pieces_behind rest)
+  pieces_from (Piece' numbers rest bits) = suc (pieces_behind rest)
 
   pieces_behind : Held-Piece-rest → ℕ
   pieces_behind None' = 0
@@ -24,7 +24,7 @@ abbrev mutual
 -- as many numbers are from a piece on as full pieces have
 mutual
   full_length : (piece : Piece) → IsPiece piece → length (piece_numbers piece) ≡ PIECE_LEN * pieces_from piece
-  full_length (Piece' numbers bits rest) is =
+  full_length (Piece' numbers rest bits) is =
       let behind = behind_length rest is.1 in
       let all = length-append numbers (numbers_behind rest) in
       let n : length numbers ≡ PIECE_LEN = is.0 in
@@ -41,7 +41,7 @@ some_number piece is none =
     by_piece piece all empty
   where
     by_piece : (p : Piece) → length (piece_numbers piece) ≡ PIECE_LEN * pieces_from p → length (piece_numbers piece) ≡ 0 → ⊥
-    by_piece (Piece' numbers bits rest) all empty = omega arith
+    by_piece (Piece' numbers rest bits) all empty = omega arith
 
 -- the fronts of two equal lists, where they are as long
 pub same_front : (x y a b : List ℕ) → length x ≡ length y → x ++ a ≡ y ++ b → x ≡ y
@@ -58,11 +58,11 @@ same_behind x y a b front = (
 -- a piece is its numbers and those behind it
 pub split : (a : Piece) → piece_numbers a ≡ own_numbers a ++ shared_numbers (out-Piece a).rest
 unfolding out-Piece denote.Hole.Carrier.out
-split (Piece' numbers bits None') = refl
-split (Piece' numbers bits (Some' p piece)) = refl
+split (Piece' numbers None' bits) = refl
+split (Piece' numbers (Some' p piece) bits) = refl
 
 full : (a : Piece) → IsPiece a → length (own_numbers a) ≡ PIECE_LEN
-full (Piece' numbers bits rest) is = is.0
+full (Piece' numbers rest bits) is = is.0
 
 -- pieces that are the same have the same numbers
 pub same_first : (a b : Piece) → IsPiece a → IsPiece b → piece_numbers a ≡ piece_numbers b → own_numbers a ≡ own_numbers b
@@ -82,8 +82,8 @@ same_rest a b own =
 -- what is behind a piece are pieces too
 pub pieces_on : (a : Piece) → IsPiece a → ArePieces (out-Piece a).rest
 unfolding out-Piece denote.Hole.Carrier.out
-pieces_on (Piece' numbers bits None') is = λ x e. absurd cc
-pieces_on (Piece' numbers bits (Some' p piece)) is = λ x e.
+pieces_on (Piece' numbers None' bits) is = λ x e. absurd cc
+pieces_on (Piece' numbers (Some' p piece) bits) is = λ x e.
     let same : piece ≡ x.value = cc in
     subst IsPiece same is.1
 

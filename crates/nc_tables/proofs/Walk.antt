@@ -24,12 +24,12 @@ left_of (x ∷ xs) behind some = refl
 
 parts : (a : Piece) → piece_numbers a ≡ (out-Piece a).numbers ++ shared_numbers (out-Piece a).rest
 unfolding out-Piece denote.Hole.Carrier.out
-parts (Piece' numbers bits None') = refl
-parts (Piece' numbers bits (Some' p piece)) = refl
+parts (Piece' numbers None' bits) = refl
+parts (Piece' numbers (Some' p piece) bits) = refl
 
 full : (a : Piece) → IsPiece a → length (out-Piece a).numbers ≡ PIECE_LEN
 unfolding out-Piece denote.Hole.Carrier.out
-full (Piece' numbers bits rest) is = is.0
+full (Piece' numbers rest bits) is = is.0
 
 shared_by : (rest : Option (Bor (Rc Piece Global))) → option_map_or (λ piece. piece_numbers piece.now.value) rest [] ≡ shared_numbers (option_copied rest)
 shared_by None = refl

@@ -7,6 +7,7 @@ pub mod Reach
 pub mod Sessions
 pub mod Policy
 pub mod Choice
+pub mod Distances
 pub mod Rounds
 pub mod LocRibs
 pub mod RibEntryView

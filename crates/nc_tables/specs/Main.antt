@@ -4,7 +4,7 @@ use Rattle.std.specs.List.{flat_map, range_with_len}
 use Rattle.std.specs.Option.{option_map_or}
 use Rattle.nc_types.specs.Cidr.{Cidr}
 use Rattle.nc_types.specs.Config.{ConfigView}
-use Rattle.nc_tables.specs.declared.TheConstants.{EXTERNAL_DISTANCE, INTERNAL_DISTANCE, LOCAL_DISTANCE}
+use Rattle.nc_tables.specs.declared.TheConstants.{LOCAL_DISTANCE}
 use Rattle.nc_tables.specs.declared.base.BaseRow.{BaseRow}
 use Rattle.nc_tables.specs.declared.bgp.Chosen.{Chosen}
 use Rattle.nc_tables.specs.declared.bgp.MainRow.{MainRow}
@@ -14,6 +14,7 @@ use Rattle.nc_tables.specs.Longest.{AreByPrefix}
 use Rattle.nc_tables.specs.Reach.{rows_of}
 use Rattle.nc_tables.specs.Sessions.{first_of, process_of}
 use Rattle.nc_tables.specs.Choice.{is_learnt}
+use Rattle.nc_tables.specs.Distances.{distance_of}
 use Rattle.nc_tables.specs.Rounds.{BgpRowView, chosen_at, is_active, distinct, made_from}
 use Rattle.nc_tables.specs.Order.{in_order}
 
@@ -21,10 +22,6 @@ use Rattle.nc_tables.specs.Order.{in_order}
 pub record AreMainRows (rows : List MainRow) : Type 0 where
   pub by_prefix : AreByPrefix (λ row. row.prefix) rows
   pub few : length rows < 2 ^ 32
-
--- the distance of what is learnt: from another system, or from the own one
-abbrev pub distance_of : Chosen → ℕ
-distance_of best = if best.internal then INTERNAL_DISTANCE else EXTERNAL_DISTANCE
 
 -- the chosen rows of a prefix whose best was learnt
 abbrev pub learnt_rows : Cidr → List Chosen → List MainRow

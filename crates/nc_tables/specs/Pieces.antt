@@ -10,12 +10,12 @@ use Rattle.nc_tables.specs.SystemBits.{AreBitsOf}
 
 -- the numbers of a piece alone
 abbrev pub own_numbers : Piece → List ℕ
-own_numbers (Piece' numbers bits rest) = numbers
+own_numbers (Piece' numbers rest bits) = numbers
 
 abbrev mutual
   -- the numbers of a piece, and those behind it
   pub piece_numbers : Piece → List ℕ
-  piece_numbers (Piece' numbers bits rest) = numbers ++ numbers_behind rest
+  piece_numbers (Piece' numbers rest bits) = numbers ++ numbers_behind rest
 
   pub numbers_behind : Held-Piece-rest → List ℕ
   numbers_behind None' = []
@@ -24,7 +24,7 @@ abbrev mutual
 abbrev mutual
   -- a piece is full, and so are those behind it; it has the bits of its numbers and of all behind them
   pub IsPiece : Piece → Type 0
-  IsPiece (Piece' numbers bits rest) = (length numbers ≡ PIECE_LEN) × ArePiecesBehind rest × AreBitsOf (numbers ++ numbers_behind rest) bits
+  IsPiece (Piece' numbers rest bits) = (length numbers ≡ PIECE_LEN) × ArePiecesBehind rest × AreBitsOf (numbers ++ numbers_behind rest) bits
 
   pub ArePiecesBehind : Held-Piece-rest → Type 0
   ArePiecesBehind None' = Unit {0}

@@ -22,9 +22,10 @@ const PIECE_LEN: usize = 8;
 #[derive(Drop)]
 struct Piece {
     numbers: [u32; PIECE_LEN],
+    // Beside its numbers, for whoever goes along a path looks at both and not at the bits.
+    rest: Option<Rc<Piece>>,
     // Those of its numbers and of all behind them.
     bits: SystemBits,
-    rest: Option<Rc<Piece>>,
 }
 
 impl Piece {
@@ -38,8 +39,8 @@ impl Piece {
         let bits = shared_bits(&rest).with_all(&numbers);
         Piece {
             numbers,
-            bits,
             rest,
+            bits,
         }
     }
 
@@ -108,7 +109,7 @@ impl Path {
 
     /// A number that equal paths have in common, and others mostly don't.
     pub(crate) fn digest(&self) -> u64 {
-        let own = mixed(u64::from(self.count), own(&self.numbers, self.start));
+        let own = mixed(self.count, sum_of(&self.numbers));
         own ^ shared_bits(&self.rest).digest()
     }
 
@@ -117,12 +118,16 @@ impl Path {
         let Some(number) = number else {
             return self.digest();
         };
-        let first = mixed(u64::from(self.count) + 1, &[number]);
         let bits = shared_bits(&self.rest);
-        if self.start > 0 {
-            return mixed(first, own(&self.numbers, self.start)) ^ bits.digest();
+        let start = self.start as usize;
+        if start > 0 {
+            let before = self.numbers[start - 1];
+            let sum = sum_of(&self.numbers).wrapping_sub(before);
+            return mixed(self.count + 1, sum.wrapping_add(number)) ^ bits.digest();
         }
-        first ^ bits.with_all(&self.numbers).digest()
+        // all places are taken: the number stands alone before one more piece
+        let sum = sum_of(&[number; PIECE_LEN]);
+        mixed(self.count + 1, sum) ^ bits.with_all(&self.numbers).digest()
     }
 
     /// Whether a number is in it.
@@ -271,13 +276,19 @@ fn own(numbers: &[u32; PIECE_LEN], start: u16) -> &[u32]
     &numbers[start as usize..]
 }
 
-// A number that goes on with others.
-fn mixed(digest: u64, numbers: &[u32]) -> u64 {
-    let mut digest = digest;
+// The sum of the numbers at all places, also at those that say nothing: paths that are made in the same
+// way have the same there.
+fn sum_of(numbers: &[u32; PIECE_LEN]) -> u32 {
+    let mut sum = 0u32;
     'numbers: for number in numbers {
-        digest = digest.wrapping_mul(31).wrapping_add(u64::from(*number));
+        sum = sum.wrapping_add(*number);
     }
-    digest
+    sum
+}
+
+// A number that equal counts and sums have in common.
+fn mixed(count: u16, sum: u32) -> u64 {
+    (u64::from(count) << 40) ^ u64::from(sum)
 }
 
 // Whether the first of some pieces has these numbers, and what is behind it is what a path shares with others.

@@ -28,15 +28,15 @@ struct Source {
 }
 
 // What candidates of several prefixes may have in common, all but the prefix: mostly those that a
-// router learns in one message (RFC 4271, section 4.3).
+// router learns in one message (RFC 4271, section 4.3). In front stands what is looked at most.
 #[derive(Drop)]
 struct Attributes {
-    path: Path,
-    communities: Communities,
+    source: Source,
     next_hop: Addr,
     preference: u32,
     metric: u32,
-    source: Source,
+    path: Path,
+    communities: Communities,
 }
 
 impl Attributes {
@@ -68,12 +68,12 @@ impl Attributes {
             internal,
         };
         let attributes = Attributes {
-            path,
-            communities,
+            source,
             next_hop,
             preference,
             metric,
-            source,
+            path,
+            communities,
         };
         (prefix, attributes)
     }
@@ -101,12 +101,12 @@ impl Attributes {
         ensures { IfOk result (λ made. entry_of learnt.now.prefix made ≡ learnt_view learnt.now) }
     {
         Ok(Attributes {
-            path: learnt.path.shared_after(alloc, learnt.system)?,
-            communities: copied(alloc, learnt.communities)?,
+            source: source_of(learnt),
             next_hop: learnt.next_hop,
             preference: learnt.preference,
             metric: learnt.metric,
-            source: source_of(learnt),
+            path: learnt.path.shared_after(alloc, learnt.system)?,
+            communities: copied(alloc, learnt.communities)?,
         })
     }
 

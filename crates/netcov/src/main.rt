@@ -13,7 +13,7 @@ ghost use Rattle.nc_words.specs.Words.{texts};
 ghost use Rattle.netcov.specs.Ending.{IsStatusFor, IsNumberFor, number_untaken};
 
 use nc_outside::{FolderFiles, StdinSource, StdoutSink};
-use nc_session::{Status, run};
+use nc_session::{Afterwards, Status, run};
 use std::io::{Error, ErrorKind, Result};
 use std::process::ExitCode;
 use std::{env, rt};
@@ -50,7 +50,14 @@ fn run_here(rt: &HostRuntime, words: &[String]) -> Status
     let mut files = FolderFiles::new(system);
     let mut input = StdinSource::new(rt.stdin());
     let mut output = StdoutSink::new(rt.stdout());
-    run(rt.alloc(), words, &mut files, &mut input, &mut output)
+    run(
+        rt.alloc(),
+        words,
+        Afterwards::Ends,
+        &mut files,
+        &mut input,
+        &mut output,
+    )
 }
 
 // What the program ends with, by the words or by why they can't be taken.

@@ -4,7 +4,7 @@ use Rattle.nc_tables.specs.declared.bgp.Chosen.{Chosen}
 use Rattle.nc_sessions.specs.Views.{link_view}
 use Rattle.nc_decision.specs.BestPath.{best_with}
 use Rattle.nc_message.proofs.PeerFirst.{none_learnt_silent, one_learnt}
-use Rattle.nc_decision.proofs.Preferred.{gives_way, outranked_stays, stays_with}
+use Rattle.nc_decision.proofs.Preferred.{outranked_stays, own_found, stays_best, takes_best}
 use Rattle.nc_decision.proofs.best_learnt.prefer.Goals as goal
 
 pub best_of-requires-clause-router : goal.best_of-requires-clause-router
@@ -25,28 +25,22 @@ returns-then-is_outranked_by-clause-best c =
     outranked_stays i.network.now i.base.now i.sessions.now c.args.ribs.now.rows c.args.router.0 c.args.peering.now.place c.args.of.now.prefix (link_view c.args.peering.now.adjacency.link) (sym c.requires.peering.link)
     c.in-Some.sent.now (sym c.in-Some.ensures.best) c.args.best.now (c.is_outranked_by.ensures c.if-is_outranked_by.true)
 
-pub returns-in_default-feasible_over-clause-best : goal.returns-in_default-feasible_over-clause-best
-returns-in_default-feasible_over-clause-best c =
+-- what is found is what the definitions give
+pub returns-then-stays-clause-best : goal.returns-then-stays-clause-best
+returns-then-stays-clause-best c =
     let i = c.args.inputs.now in
-    ap (λ (o : Option Chosen). best_with o c.args.best.now)
-    (c.in_default-feasible_over.ensures.feasible
-    ∙ one_learnt i.network.now i.base.now i.sessions.now c.args.ribs.now.rows c.args.router.0 c.args.peering.now.place c.args.of.now.prefix (link_view c.args.peering.now.adjacency.link) c.requires.peering.link c.in-Some.sent.now c.in-Some.ensures.best)
-
-pub returns-then-is_preferred_to-clause-best : goal.returns-then-is_preferred_to-clause-best
-returns-then-is_preferred_to-clause-best c =
-    let i = c.args.inputs.now in
-    stays_with c.in-Some-feasible_over.route c.args.best.now (sym c.is_preferred_to.ensures ∙ c.if-is_preferred_to.true)
+    stays_best c.feasible_over-found.result c.args.best.now (sym c.stays.ensures ∙ c.if-stays.true)
     ∙ ap (λ (o : Option Chosen). best_with o c.args.best.now)
-    (c.in-Some-feasible_over.ensures.feasible
+    (c.feasible_over-found.ensures.feasible
     ∙ one_learnt i.network.now i.base.now i.sessions.now c.args.ribs.now.rows c.args.router.0 c.args.peering.now.place c.args.of.now.prefix (link_view c.args.peering.now.adjacency.link) c.requires.peering.link c.in-Some.sent.now c.in-Some.ensures.best)
 
 pub returns-clause-best : goal.returns-clause-best
 returns-clause-best c =
     let i = c.args.inputs.now in
-    gives_way c.in-Some-feasible_over.route c.args.best.now (sym c.is_preferred_to.ensures ∙ c.if-is_preferred_to.false)
+    takes_best c.feasible_over-found.result c.args.best.now (sym c.stays.ensures ∙ c.if-stays.false)
     ∙ ap (λ (o : Option Chosen). best_with o c.args.best.now)
-    (c.in-Some-feasible_over.ensures.feasible
+    (c.feasible_over-found.ensures.feasible
     ∙ one_learnt i.network.now i.base.now i.sessions.now c.args.ribs.now.rows c.args.router.0 c.args.peering.now.place c.args.of.now.prefix (link_view c.args.peering.now.adjacency.link) c.requires.peering.link c.in-Some.sent.now c.in-Some.ensures.best)
 
 pub returns-clause-own : goal.returns-clause-own
-returns-clause-own c before = c.in-Some-feasible_over.ensures.own ∙ c.in-Some.ensures.own
+returns-clause-own c before = own_found c.feasible_over-found.result c.in-Some.sent.now c.args.of.now.prefix c.feasible_over-found.ensures.own c.in-Some.ensures.own

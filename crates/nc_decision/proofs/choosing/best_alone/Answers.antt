@@ -17,8 +17,8 @@ use Rattle.nc_decision.proofs.Preferred.{alone_own, best_chosen, from_own}
 use Rattle.nc_decision.proofs.Standing.{as_many}
 use Rattle.nc_decision.proofs.choosing.best_alone.Goals as goal
 
-pub best_learnt-learnt-requires-clause-all : goal.best_learnt-learnt-requires-clause-all
-best_learnt-learnt-requires-clause-all c =
+pub best_learnt-best-requires-clause-all : goal.best_learnt-best-requires-clause-all
+best_learnt-best-requires-clause-all c =
     let i = c.args.inputs.now in
     as_many i.network.now i.base.now i.sessions.now c.args.router.0 c.args.peerings.now c.requires.peerings (process_view c.args.process.now) c.requires.process
     ∙ ap (length {A = Neighbor}) (sym c.deref.ensures.value)
@@ -33,8 +33,8 @@ returns-clause-chosen c =
     let make : ℕ → Neighbor → Option Chosen = λ place n. entry_at i.network.now i.base.now i.sessions.now c.args.ribs.now.rows c.args.router.0 place c.args.of.now.prefix in
     c.in_ok-chosen.ensures
     ∙ best_chosen i.network.now i.base.now i.sessions.now c.args.ribs.now.rows c.args.router.0 (process_view c.args.process.now) c.args.of.now.prefix c.requires.single
-    c.in_ok-begun.begun.items c.best_learnt-learnt.result c.best_of_all.result c.in_ok-begun.ensures
-    (c.best_learnt-learnt.ensures.best ∙ ap (λ (l : List Neighbor). best_among (made_from make 0 l)) c.deref.ensures.value) c.best_of_all.ensures
+    c.in_ok-begun.begun.items c.best_learnt-best.result c.prefer_each.new.best c.in_ok-begun.ensures
+    (c.best_learnt-best.ensures.best ∙ ap (λ (l : List Neighbor). best_among (made_from make 0 l)) c.deref.ensures.value) c.prefer_each.ensures
 
 pub returns-clause-own : goal.returns-clause-own
 returns-clause-own c =
@@ -44,8 +44,8 @@ returns-clause-own c =
     let first : All (IsOf p) (networks_of holds p c.args.process.now.networks.items) = kept_all (IsOf p) (λ (n : NetworkStatement). same_prefix n.prefix p) holds (λ (k : ℕ). begun p (Origin k)) (λ k. refl) c.args.process.now.networks.items in
     let second : All (IsOf p) (aggregates_of longer p c.args.process.now.aggregates.items) = kept_all (IsOf p) (λ (a : AggregateStatement). same_prefix a.prefix p) longer (λ (k : ℕ). begun p (Aggregate k)) (λ k. refl) c.args.process.now.aggregates.items in
     let both : All (IsOf p) c.in_ok-begun.begun.items = subst (All (IsOf p)) (sym c.in_ok-begun.ensures) (All-append (IsOf p) (networks_of holds p c.args.process.now.networks.items) (aggregates_of longer p c.args.process.now.aggregates.items) first second) in
-    let best : IfSome c.best_of_all.result (IsOf p) = subst (λ (o : Option Chosen). IfSome o (IsOf p)) (sym c.best_of_all.ensures) (from_own (IsOf p) c.in_ok-begun.begun.items c.best_learnt-learnt.result both c.best_learnt-learnt.ensures.own) in
-    subst (All (IsOf p)) (sym c.in_ok-chosen.ensures) (alone_own (IsOf p) c.best_of_all.result best)
+    let best : IfSome c.prefer_each.new.best (IsOf p) = subst (λ (o : Option Chosen). IfSome o (IsOf p)) (sym c.prefer_each.ensures) (from_own (IsOf p) c.in_ok-begun.begun.items c.best_learnt-best.result both c.best_learnt-best.ensures.own) in
+    subst (All (IsOf p)) (sym c.in_ok-chosen.ensures) (alone_own (IsOf p) c.prefer_each.new.best best)
 
 pub returns-clause-few : goal.returns-clause-few
-returns-clause-few c = omega (arith, ap (length {A = Chosen}) c.in_ok-chosen.ensures, one_at_most c.best_of_all.result)
+returns-clause-few c = omega (arith, ap (length {A = Chosen}) c.in_ok-chosen.ensures, one_at_most c.prefer_each.new.best)

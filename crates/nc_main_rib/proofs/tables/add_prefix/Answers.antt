@@ -1,4 +1,5 @@
-use Rattle.std.proofs.Common.{◌-◌, ◌≤◌, ◌++◌, List, length, map, sym, ap, subst, ◌∙◌}
+use Rattle.std.proofs.Common.{◌-◌, ◌≤◌, ◌++◌, List, [], length, map, sym, ap, subst, ◌∙◌}
+use Rattle.std.specs.Option.{option_map_or}
 use Rattle.nc_types.specs.declared.TheConstants.{MULTIPATH_LIMIT}
 use Rattle.nc_tables.specs.declared.bgp.Chosen.{Chosen}
 use Rattle.nc_tables.specs.declared.bgp.MainRow.{MainRow}
@@ -23,5 +24,5 @@ returns-clause-rows c =
     let from = c.rows_on-base_found.result.from in
     let n = c.rows_on-base_found.result.to - from in
     c.in_ok-add_rows.ensures
-    ∙ ap (λ (l : List MainRow). before ++ nearer l (bgp_rows prefix c.args.discard c.chosen_at-chosen.result.now)) (sym (base_is c.args.base.now prefix from n c.rows_on-base_found.ensures.rows))
+    ∙ ap (λ (l : List MainRow). before ++ nearer l (bgp_rows prefix c.args.discard (option_map_or (λ r. r.now) c.chosen_at-chosen.result []))) (sym (base_is c.args.base.now prefix from n c.rows_on-base_found.ensures.rows))
     ∙ ap (λ (l : List Chosen). before ++ nearer (base_in prefix c.args.base.now) (bgp_rows prefix c.args.discard l)) (c.chosen_at-chosen.ensures prefix c.rows_on-bgp_found.ensures.rows)

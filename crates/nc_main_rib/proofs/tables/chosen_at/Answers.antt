@@ -7,5 +7,4 @@ returns-then-found c prefix places = sym (chosen_nowhere prefix c.args.rows.now 
 
 pub returns : goal.returns
 returns c prefix places =
-    c.as_slice.ensures
-    ∙ sym (chosen_there prefix c.args.rows.now c.args.found.from (c.args.found.to - c.args.found.from) places c.index-rows-found.result (omega arith) (omega arith))
+    sym (chosen_there prefix c.args.rows.now c.args.found.from (c.args.found.to - c.args.found.from) places c.index-rows-found.result (omega arith) (omega arith))

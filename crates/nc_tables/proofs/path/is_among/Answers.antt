@@ -1,4 +1,4 @@
-use Rattle.std.proofs.Common.{◌≡◌, ◌==◌, sym, ap, subst, ◌∙◌}
+use Rattle.std.proofs.Common.{◌==◌, sym, ap, subst, ◌∙◌}
 use Rattle.std.specs.List.{list_any}
 use Rattle.nc_tables.specs.declared.path.Piece.{out-Piece}
 use Rattle.nc_tables.specs.Pieces.{piece_numbers, shared_numbers, IsPiece}

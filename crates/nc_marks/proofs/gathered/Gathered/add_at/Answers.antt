@@ -1,6 +1,7 @@
 use Rattle.std.proofs.Common.{◌≡◌, ◌||◌, ◌<◌, ℕ, [], ◌∷◌, get_or, sym, ap, ◌∙◌, subst, arith}
 use Rattle.nc_marks.specs.Sets.{has}
-use Rattle.nc_marks.proofs.PartLemmas.{has-followed, numbered, or_assoc}
+use Rattle.nc_types.proofs.Truth.{or_assoc}
+use Rattle.nc_marks.proofs.PartLemmas.{has-followed, numbered}
 use Rattle.nc_marks.proofs.gathered.Gathered.add_at.Goals as goal
 
 pub parts-preserved : goal.parts-preserved

@@ -3,13 +3,13 @@ use Rattle.std.proofs.lemmas.List.{nil_from_length}
 use Rattle.nc_tables.specs.declared.bgp.Chosen.{Chosen}
 use Rattle.nc_decision.specs.BestPath.{best_from}
 use Rattle.nc_decision.proofs.Preferred.{best_last}
-use Rattle.nc_decision.proofs.best_learnt.best_of_all.Goals as goal
+use Rattle.nc_decision.proofs.best_learnt.prefer_each.Goals as goal
 
 pub routes-preserved : goal.routes-preserved
 routes-preserved c =
     let rest = c.pop.new.self.items in
     let route = c.in-Some.route in
-    ap (best_from rest) c.better-best.ensures ∙ sym (best_last rest route c.routes.best)
+    ap (best_from rest) c.prefer_one.ensures ∙ sym (best_last rest route c.routes.best)
     ∙ ap (λ (l : List Chosen). best_from l c.routes.best) (sym c.in-Some.ensures.items) ∙ c.routes.invariant
 
 pub returns : goal.returns

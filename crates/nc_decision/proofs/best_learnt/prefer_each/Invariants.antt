@@ -1,6 +1,6 @@
 use Rattle.std.proofs.Common.{◌≡◌, length}
 use Rattle.nc_decision.specs.BestPath.{best_from}
-use Rattle.nc_decision.proofs.best_learnt.best_of_all.Given as goal
+use Rattle.nc_decision.proofs.best_learnt.prefer_each.Given as goal
 
 -- what is left and the best so far give the best
 abbrev pub invariant-routes : goal.invariant-routes
