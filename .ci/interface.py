@@ -2,8 +2,9 @@
 these name.
 
 A crate above is proved over the contracts of the crates below it and never over their bodies. So what is left out here
-can change below a crate without any effect on what the prover says of it: bodies, private functions, private fields
-with the views and invariants of their types, definitions that no public contract leads to, and comments. Lemmas that
+can change below a crate without any effect on what the prover says of it: bodies, private functions, public ones that
+the crate above doesn't name, private fields with the views and invariants of their types, definitions that no contract
+left leads to, and comments. Lemmas that
 a crate takes from the proofs below it aren't counted, nor definitions to which these alone lead: where one of them
 changes its statement, the proofs above tell.
 """
@@ -16,7 +17,7 @@ ROOT = os.path.dirname(os.path.dirname(os.path.realpath(__file__)))
 SKIPPED = re.compile(r"//[^\n]*|\"(?:\\.|[^\"\\])*\"|'(?:\\.[^']*|[^'\\\n])'", re.S)
 CLAUSE = re.compile(r"\b(?:requires|ensures)(?:\s+\w+)?\s*$")
 ATTRIBUTES = r"(?:#\s*!?\[[^\]]*\]\s*)*"
-FUNCTION = re.compile(ATTRIBUTES + r"(?:pub(?:\([^)]*\))?\s+)?(?:const\s+)?fn\b")
+FUNCTION = re.compile(ATTRIBUTES + r"(?:pub(?:\([^)]*\))?\s+)?(?:const\s+)?fn\s+(\w+)")
 TYPE = re.compile(ATTRIBUTES + r"pub (?:struct|enum) (\w+)")
 HIDDEN = re.compile(ATTRIBUTES + r"(?:pub\([^)]*\) )?(?:struct|enum) (\w+)")
 DEFINITIONS = re.compile(r"Rattle\.(nc_\w+)\.specs\.(\w+(?:\.\w+)*)")
@@ -125,13 +126,24 @@ def shown_type(item):
     return item if is_open(item) else item[:TYPE.match(item).end()]
 
 
-def shown_impl(item, opened):
-    """Returns what is seen of an impl: of a trait the signatures and what stands for the prover, else what is public.
+def is_asked(item, words, before=""):
+    """Whether an item isn't a function, or is one whose name stands among some words, with this before it.
 
-    >>> shown_impl('impl Model for A { ghost Value = { V }; ghost view = { v }; }', set())
+    >>> is_asked('pub fn a() { b }', {'a'}), is_asked('pub fn a() { b }', {'b'}), is_asked('pub struct A;', set())
+    (True, False, True)
+    """
+    function = FUNCTION.match(item)
+    return not function or before + function.group(1) in words
+
+
+def shown_impl(item, opened, words):
+    """Returns what is seen of an impl: of a trait the signatures and what stands for the prover, else what is public
+    and named.
+
+    >>> shown_impl('impl Model for A { ghost Value = { V }; ghost view = { v }; }', set(), set())
     'impl Model for A ghost Value = { V };'
-    >>> shown_impl('impl A { fn b(); }', set())
-    ''
+    >>> shown_impl('impl A { fn b(); }', set(), {'.b'}), shown_impl('impl A { pub fn b(); }', set(), {'b'})
+    ('', '')
     """
     start, inside = body_of(item)
     head = item[:start]
@@ -140,26 +152,39 @@ def shown_impl(item, opened):
     if model and model.group(1) not in opened:
         rows = [it for it in rows if it.startswith("ghost Value")]
     elif " for " not in head:
-        rows = [it for it in rows if re.match(ATTRIBUTES + r"pub (?!\()", it)]
+        rows = [it for it in rows if re.match(ATTRIBUTES + r"pub (?!\()", it) and is_asked(it, words, ".")]
     seen = " ".join(it[:body_of(it)[0]] if FUNCTION.match(it) else it for it in rows)
     return head + seen if seen else ""
 
 
-def shown_item(item, opened):
-    """Returns what is seen above of an item.
+def shown_item(item, opened, words):
+    """Returns what is seen of an item by a crate above that has these words.
 
-    >>> shown_item('pub fn a() ensures { b } { c }', set())
+    >>> shown_item('pub fn a() ensures { b } { c }', set(), {'a'})
     'pub fn a() ensures { b } '
-    >>> shown_item('fn a() { c }', set())
-    ''
+    >>> shown_item('fn a() { c }', set(), {'a'}), shown_item('pub fn a() ensures { b } { c }', set(), {'b'})
+    ('', '')
     """
     if TYPE.match(item):
         return shown_type(item)
     if re.match(ATTRIBUTES + r"impl\b", item):
-        return shown_impl(item, opened)
+        return shown_impl(item, opened, words)
     if FUNCTION.match(item):
-        return item[:body_of(item)[0]] if re.match(ATTRIBUTES + r"pub (?!\()", item) else ""
+        is_shown = re.match(ATTRIBUTES + r"pub (?!\()", item) and is_asked(item, words)
+        return item[:body_of(item)[0]] if is_shown else ""
     return item if re.match(ATTRIBUTES + r"(?:pub (?!\()|macro_rules)", item) else ""
+
+
+def words_in(files):
+    """Returns the words of some files of code and of proofs, without comments, those behind a dot or a path with a dot
+    before them too."""
+    found = set()
+    for file in files:
+        pattern = r"(?m)^\s*--.*$" if file.endswith(".antt") else SKIPPED
+        text = re.sub(pattern, " ", read(file))
+        found.update(re.findall(r"\w+", text))
+        found.update(f".{word}" for word in re.findall(r"(?:\.|::)\s*(\w+)", text))
+    return found
 
 
 def named_in(seen, imports):
@@ -200,24 +225,29 @@ def without(hidden, items):
     return [it for it in items if not HIDDEN.match(it) and not of_hidden.match(it)]
 
 
-def shown_in(name, items):
-    """Returns what is seen above of the items of a file, and of its imports what that names."""
+def shown_in(name, items, words):
+    """Returns what is seen of the items of a file by a crate that has these words, and of its imports what that names."""
     opened = {TYPE.match(it).group(1) for it in items if TYPE.match(it) and is_open(it)}
-    seen = " ".join(" ".join(shown_item(it, opened) for it in items).split())
+    seen = " ".join(" ".join(shown_item(it, opened, words) for it in items).split())
     inside = [row for it in items if re.match(ATTRIBUTES + r"impl\b", it) for row in items_of(body_of(it)[1])]
     imports = sorted({" ".join(it.split()) for it in items + inside if IMPORT.match(it)})
     return [seen] * bool(seen) + constants_in(name, items, seen) + named_in(seen, imports)
 
 
 @functools.cache
-def shown(name):
-    """Returns what is seen above of the code of a crate."""
+def code_of(name):
+    """Returns the items of each file of a crate."""
     files = sorted(glob.glob(f"{ROOT}/crates/{name}/src/**/*.rt", recursive=True))
-    code = {file: items_of(blanked(read(file))) for file in files}
+    return {file: items_of(blanked(read(file))) for file in files}
+
+
+def shown(name, words):
+    """Returns what is seen of the code of a crate by one above that has these words."""
+    code = code_of(name)
     hidden = {HIDDEN.match(it).group(1) for items in code.values() for it in items if HIDDEN.match(it)}
     parts = []
     for file, items in code.items():
-        rows = shown_in(name, without(hidden, items))
+        rows = shown_in(name, without(hidden, items), words)
         parts += [os.path.relpath(file, ROOT), *rows] if rows else []
     return "\n".join(parts)
 

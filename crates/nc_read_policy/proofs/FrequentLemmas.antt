@@ -11,7 +11,7 @@ use Rattle.nc_read_policy.specs.Entries.{greatest_seq, seq_of, entry_of, numbere
 use Rattle.nc_read_policy.specs.Fronts.{IsFrontBound, IsFrontNumber, IsFrontPrefix, ends_word, action_word, entry_behind}
 use Rattle.nc_read_policy.specs.Lists.{list_name_says}
 use Rattle.nc_read_policy.proofs.HeadLemmas.{words_append}
-use Rattle.nc_read_policy.proofs.FrontLemmas.{first_word, first_number}
+use Rattle.nc_read_policy.proofs.FrontLemmas.{behind_gap, first_word, first_number}
 
 -- ---- words that are known
 
@@ -33,11 +33,15 @@ is_deny = refl
 pub seq_first : (text rest : List ℕ) → text ≡ codes " seq" ++ rest → is_indented rest ≡ true → words_of text ≡ codes "seq" ∷ words_of rest
 seq_first text rest whole gap = known text (codes " seq") (codes "seq") rest is_seq whole gap
 
-pub permit_first : (text rest : List ℕ) → text ≡ codes " permit" ++ rest → is_indented rest ≡ true → words_of text ≡ codes "permit" ∷ words_of rest
-permit_first text rest whole gap = known text (codes " permit") (codes "permit") rest is_permit whole gap
+-- what begins with a word that is known and a blank
+blank_behind : (head word rest : List ℕ) → words_of head ≡ word ∷ [] → words_of (head ++ 32 ∷ rest) ≡ word ∷ words_of rest
+blank_behind head word rest is = known (head ++ 32 ∷ rest) head word (32 ∷ rest) is refl refl ∙ ap (λ (ws : List (List ℕ)). word ∷ ws) (behind_gap 32 rest refl)
 
-pub deny_first : (text rest : List ℕ) → text ≡ codes " deny" ++ rest → is_indented rest ≡ true → words_of text ≡ codes "deny" ∷ words_of rest
-deny_first text rest whole gap = known text (codes " deny") (codes "deny") rest is_deny whole gap
+pub permit_first : (text first rest : List ℕ) → text ≡ codes " per" ++ first → first ≡ codes "mit " ++ rest → words_of text ≡ codes "permit" ∷ words_of rest
+permit_first text first rest front back = ap words_of (front ∙ ap (λ (bs : List ℕ). codes " per" ++ bs) back) ∙ blank_behind (codes " permit") (codes "permit") rest is_permit
+
+pub deny_first : (text first rest : List ℕ) → text ≡ codes " den" ++ first → first ≡ codes "y " ++ rest → words_of text ≡ codes "deny" ∷ words_of rest
+deny_first text first rest front back = ap words_of (front ∙ ap (λ (bs : List ℕ). codes " den" ++ bs) back) ∙ blank_behind (codes " deny") (codes "deny") rest is_deny
 
 pub no_seq : (permit : Bool) (text rest : List ℕ) → words_of text ≡ action_word permit ∷ words_of rest → after (codes "seq" ∷ []) (words_of text) ≡ None
 no_seq true text rest words = ap (after (codes "seq" ∷ [])) words
@@ -54,11 +58,11 @@ seq_number text digits n behind same front some ends line =
     let seq : seq_of front.word ≡ Some n = rw front.writes (ap (λ (b : Bool). cond b None (Some n)) (ne_eqb n 0 some)) in
     ap (numbered_entry line) (same ∙ first_number greatest_seq digits n behind front ends) ∙ ap (option_and_then (λ (seq : ℕ). entry_of line seq (words_of behind))) seq
 
-pub target_first : (text rest prefix behind : List ℕ) (permit : Bool) (address len : ℕ) (p : Cidr) → words_of text ≡ action_word permit ∷ words_of rest → words_of rest ≡ words_of prefix
+pub target_first : (text prefix behind : List ℕ) (permit : Bool) (address len : ℕ) (p : Cidr) → words_of text ≡ action_word permit ∷ words_of prefix
     → IsFrontPrefix prefix address len behind → ends_word behind ≡ true → p ≡ record { base = network_of address len; len = len } → (line seq : ℕ) → entry_of line seq (words_of text) ≡ entry_behind line seq permit p (words_of behind)
-target_first text rest prefix behind permit address len p words same front ends is line seq =
+target_first text prefix behind permit address len p words front ends is line seq =
     let all : words_of text ≡ action_word permit ∷ front.word ∷ words_of behind =
-    words ∙ ap (λ (ws : List (List ℕ)). action_word permit ∷ ws) (same ∙ first_word prefix front.word behind front.whole front.some front.no_gap ends) in
+    words ∙ ap (λ (ws : List (List ℕ)). action_word permit ∷ ws) (first_word prefix front.word behind front.whole front.some front.no_gap ends) in
     ap (entry_of line seq) all ∙ on permit ∙ ap (λ (p : Cidr). entry_behind line seq permit p (words_of behind)) (sym is)
   where
     on : (b : Bool) → entry_of line seq (action_word b ∷ front.word ∷ words_of behind) ≡ entry_behind line seq b (record { base = network_of address len; len = len }) (words_of behind)

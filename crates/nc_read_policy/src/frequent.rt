@@ -2,7 +2,7 @@
 //! with a blank before it, and numbers of digits alone. Where it is another one, `None` says nothing.
 
 ghost use Rattle.std.specs.Prelude.{◌≡◌, ◌≤◌, ◌∷◌, [], ℕ, List, true, IfSome, MatchOption, None, Some, codes};
-ghost use Rattle.nc_lines.specs.Lines.{words_of, is_indented};
+ghost use Rattle.nc_lines.specs.Lines.{words_of};
 ghost use Rattle.nc_lines.specs.Statements.{after, Says};
 ghost use Rattle.nc_read_policy.specs.Entries.{entry_of, numbered_entry, written_bounds};
 ghost use Rattle.nc_read_policy.specs.Fronts.{IsFrontBound, action_word, entry_behind};
@@ -10,7 +10,7 @@ ghost use Rattle.nc_read_policy.specs.Lists.{list_name_says};
 
 use crate::entries::GREATEST_SEQ;
 use crate::fronts::{behind_gap, cut_len, cut_number, cut_prefix, ends_word};
-use crate::heads::behind_known;
+use crate::heads::{behind, behind_known};
 use nc_lines::statement::after_one;
 use nc_types::Prefix;
 
@@ -52,17 +52,17 @@ pub(crate) fn cut_seq(text: &[u8]) -> Option<(u32, &[u8])>
     Some((number, rest))
 }
 
-// Whether the action is `permit`, and what follows it.
+// Whether the action is `permit`, and what follows it and a blank.
 #[inline(always)]
 fn cut_action(text: &[u8]) -> Option<(bool, &[u8])>
-    ensures words { IfSome result (λ cut. words_of text.now
-        ≡ action_word cut.0 ∷ words_of cut.1.now) }
-    ensures gap { IfSome result (λ cut. is_indented cut.1.now ≡ true) }
+    ensures { IfSome result (λ cut. words_of text.now ≡ action_word cut.0 ∷ words_of cut.1.now) }
 {
-    if let Some(rest) = behind_known(text, b" permit") {
+    if let Some(rest) = behind(text, b" per") {
+        let rest = behind(rest, b"mit ")?;
         return Some((true, rest));
     }
-    let rest = behind_known(text, b" deny")?;
+    let rest = behind(text, b" den")?;
+    let rest = behind(rest, b"y ")?;
     Some((false, rest))
 }
 
@@ -72,7 +72,7 @@ pub(crate) fn cut_target(text: &[u8]) -> Option<(bool, Prefix, &[u8])>
         ≡ entry_behind line seq cut.0 cut.1 (words_of cut.2.now)) }
 {
     let (permit, rest) = cut_action(text)?;
-    let (address, len, rest) = cut_prefix(behind_gap(rest)?)?;
+    let (address, len, rest) = cut_prefix(rest)?;
     if !ends_word(rest) {
         return None;
     }

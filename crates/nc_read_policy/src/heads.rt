@@ -8,8 +8,18 @@ ghost use Rattle.nc_read_policy.specs.Heads.{IsHead};
 use nc_lines::cut::{cut_word, is_indented};
 use nc_lines::statement::after_two;
 
+/// What follows a known beginning; `None` where the text begins otherwise. Two or four bytes that
+/// the caller knows are compared as one number where it is inlined, so longer ones go piece by
+/// piece.
+#[inline(always)]
+pub(crate) fn behind<'a>(text: &'a [u8], head: &[u8]) -> Option<&'a [u8]>
+    ensures { IfSome result (λ rest. text.now ≡ head.now ++ rest.now) }
+{
+    let rest = text.strip_prefix(head)?;
+    Some(rest)
+}
+
 /// What follows a known beginning, with a gap between them; `None` where the line begins otherwise.
-/// A few bytes that the caller knows are compared as a number where it is inlined.
 #[inline(always)]
 pub(crate) fn behind_known<'a>(text: &'a [u8], head: &[u8]) -> Option<&'a [u8]>
     ensures whole { IfSome result (λ rest. text.now ≡ head.now ++ rest.now) }

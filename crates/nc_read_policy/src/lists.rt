@@ -52,8 +52,7 @@ fn read_entry(line: u32, highest: u32, text: &[u8], head: Option<&[u8]>) -> Opti
         ≡ option_and_then (any_entry line highest) (behind_name (words_of text.now)) }
 {
     let rest = cut_behind(text, head)?;
-    let entry = any_entry(line, highest, rest)?;
-    Some(entry)
+    any_entry(line, highest, rest)
 }
 
 // How the first line of a list begins.

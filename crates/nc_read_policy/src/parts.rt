@@ -1,6 +1,6 @@
 //! The entries of a prefix list from its statements.
 
-ghost use Rattle.std.specs.Prelude.{◌≡◌, ◌≢◌, ◌≤◌, ◌∷◌, List, Some, length, map, take, drop, All};
+ghost use Rattle.std.specs.Prelude.{◌≡◌, ◌≢◌, ◌≤◌, ◌∷◌, [], List, Some, length, map, take, drop, All};
 ghost use Rattle.std.specs.Prelude.{IfOk};
 ghost use Rattle.std.specs.Ordering.{nat_cmp};
 ghost use Rattle.std.specs.List.Sorted.{IsSortedByKey};
@@ -48,6 +48,16 @@ fn part(alloc: Global, first: ListEntry, run: &[ListEntry]) -> Result<EntryLines
     Ok(EntryLines { entry, earlier })
 }
 
+// The entry that the only statement of a number makes.
+fn alone(alloc: Global, entry: ListEntry) -> EntryLines
+    ensures { part_of (entry ∷ []) ≡ Some (entry_part result) }
+{
+    EntryLines {
+        entry,
+        earlier: Vec::new(alloc),
+    }
+}
+
 // The entries that statements in order of their numbers make.
 fn join_runs(alloc: Global, entries: &[ListEntry]) -> Result<Vec<EntryLines>, AllocError>
     requires { IsSortedByKey (λ e. e.seq) nat_cmp entries.now }
@@ -56,7 +66,13 @@ fn join_runs(alloc: Global, entries: &[ListEntry]) -> Result<Vec<EntryLines>, Al
     let mut parts = Vec::with_capacity(alloc, entries.len())?;
     let mut rest = entries;
     'runs: while let Some((first, others)) = rest.split_first() {
-        let (run, behind) = others.split_at(run_len(others, first.seq));
+        let count = run_len(others, first.seq);
+        if count == 0 {
+            parts.push(alone(alloc, *first))?;
+            rest = others;
+            continue;
+        }
+        let (run, behind) = others.split_at(count);
         parts.push(part(alloc, *first, run)?)?;
         rest = behind;
     }

@@ -34,6 +34,7 @@ pub mod AscentLemmas
 pub mod MarkLemmas
 pub mod ThingLemmas
 pub mod PlacedLemmas
+pub mod SettledLemmas
 pub mod LowestFaults
 pub mod ConfigLemmas
 pub mod OddLemmas

@@ -1,13 +1,15 @@
 //! The things of a configuration, each with the lines that are its element.
 
-ghost use Rattle.std.specs.Prelude.{◌≡◌, IfOk};
+ghost use Rattle.std.specs.Prelude.{◌≡◌, ◌∷◌, ◌++◌, [], IfOk};
 ghost use Rattle.nc_reader.specs.Things.{first_in};
 
 use crate::communities::CommunityLine;
 use crate::routes::RouteLines;
 use nc_read_filter::FilterLine;
 use nc_read_policy::EntryLines;
-use nc_types::{Clause, CommunityEntry, FilterEntry, Group, Interface, ListEntry, StaticRoute};
+use nc_types::{
+    Clause, CommunityEntry, FilterEntry, Group, Interface, Lines, ListEntry, StaticRoute,
+};
 use std::alloc::{AllocError, Global};
 
 /// A thing of a configuration with its lines, before it has the place of its element.
@@ -25,9 +27,9 @@ pub(crate) trait Piece: Drop {
         ensures { result ≡ first_in (lines_of self.now) };
 
     /// The thing with this place of its element, and the lines.
-    fn split(self, alloc: Global, place: u32) -> Result<(Self::Thing, Vec<u32>), AllocError>
+    fn split(self, alloc: Global, place: u32) -> Result<(Self::Thing, Lines), AllocError>
         ensures thing { IfOk result (λ r. r.0 ≡ placed place self) }
-        ensures lines { IfOk result (λ r. r.1.items ≡ lines_of self) };
+        ensures lines { IfOk result (λ r. r.1 ≡ lines_of self) };
 }
 
 /// The first of some lines; 0 where there is none.
@@ -40,14 +42,16 @@ pub(crate) fn first_in(lines: &[u32]) -> u32
     }
 }
 
-// These lines, with room for one where there is none: mostly it stays the only one.
-fn with_room(alloc: Global, lines: Vec<u32>) -> Result<Vec<u32>, AllocError>
-    ensures { IfOk result (λ roomy. roomy.items ≡ lines.items) }
+// Lines of which the last stands apart. Mostly it is the only one, which takes no memory.
+fn with_last(alloc: Global, earlier: Vec<u32>, last: u32) -> Result<Lines, AllocError>
+    ensures { IfOk result (λ lines. lines ≡ earlier.items ++ last ∷ []) }
 {
-    if lines.is_empty() {
-        return Ok(Vec::with_capacity(alloc, 1)?);
+    if earlier.is_empty() {
+        return Ok(Lines::one(last));
     }
-    Ok(lines)
+    let mut lines = earlier;
+    lines.push(last)?;
+    Ok(Lines::of(alloc, lines)?)
 }
 
 /// Lines alone, of a thing that gets the place of its element later.
@@ -62,8 +66,8 @@ impl Piece for Vec<u32> {
         first_in(self)
     }
 
-    fn split(self, _alloc: Global, place: u32) -> Result<(u32, Vec<u32>), AllocError> {
-        Ok((place, self))
+    fn split(self, alloc: Global, place: u32) -> Result<(u32, Lines), AllocError> {
+        Ok((place, Lines::of(alloc, self)?))
     }
 }
 
@@ -87,13 +91,13 @@ impl Piece for InterfaceLines {
         first_in(&self.lines)
     }
 
-    fn split(self, _alloc: Global, place: u32) -> Result<(Interface, Vec<u32>), AllocError> {
+    fn split(self, alloc: Global, place: u32) -> Result<(Interface, Lines), AllocError> {
         let InterfaceLines {
             mut interface,
             lines,
         } = self;
         interface.element = place;
-        Ok((interface, lines))
+        Ok((interface, Lines::of(alloc, lines)?))
     }
 }
 
@@ -110,10 +114,10 @@ impl Piece for RouteLines {
         first_in(&self.lines)
     }
 
-    fn split(self, _alloc: Global, place: u32) -> Result<(StaticRoute, Vec<u32>), AllocError> {
+    fn split(self, alloc: Global, place: u32) -> Result<(StaticRoute, Lines), AllocError> {
         let RouteLines { mut route, lines } = self;
         route.element = place;
-        Ok((route, lines))
+        Ok((route, Lines::of(alloc, lines)?))
     }
 }
 
@@ -137,10 +141,10 @@ impl Piece for ClauseLines {
         first_in(&self.lines)
     }
 
-    fn split(self, _alloc: Global, place: u32) -> Result<(Clause, Vec<u32>), AllocError> {
+    fn split(self, alloc: Global, place: u32) -> Result<(Clause, Lines), AllocError> {
         let ClauseLines { mut clause, lines } = self;
         clause.element = place;
-        Ok((clause, lines))
+        Ok((clause, Lines::of(alloc, lines)?))
     }
 }
 
@@ -161,11 +165,10 @@ impl Piece for EntryLines {
         }
     }
 
-    fn split(self, alloc: Global, place: u32) -> Result<(ListEntry, Vec<u32>), AllocError> {
+    fn split(self, alloc: Global, place: u32) -> Result<(ListEntry, Lines), AllocError> {
         let EntryLines { mut entry, earlier } = self;
         entry.element = place;
-        let mut lines = with_room(alloc, earlier)?;
-        lines.push(entry.line)?;
+        let lines = with_last(alloc, earlier, entry.line)?;
         Ok((entry, lines))
     }
 }
@@ -184,12 +187,10 @@ impl Piece for CommunityLine {
         self.line
     }
 
-    fn split(self, alloc: Global, place: u32) -> Result<(CommunityEntry, Vec<u32>), AllocError> {
+    fn split(self, _alloc: Global, place: u32) -> Result<(CommunityEntry, Lines), AllocError> {
         let CommunityLine { mut entry, line } = self;
         entry.element = place;
-        let mut lines = Vec::with_capacity(alloc, 1)?;
-        lines.push(line)?;
-        Ok((entry, lines))
+        Ok((entry, Lines::one(line)))
     }
 }
 
@@ -207,12 +208,10 @@ impl Piece for FilterLine {
         self.line
     }
 
-    fn split(self, alloc: Global, place: u32) -> Result<(FilterEntry, Vec<u32>), AllocError> {
+    fn split(self, _alloc: Global, place: u32) -> Result<(FilterEntry, Lines), AllocError> {
         let FilterLine { mut entry, line } = self;
         entry.element = place;
-        let mut lines = Vec::with_capacity(alloc, 1)?;
-        lines.push(line)?;
-        Ok((entry, lines))
+        Ok((entry, Lines::one(line)))
     }
 }
 
@@ -236,9 +235,9 @@ impl Piece for GroupLines {
         first_in(&self.lines)
     }
 
-    fn split(self, _alloc: Global, place: u32) -> Result<(Group, Vec<u32>), AllocError> {
+    fn split(self, alloc: Global, place: u32) -> Result<(Group, Lines), AllocError> {
         let GroupLines { mut group, lines } = self;
         group.element = place;
-        Ok((group, lines))
+        Ok((group, Lines::of(alloc, lines)?))
     }
 }

@@ -125,7 +125,7 @@ module _ (routers : List ConfigView) (tables : List (List BaseRow)) (sessions : 
           ∙ ap (λ (l : List Chosen). made_from (λ place n. origin_at routers tables sessions old router place n prefix) 0 p.networks ++ (made_from (λ place a. aggregate_at routers tables sessions new router place a prefix) 0 p.aggregates ++ l))
           (made_alike (λ place n. entry_at routers tables sessions old router place prefix) (λ place n. entry_at routers tables sessions new router place prefix) 0 p.neighbors (λ k n i. entry_alike k (alike.heard k)))
 
-      chosen_alike : chosen_anew routers tables sessions old router prefix ≡ chosen_anew routers tables sessions new router prefix
+      pub chosen_alike : chosen_anew routers tables sessions old router prefix ≡ chosen_anew routers tables sessions new router prefix
       chosen_alike = chosen_by_process routers tables sessions old new router prefix (λ p e. ap (chosen_by p) (candidates_alike p e))
 
       pub row_alike : row_at routers tables sessions old router prefix ≡ row_at routers tables sessions new router prefix

@@ -11,8 +11,8 @@ use Rattle.nc_types.proofs.Members.{In, in_left, in_right, in_map, in_by_contain
 use Rattle.nc_types.proofs.Sameness.{same_prefix_is}
 use Rattle.nc_tables.specs.declared.bgp.Chosen.{Chosen}
 use Rattle.nc_tables.specs.Base.{prefix_cmp}
-use Rattle.nc_tables.specs.LocRibs.{AreChosen}
-use Rattle.nc_tables.specs.Rounds.{BgpRowView, chosen_in, chosen_at, chosen_anew, prefixes}
+use Rattle.nc_tables.specs.LocRibs.{AreChosen, Ascend}
+use Rattle.nc_tables.specs.Rounds.{BgpRowView, chosen_in, chosen_at, chosen_anew}
 use Rattle.nc_tables.specs.Settling.{same_list, same_candidate}
 use Rattle.nc_tables.proofs.ByPrefix.{same_itself}
 use Rattle.nc_tables.proofs.InOrder.{same_rows}
@@ -20,12 +20,12 @@ use Rattle.nc_tables.proofs.SameTables.{same_list_is, same_list_itself, candidat
 use Rattle.nc_message.specs.declared.inputs.RoutingInputs.{RoutingInputs}
 use Rattle.nc_round.specs.declared.loc_rib_change.LocRibChange.{LocRibChange}
 use Rattle.nc_round.specs.Keys.{Key, key, key_cmp}
-use Rattle.nc_round.specs.Next.{next}
+use Rattle.nc_round.specs.Next.{next_of}
 use Rattle.nc_round.specs.Changes.{IsDifference}
 use Rattle.nc_round.specs.Renewing.{RowChange, row_change, change_at, AreEnough, IsCompletedBy}
 use Rattle.nc_round.proofs.KeyOrder.{same_key, same_key_is, key_itself}
 use Rattle.nc_round.proofs.Lists.{among, all_made, all_over, in_filter_map, pairs_made, pairs_over}
-use Rattle.nc_round.proofs.NextRows.{next_chosen, next_count, next_up, next_some}
+use Rattle.nc_round.proofs.NextOf.{inside_anew, made_count, made_ascends, made_some_there}
 
 abbrev pub key_of : RowChange → Key
 key_of c = c.key
@@ -125,16 +125,25 @@ module _ (i : RoutingInputs) (table : List (List BgpRowView)) where
 
 -- ---- all that may differ
 
-module _ (i : RoutingInputs) (table : List (List BgpRowView)) (keys : List Key) (enough : AreEnough i table keys) where
+module _ (i : RoutingInputs) (prefixes : List Cidr) (up : Ascend prefixes) (table : List (List BgpRowView)) (keys : List Key) (enough : AreEnough i prefixes table keys) (inside : All (λ k. Contains prefixes k.1) keys) where
+  abbrev next_table : List (List BgpRowView)
+  next_table = next_of prefixes i table
+
   abbrev pub target : ℕ → Cidr → List Chosen
-  target router p = chosen_at (next i table) router p
+  target router p = chosen_at next_table router p
+
+  -- a row is that of a prefix among these at a router of the network
+  abbrev IsRow : Key → Type 0
+  IsRow k = (k.0.0 < length i.network.now) × Contains prefixes k.1
+
+  are_rows : All IsRow keys
+  are_rows = λ k d lt. (enough.within k d lt, inside k d lt)
 
   abbrev pub all_changes : List RowChange
   all_changes = filter_map (change_at i table) keys
 
-  target_is : (k : Key) → k.0.0 < length i.network.now → target k.0.0 k.1 ≡ anew i table k
-  target_is k lt =
-      next_chosen i.network.now i.base.now i.sessions.now table (λ router p none. enough.known router p (λ some. none (in_by_contains (prefixes i.network.now) p some))) k.0.0 k.1 lt
+  target_is : (k : Key) → IsRow k → target k.0.0 k.1 ≡ anew i table k
+  target_is k is = inside_anew prefixes i.network.now i.base.now i.sessions.now table k.0.0 k.1 is.0 (in_by_contains prefixes k.1 is.1)
 
   others : (router : ℕ) (p : Cidr) → (Contains (map key_of all_changes) (key router p) → ⊥) → chosen_at table router p ≡ target router p
   others router p none = on (among same_key same_key_is key_itself (key router p) keys)
@@ -150,41 +159,41 @@ module _ (i : RoutingInputs) (table : List (List BgpRowView)) (keys : List Key) 
               absurd (none (contains_by_in (map key_of all_changes) (key router p) (in_map key_of all_changes change (in_filter_map (change_at i table) keys (key router p) change j is))))
 
       on : In (key router p) keys ⊎ (In (key router p) keys → ⊥) → chosen_at table router p ≡ target router p
-      on (inl j) = sym (made j) ∙ sym (target_is (key router p) (all_in (λ (k : Key). k.0.0 < length i.network.now) keys enough.within (key router p) j))
+      on (inl j) = sym (made j) ∙ sym (target_is (key router p) (all_in IsRow keys are_rows (key router p) j))
       on (inr out) = enough.others router p (λ some. out (in_by_contains keys (key router p) some))
 
   pub leads : IsCompletedBy target table all_changes
   leads = record {
-    put = all_made (λ (c : RowChange). target c.key.0.0 c.key.1 ≡ c.chosen) (change_at i table) (λ (k : Key). k.0.0 < length i.network.now)
-        (λ k c e lt. let is = is_change i table k c e in sym (ap (λ (q : Key). target q.0.0 q.1) is.row) ∙ target_is k lt ∙ is.new) keys enough.within;
+    put = all_made (λ (c : RowChange). target c.key.0.0 c.key.1 ≡ c.chosen) (change_at i table) IsRow
+        (λ k c e lt. let is = is_change i table k c e in sym (ap (λ (q : Key). target q.0.0 q.1) is.row) ∙ target_is k lt ∙ is.new) keys are_rows;
     others = others;
   }
 
-  pub difference : (new : List (List BgpRowView)) → new ≡ next i table → IsDifference table new (map key_of all_changes)
+  pub difference : (new : List (List BgpRowView)) → new ≡ next_table → IsDifference table new (map key_of all_changes)
   difference new made = record {
     ordered = pairs_over (λ a b. key_cmp a b ≡ Less) key_of all_changes
         (pairs_made (λ (a b : RowChange). key_cmp a.key b.key ≡ Less) (change_at i table) (λ (a b : Key). key_cmp a b ≡ Less)
         (λ a b x y e f less. subst (λ (q : Key). key_cmp q y.key ≡ Less) (is_change i table a x e).row (subst (λ (q : Key). key_cmp a q ≡ Less) (is_change i table b y f).row less)) keys enough.ordered);
     differ = all_over (λ (k : Key). (chosen_at table k.0.0 k.1 ≡ chosen_at new k.0.0 k.1) → ⊥) key_of all_changes
-        (all_made (λ (c : RowChange). (chosen_at table c.key.0.0 c.key.1 ≡ chosen_at new c.key.0.0 c.key.1) → ⊥) (change_at i table) (λ (k : Key). k.0.0 < length i.network.now)
+        (all_made (λ (c : RowChange). (chosen_at table c.key.0.0 c.key.1 ≡ chosen_at new c.key.0.0 c.key.1) → ⊥) (change_at i table) IsRow
         (λ k c e lt same.
         let is = is_change i table k c e in
         let old : chosen_at table k.0.0 k.1 ≡ chosen_at new k.0.0 k.1 = ap (λ (q : Key). chosen_at table q.0.0 q.1) is.row ∙ same ∙ sym (ap (λ (q : Key). chosen_at new q.0.0 q.1) is.row) in
-        is.differs (sym (old ∙ ap (λ (t : List (List BgpRowView)). chosen_at t k.0.0 k.1) made ∙ target_is k lt))) keys enough.within);
+        is.differs (sym (old ∙ ap (λ (t : List (List BgpRowView)). chosen_at t k.0.0 k.1) made ∙ target_is k lt))) keys are_rows);
     all = λ router p none. others router p none ∙ sym (ap (λ (t : List (List BgpRowView)). chosen_at t router p) made);
   }
 
   -- a table that has everywhere what the next one has is the next one
-  pub is_next : (new : List (List BgpRowView)) → length new ≡ length table → All AreChosen new → ((router : ℕ) (p : Cidr) → chosen_at new router p ≡ target router p) → new ≡ next i table
+  pub is_next : (new : List (List BgpRowView)) → length new ≡ length table → All AreChosen new → ((router : ℕ) (p : Cidr) → chosen_at new router p ≡ target router p) → new ≡ next_table
   is_next new count rows same =
-      same_lists new (next i table) (count ∙ enough.count ∙ sym (next_count i.network.now i.base.now i.sessions.now table)) at
+      same_lists new next_table (count ∙ enough.count ∙ sym (made_count prefixes i.network.now i.base.now i.sessions.now table)) at
     where
-      at : (k : ℕ) (d : List BgpRowView) → k < length new → get_or new k d ≡ get_or (next i table) k d
+      at : (k : ℕ) (d : List BgpRowView) → k < length new → get_or new k d ≡ get_or next_table k d
       at k d lt =
           let are : AreChosen (get_or new k d) = rows k d lt in
           let mine : get_or new k d ≡ get_or new k [] = get_or_default new k d [] lt in
-          let other : k < length (next i table) = subst (λ (n : ℕ). k < n) (count ∙ enough.count ∙ sym (next_count i.network.now i.base.now i.sessions.now table)) lt in
-          same_rows (get_or new k d) (get_or (next i table) k d)
-          are.ordered (subst (λ (l : List BgpRowView). AllPairs (λ a b. prefix_cmp a.prefix b.prefix ≡ Less) l) (get_or_default (next i table) k [] d other) (next_up i.network.now i.base.now i.sessions.now table k))
-          are.some (subst (λ (l : List BgpRowView). All (λ row. 0 < length row.chosen) l) (get_or_default (next i table) k [] d other) (next_some i.network.now i.base.now i.sessions.now table k))
-          (λ p. ap (λ (l : List BgpRowView). chosen_in l p) mine ∙ same k p ∙ ap (λ (l : List BgpRowView). chosen_in l p) (get_or_default (next i table) k [] d other))
+          let other : k < length next_table = subst (λ (n : ℕ). k < n) (count ∙ enough.count ∙ sym (made_count prefixes i.network.now i.base.now i.sessions.now table)) lt in
+          same_rows (get_or new k d) (get_or next_table k d)
+          are.ordered (subst (λ (l : List BgpRowView). AllPairs (λ a b. prefix_cmp a.prefix b.prefix ≡ Less) l) (get_or_default next_table k [] d other) (made_ascends prefixes i.network.now i.base.now i.sessions.now table up k))
+          are.some (subst (λ (l : List BgpRowView). All (λ row. 0 < length row.chosen) l) (get_or_default next_table k [] d other) (made_some_there prefixes i.network.now i.base.now i.sessions.now table k))
+          (λ p. ap (λ (l : List BgpRowView). chosen_in l p) mine ∙ same k p ∙ ap (λ (l : List BgpRowView). chosen_in l p) (get_or_default next_table k [] d other))

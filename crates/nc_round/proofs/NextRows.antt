@@ -36,7 +36,7 @@ module _ (anew : Cidr → List Chosen) where
   made q = row_of q (anew q)
 
   -- of a prefix that is among them, or of which nothing is chosen, what is chosen is found
-  found_anew : (ps : List Cidr) (p : Cidr) → In p ps ⊎ (anew p ≡ []) → chosen_in (filter_map made ps) p ≡ anew p
+  pub found_anew : (ps : List Cidr) (p : Cidr) → In p ps ⊎ (anew p ≡ []) → chosen_in (filter_map made ps) p ≡ anew p
   found_anew [] p (inl i) = absurd i
   found_anew [] p (inr none) = sym none
   found_anew (q ∷ qs) p known = on (anew q) refl (found_anew qs p) known
@@ -59,7 +59,7 @@ module _ (anew : Cidr → List Chosen) where
       on (x ∷ xs) e rest k = found x xs e (same_prefix q p) refl rest k
 
   -- of other prefixes nothing is found
-  found_none : (ps : List Cidr) (p : Cidr) → (In p ps → ⊥) → chosen_in (filter_map made ps) p ≡ []
+  pub found_none : (ps : List Cidr) (p : Cidr) → (In p ps → ⊥) → chosen_in (filter_map made ps) p ≡ []
   found_none [] p none = refl
   found_none (q ∷ qs) p none = on (anew q) (found_none qs p (λ i. none (inr i)))
     where
@@ -85,10 +85,10 @@ module _ (anew : Cidr → List Chosen) where
       on [] f = absurd cc
       on (x ∷ xs) f = let is : record { prefix = q; chosen = x ∷ xs } ≡ row = cc in subst (λ (r : BgpRowView). 0 < length r.chosen) is (omega arith)
 
-  made_up : (ps : List Cidr) → AllPairs (λ p q. prefix_cmp p q ≡ Less) ps → Up (filter_map made ps)
+  pub made_up : (ps : List Cidr) → AllPairs (λ p q. prefix_cmp p q ≡ Less) ps → Up (filter_map made ps)
   made_up ps up = pairs_made IsBelow made (λ p q. prefix_cmp p q ≡ Less) (λ p q a b e f less. subst (λ (r : Cidr). prefix_cmp r b.prefix ≡ Less) (sym (made_prefix p a e)) (subst (λ (r : Cidr). prefix_cmp p r ≡ Less) (sym (made_prefix q b f)) less)) ps up
 
-  made_have : (ps : List Cidr) → HaveSome (filter_map made ps)
+  pub made_have : (ps : List Cidr) → HaveSome (filter_map made ps)
   made_have ps = all_made (λ (row : BgpRowView). 0 < length row.chosen) made (λ q. Unit {0}) (λ q row e u. made_some q row e) ps (λ k d lt. tt)
 
 -- ---- all prefixes

@@ -95,6 +95,14 @@ module _ (routers : List ConfigView) (formed : All IsWellFormed routers) where
       subst (λ (o : Option ProcessView). IfSome o IsProcess) c.2 (all_in IsWellFormed routers formed c.0 (in_by_get routers router c.0 c.1)).process
 
   module _ (tables : List (List BaseRow)) (sessions : List (List SessionRow)) where
+    -- no more is chosen of a prefix than is used at once
+    pub few_anew : (table : List (List BgpRowView)) (router : ℕ) (q : Cidr) → length (chosen_anew routers tables sessions table router q) ≤ MULTIPATH_LIMIT
+    few_anew table router q = on (process_of routers router) (process_is router)
+      where
+        on : (o : Option ProcessView) → ((p : ProcessView) → o ≡ Some p → IsProcess p) → length (option_map_or (λ p. chosen_by p (candidates_at routers tables sessions table router p q)) o []) ≤ MULTIPATH_LIMIT
+        on None is = omega arith
+        on (Some p) is = chosen_few p (candidates_at routers tables sessions table router p q) (is p refl)
+
     module _ (table : List (List BgpRowView)) (before : All AreBgpRows table) (router : ℕ) where
       at_own : (peer : ℕ) (q : Cidr) → All (IsOf q) (chosen_at table peer q)
       at_own peer q = row_own q (slice_index_or table peer []) (all_at AreBgpRows no_rows table before peer).own
@@ -147,13 +155,6 @@ module _ (routers : List ConfigView) (formed : All IsWellFormed routers) where
           on None = All-nil (IsOf q)
           on (Some p) = chosen_own q p (candidates_at routers tables sessions table router p q) (candidates_own p q)
 
-      anew_few : (q : Cidr) → length (anew q) ≤ MULTIPATH_LIMIT
-      anew_few q = on (process_of routers router) (process_is router)
-        where
-          on : (o : Option ProcessView) → ((p : ProcessView) → o ≡ Some p → IsProcess p) → length (option_map_or (λ p. chosen_by p (candidates_at routers tables sessions table router p q)) o []) ≤ MULTIPATH_LIMIT
-          on None is = omega arith
-          on (Some p) is = chosen_few p (candidates_at routers tables sessions table router p q) (is p refl)
-
       each_row : (P : BgpRowView → Type 0) → ((q : Cidr) → In q (prefixes routers) → P (record { prefix = q; chosen = anew q })) → All P (rows_anew routers tables sessions table router)
       each_row P holds =
           all_made P (row_at routers tables sessions table router) (λ q. P (record { prefix = q; chosen = anew q })) (λ q row e here. row_holds P q (anew q) here row e) (prefixes routers)
@@ -166,7 +167,7 @@ module _ (routers : List ConfigView) (formed : All IsWellFormed routers) where
             ordered = next_up routers tables sessions table router;
             valid = subst (All (λ (row : BgpRowView). IsPrefix row.prefix)) (sym same) (each_row (λ (row : BgpRowView). IsPrefix row.prefix) (λ q i. prefixes_are q i));
             some = next_some routers tables sessions table router;
-            few = subst (All (λ (row : BgpRowView). length row.chosen ≤ MULTIPATH_LIMIT)) (sym same) (each_row (λ (row : BgpRowView). length row.chosen ≤ MULTIPATH_LIMIT) (λ q i. anew_few q));
+            few = subst (All (λ (row : BgpRowView). length row.chosen ≤ MULTIPATH_LIMIT)) (sym same) (each_row (λ (row : BgpRowView). length row.chosen ≤ MULTIPATH_LIMIT) (λ q i. few_anew table router q));
             own = subst (All AreOwn) (sym same) (each_row AreOwn (λ q i. anew_own q));
           }
 

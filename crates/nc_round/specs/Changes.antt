@@ -6,6 +6,7 @@ use Rattle.nc_types.specs.declared.config.AggregateStatement.{AggregateStatement
 use Rattle.nc_tables.specs.declared.base.BaseRow.{BaseRow}
 use Rattle.nc_tables.specs.declared.bgp.SessionRow.{SessionRow}
 use Rattle.nc_tables.specs.Rounds.{BgpRowView, chosen_at, is_longer_in, round, session_by}
+use Rattle.nc_round.specs.Next.{round_of}
 use Rattle.nc_round.specs.Waking.{aggregates_of}
 use Rattle.nc_round.specs.Keys.{Key, key, AreInOrder}
 
@@ -25,6 +26,13 @@ module _ (routers : List ConfigView) (tables : List (List BaseRow)) (sessions : 
     pub count : length before ≡ length routers
     pub some : HaveCandidates before
     pub made : table ≡ round routers tables sessions before
+    pub difference : IsDifference before table changed
+
+  -- a table is what a round over these prefixes makes of another, in which these rows differ
+  pub record IsRoundOver (prefixes : List Cidr) (before table : List (List BgpRowView)) (changed : List Key) : Type 0 where
+    pub count : length before ≡ length routers
+    pub some : HaveCandidates before
+    pub made : table ≡ round_of prefixes routers tables sessions before
     pub difference : IsDifference before table changed
 
   -- two tables have the same wherever the row of a prefix at a router is made from: what peers choose of the prefix, and what the router

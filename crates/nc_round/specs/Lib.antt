@@ -5,3 +5,4 @@ pub mod Next
 pub mod Waking
 pub mod Changes
 pub mod Renewing
+pub mod Likeness

@@ -4,11 +4,11 @@ use Rattle.nc_types.specs.declared.TheConstants.{MULTIPATH_LIMIT}
 use Rattle.nc_types.specs.Cidr.{Cidr}
 use Rattle.nc_tables.specs.declared.bgp.Chosen.{Chosen}
 use Rattle.nc_tables.specs.LocRibs.{IsNumbered}
-use Rattle.nc_tables.specs.Rounds.{BgpRowView, chosen_at, chosen_anew, prefixes}
+use Rattle.nc_tables.specs.Rounds.{BgpRowView, chosen_at, chosen_anew}
 use Rattle.nc_tables.specs.Settling.{same_list, same_candidate}
 use Rattle.nc_message.specs.declared.inputs.RoutingInputs.{RoutingInputs}
 use Rattle.nc_round.specs.declared.loc_rib_change.LocRibChange.{LocRibChange}
-use Rattle.nc_round.specs.Next.{next}
+use Rattle.nc_round.specs.Next.{next_of}
 use Rattle.nc_round.specs.Keys.{Key, key, AreInOrder}
 
 -- what is chosen anew of a row
@@ -32,17 +32,17 @@ change_at i table k =
     let anew = chosen_anew i.network.now i.base.now i.sessions.now table k.0.0 k.1 in
     if same_list same_candidate anew (chosen_at table k.0.0 k.1) then None else Some (record { key = k; chosen = anew })
 
--- nothing is chosen of a prefix that no router begins
-abbrev pub IsKnown : RoutingInputs → List (List BgpRowView) → Type 0
-IsKnown i table = (router : ℕ) (p : Cidr) → ¬ Contains (prefixes i.network.now) p → chosen_at table router p ≡ []
+-- nothing is chosen of other prefixes than these
+abbrev pub IsKnown : List Cidr → List (List BgpRowView) → Type 0
+IsKnown prefixes table = (router : ℕ) (p : Cidr) → ¬ Contains prefixes p → chosen_at table router p ≡ []
 
--- rows in order, such that a round changes no other
-pub record AreEnough (i : RoutingInputs) (table : List (List BgpRowView)) (keys : List Key) : Type 0 where
+-- rows in order, such that a round over these prefixes changes no other
+pub record AreEnough (i : RoutingInputs) (prefixes : List Cidr) (table : List (List BgpRowView)) (keys : List Key) : Type 0 where
   pub count : length table ≡ length i.network.now
-  pub known : IsKnown i table
+  pub known : IsKnown prefixes table
   pub ordered : AreInOrder keys
   pub within : All (λ k. k.0.0 < length i.network.now) keys
-  pub others : (router : ℕ) (p : Cidr) → ¬ Contains keys (key router p) → chosen_at table router p ≡ chosen_at (next i table) router p
+  pub others : (router : ℕ) (p : Cidr) → ¬ Contains keys (key router p) → chosen_at table router p ≡ chosen_at (next_of prefixes i table) router p
 
 -- with these rows put into it a table has everywhere what it is to have
 pub record IsCompletedBy (target : ℕ → Cidr → List Chosen) (table : List (List BgpRowView)) (changes : List RowChange) : Type 0 where

@@ -1,6 +1,7 @@
 -- Rows by their router and by the numbers of their prefixes.
-use Rattle.std.specs.Prelude.{List, All, map}
-use Rattle.nc_types.specs.Cidr.{Cidr}
+use Rattle.std.specs.Prelude.{List, Option, Some, None, All, map, if◌then◌else◌}
+use Rattle.std.specs.List.{filter_map, list_any}
+use Rattle.nc_types.specs.Cidr.{Cidr, same_prefix}
 use Rattle.nc_types.specs.declared.config.RouterId.{RouterId}
 use Rattle.nc_tables.specs.declared.ribs.Numbered.{Numbered}
 use Rattle.nc_tables.specs.LocRibs.{IsNumbered}
@@ -17,6 +18,13 @@ numbered_row router of = record { router = router; of = of }
 -- each under the number that its prefix has among these
 abbrev pub AreRows : List Cidr → List NumberedRow → Type 0
 AreRows prefixes rows = All (λ r. IsNumbered prefixes r.of) rows
+
+-- a row, where it is of one of these prefixes, and those of some rows that are
+abbrev pub row_among : List Cidr → Key → Option Key
+row_among prefixes k = if list_any (same_prefix k.1) prefixes then Some k else None
+
+abbrev pub rows_among : List Cidr → List Key → List Key
+rows_among prefixes keys = filter_map (row_among prefixes) keys
 
 -- the prefixes of numbered ones, and those of lists of them
 abbrev pub prefixes_of : List Numbered → List Cidr

@@ -18,6 +18,10 @@ use Rattle.nc_round.specs.Rows.{row_key, AreRows}
 abbrev pub aggregates_of : List ConfigView → ℕ → List AggregateStatement
 aggregates_of routers router = option_map_or (λ p. p.aggregates) (process_of routers router) []
 
+-- the prefix of each aggregate of a router is among these
+abbrev pub HaveAggregates : List ConfigView → List Cidr → Type 0
+HaveAggregates routers prefixes = (router : ℕ) → All (λ a. Contains prefixes a.prefix) (aggregates_of routers router)
+
 -- the row of a prefix at a router may come from a row that changed: one of the prefix at a peer of a session of the router, where what
 -- the router learns of it now may count beside what stands
 pub record IsAffectedByPeer (i : RoutingInputs) (table : List (List BgpRowView)) (changed : List Key) (router : ℕ) (prefix : Cidr) : Type 0 where

@@ -8,7 +8,7 @@ ghost use Rattle.nc_tables.specs.LocRibs.{IsNumbered};
 ghost use Rattle.nc_tables.specs.Rounds.{chosen_at};
 ghost use Rattle.nc_message.specs.Inputs.{AreRoutingInputs};
 ghost use Rattle.nc_decision.specs.Peerings.{AreNetworkPeerings, ArePeerings};
-ghost use Rattle.nc_round.specs.Next.{next};
+ghost use Rattle.nc_round.specs.Next.{next_of};
 ghost use Rattle.nc_round.specs.Changes.{IsDifference};
 ghost use Rattle.nc_round.specs.Rows.{row_key, AreRows};
 ghost use Rattle.nc_round.specs.Renewing.{row_change, change_at, AreEnough, IsLocRibChange, IsCompletedBy};
@@ -137,7 +137,8 @@ fn put_all(ribs: &mut LocRibs, mut changes: Vec<LocRibChange>)
     }
 }
 
-/// The next table and the rows in which it differs, where these are all rows that may differ. The
+/// The next table over the prefixes that a table has, and the rows in which it differs, where these
+/// are all rows that may differ. The
 /// others aren't visited.
 pub(crate) fn renew(
     alloc: Global,
@@ -149,14 +150,15 @@ pub(crate) fn renew(
 ) -> Result<(LocRibs, Changed), AllocError>
     requires inputs { AreRoutingInputs inputs }
     requires all { AreNetworkPeerings inputs.network.now inputs.base.now inputs.sessions.now all.now }
-    requires rows { AreEnough inputs ribs.rows (map row_key rows.now) }
+    requires rows { AreEnough inputs ribs.prefixes ribs.rows (map row_key rows.now) }
     requires numbers { AreRows ribs.prefixes rows.now }
     ensures prefixes { IfOk result (λ r. r.0.prefixes ≡ ribs.prefixes) }
-    ensures table { IfOk result (λ r. r.0.rows ≡ next inputs.entry ribs.rows) }
+    ensures table { IfOk result (λ r. r.0.rows ≡ next_of ribs.prefixes inputs.entry ribs.rows) }
     ensures changed { IfOk result
         (λ r. IsDifference ribs.rows r.0.rows (map row_key r.1.rows.items)) }
     ensures numbers { IfOk result (λ r. AreRows ribs.prefixes r.1.rows.items) }
 {
+    let _prefixes = ribs.prefixes();
     let changes = changes_of(alloc, recent, inputs, all, &ribs, rows)?;
     let rows = rows_of(alloc, &changes)?;
     put_all(&mut ribs, changes);

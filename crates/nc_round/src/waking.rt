@@ -4,13 +4,13 @@ ghost use Rattle.std.specs.Prelude.{◌≡◌, ◌↔◌, ◌+◌, ◌<◌, ◌�
 ghost use Rattle.std.specs.List.{flat_map, list_any};
 ghost use Rattle.nc_types.specs.Cidr.{Cidr};
 ghost use Rattle.nc_types.specs.Config.{config_view};
-ghost use Rattle.nc_tables.specs.LocRibs.{IsNumbered};
-ghost use Rattle.nc_tables.specs.Rounds.{is_longer_in, prefixes, prefixes_in};
+ghost use Rattle.nc_tables.specs.LocRibs.{Ascend, IsNumbered};
+ghost use Rattle.nc_tables.specs.Rounds.{is_longer_in, prefixes_in};
 ghost use Rattle.nc_message.specs.Inputs.{AreRoutingInputs};
 ghost use Rattle.nc_decision.specs.Peerings.{AreNetworkPeerings, ArePeerings};
 ghost use Rattle.nc_round.specs.Keys.{Key, key, AreInOrder};
 ghost use Rattle.nc_round.specs.Rows.{listed, numbered_row, prefixes_of, row_key, AreListed, AreRows};
-ghost use Rattle.nc_round.specs.Waking.{aggregates_of, begun_from, affected_over, woken_at, AreWoken, IsWoken};
+ghost use Rattle.nc_round.specs.Waking.{aggregates_of, begun_from, affected_over, woken_at, AreWoken, HaveAggregates, IsWoken};
 
 use crate::by_router::{ByRouter, by_router};
 use crate::changed::NumberedRow;
@@ -147,7 +147,8 @@ fn wake(
     requires all { AreNetworkPeerings inputs.now.network.now inputs.now.base.now
         inputs.now.sessions.now all.now }
     requires ribs { length ribs.now.rows ≡ length inputs.now.network.now }
-    requires prefixes { ribs.now.prefixes ≡ prefixes inputs.now.network.now }
+    requires ordered { Ascend ribs.now.prefixes }
+    requires known { HaveAggregates inputs.now.network.now ribs.now.prefixes }
     requires numbers { AreListed ribs.now.prefixes lists.now }
     requires router { router.0 < length inputs.now.network.now }
     requires woken { AreWoken router.0 ribs.now.prefixes woken.old.items }
@@ -180,7 +181,8 @@ fn woken(
     requires all { AreNetworkPeerings inputs.now.network.now inputs.now.base.now
         inputs.now.sessions.now all.now }
     requires ribs { length ribs.now.rows ≡ length inputs.now.network.now }
-    requires prefixes { ribs.now.prefixes ≡ prefixes inputs.now.network.now }
+    requires ordered { Ascend ribs.now.prefixes }
+    requires known { HaveAggregates inputs.now.network.now ribs.now.prefixes }
     requires numbers { AreListed ribs.now.prefixes lists.now }
     ensures woken { IfOk result (λ rows. (router : ℕ) (p : Cidr)
         → router < length inputs.now.network.now
@@ -211,9 +213,10 @@ pub(crate) fn woken_in_order(
     requires all { AreNetworkPeerings inputs.now.network.now inputs.now.base.now
         inputs.now.sessions.now all.now }
     requires ribs { length ribs.now.rows ≡ length inputs.now.network.now }
-    requires prefixes { ribs.now.prefixes ≡ prefixes inputs.now.network.now }
+    requires ordered { Ascend ribs.now.prefixes }
+    requires known { HaveAggregates inputs.now.network.now ribs.now.prefixes }
     requires numbers { AreRows ribs.now.prefixes changed.now }
-    requires ordered { AreInOrder (map row_key changed.now) }
+    requires changed { AreInOrder (map row_key changed.now) }
     ensures woken { IfOk result (λ rows. (router : ℕ) (p : Cidr)
         → router < length inputs.now.network.now
         → (All (λ k. k.0.0 < length inputs.now.network.now) (map row_key changed.now))

@@ -270,6 +270,19 @@ impl RibEntry {
         self.attributes.source.sender
     }
 
+    /// The entry of the same candidate, but of this prefix. Both share one block.
+    ///
+    /// # Errors
+    ///
+    /// Memory that runs out.
+    pub fn of_prefix(&self, prefix: Prefix) -> Result<RibEntry, AllocError>
+        ensures { IfOk result
+            (λ entry. entry ≡ record self.now { route = record self.now.route { prefix = prefix } }) }
+    {
+        let attributes = self.attributes.clone()?;
+        Ok(RibEntry { prefix, attributes })
+    }
+
     /// Whether another entry is of the same candidate.
     pub fn is_same(&self, other: &RibEntry) -> bool
         ensures { IsTrue result ↔ (self.now ≡ other.now) }

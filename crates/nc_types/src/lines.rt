@@ -1,6 +1,6 @@
 //! The lines of an element.
 
-ghost use Rattle.std.specs.Prelude.{◌≡◌, IfOk};
+ghost use Rattle.std.specs.Prelude.{◌≡◌, ◌∷◌, [], IfOk};
 
 use std::alloc::{AllocError, Global};
 use std::marker::Model;
@@ -34,6 +34,15 @@ impl Model for Lines {
 }
 
 impl Lines {
+    /// One line. It takes no memory.
+    pub fn one(line: u32) -> Lines
+        ensures { result ≡ line ∷ [] }
+    {
+        Lines {
+            held: Held::Few(1, [line, 0, 0]),
+        }
+    }
+
     /// These lines.
     ///
     /// # Errors

@@ -6,13 +6,12 @@ use Rattle.nc_types.specs.declared.config.AggregateStatement.{AggregateStatement
 use Rattle.nc_types.proofs.Members.{in_by_map, in_by_contains, contains_by_in}
 use Rattle.nc_tables.specs.declared.bgp.SessionRow.{SessionRow}
 use Rattle.nc_tables.specs.declared.ribs.Numbered.{Numbered}
-use Rattle.nc_tables.specs.LocRibs.{Ascend, IsNumbered}
+use Rattle.nc_tables.specs.LocRibs.{IsNumbered}
 use Rattle.nc_tables.specs.Rounds.{is_longer_in}
 use Rattle.nc_round.specs.declared.changed.NumberedRow.{NumberedRow}
 use Rattle.nc_round.specs.Rows.{listed, numbered_row, prefixes_of, row_key}
 use Rattle.nc_round.specs.Waking.{aggregates_of, affected_over, AreWoken}
-use Rattle.nc_round.proofs.NextRows.{prefixes_up}
-use Rattle.nc_round.proofs.NumberedRows.{aggregates_known, more_woken, row_kept, row_woken}
+use Rattle.nc_round.proofs.NumberedRows.{more_woken, row_kept, row_woken}
 use Rattle.nc_round.proofs.waking.wake.Goals as goal
 
 pub get-peerings-requires : goal.get-peerings-requires
@@ -26,9 +25,7 @@ add_affected-requires-clause-noted c = subst (All (IsNumbered c.args.ribs.now.pr
 
 pub add_around-requires-clause-known : goal.add_around-requires-clause-known
 add_around-requires-clause-known c =
-    let network = c.args.inputs.now.network.now in
-    let known : List Cidr → List AggregateStatement → Type 0 = λ ps l. All (λ (a : AggregateStatement). Contains ps a.prefix) l in
-    subst (known c.args.ribs.now.prefixes) (sym c.aggregates_of-aggregates.ensures) (subst (λ (ps : List Cidr). known ps (aggregates_of network c.args.router.0)) (sym c.requires.prefixes) (aggregates_known network c.args.router.0))
+    subst (All (λ (a : AggregateStatement). Contains c.args.ribs.now.prefixes a.prefix)) (sym c.aggregates_of-aggregates.ensures) (c.requires.known c.args.router.0)
 
 pub returns-clause-kept : goal.returns-clause-kept
 returns-clause-kept c k some =
@@ -63,8 +60,7 @@ returns-clause-woken c p some =
 pub returns-clause-rows : goal.returns-clause-rows
 returns-clause-rows c =
     let ps = c.args.ribs.now.prefixes in
-    let up : Ascend ps = subst Ascend (sym c.requires.prefixes) (prefixes_up c.args.inputs.now.network.now) in
     subst (AreWoken (c.args.router.0 + 1) ps) (sym c.in_ok-wake_each.ensures)
-    (more_woken ps c.args.router c.args.woken.now.items c.deref.result.now up c.requires.woken
+    (more_woken ps c.args.router c.args.woken.now.items c.deref.result.now c.requires.ordered c.requires.woken
     (subst (AllPairs (λ (a b : Numbered). a.number < b.number)) (sym c.deref.ensures.value) c.keep_once.ensures.ordered)
     (subst (All (IsNumbered ps)) (sym c.deref.ensures.value) (c.keep_once.ensures.numbers ps c.in_ok-add_around.ensures.numbers)))
