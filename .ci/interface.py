@@ -3,8 +3,8 @@ these name.
 
 A crate above is proved over the contracts of the crates below it and never over their bodies. So what is left out here
 can change below a crate without any effect on what the prover says of it: bodies, private functions, public ones that
-the crate above doesn't name, private fields with the views and invariants of their types, definitions that no contract
-left leads to, and comments. Lemmas that
+the crate above doesn't name, private fields with the views and invariants of their types, calls of a type that neither
+the crate above nor anything left names and as what its values are seen, definitions that no contract left leads to, and comments. Lemmas that
 a crate takes from the proofs below it aren't counted, nor definitions to which these alone lead: where one of them
 changes its statement, the proofs above tell.
 """
@@ -21,6 +21,8 @@ FUNCTION = re.compile(ATTRIBUTES + r"(?:pub(?:\([^)]*\))?\s+)?(?:const\s+)?fn\s+
 TYPE = re.compile(ATTRIBUTES + r"pub (?:struct|enum) (\w+)")
 HIDDEN = re.compile(ATTRIBUTES + r"(?:pub\([^)]*\) )?(?:struct|enum) (\w+)")
 DEFINITIONS = re.compile(r"Rattle\.(nc_\w+)\.specs\.(\w+(?:\.\w+)*)")
+OWN = re.compile(ATTRIBUTES + r"impl\b(?:<[^{]*?>)?\s+(\w+)")
+DECLARED = re.compile(r"\bpub (?:struct|enum) \w+|\b(?:pub|ghost) use [^;]*;|\bimpl\b[^;{]*? for \w+")
 CONSTANT = re.compile(ATTRIBUTES + r"(?:pub\([^)]*\) )?const (\w+)")
 IMPORT = re.compile(r"ghost use Rattle\.nc_\w+\.specs\.[\w.]+?(?:\.\{([^}]*)\}| as (\w+))\s*;")
 
@@ -140,17 +142,23 @@ def shown_impl(item, opened, words):
     """Returns what is seen of an impl: of a trait the signatures and what stands for the prover, else what is public
     and named.
 
-    >>> shown_impl('impl Model for A { ghost Value = { V }; ghost view = { v }; }', set(), set())
+    >>> shown_impl('impl Model for A { ghost Value = { V }; ghost view = { v }; }', set(), {'A'})
     'impl Model for A ghost Value = { V };'
-    >>> shown_impl('impl A { fn b(); }', set(), {'.b'}), shown_impl('impl A { pub fn b(); }', set(), {'b'})
+    >>> shown_impl('impl Model for A { ghost Value = { V }; ghost view = { v }; }', set(), {'B'})
+    ''
+    >>> shown_impl('impl A { fn b(); }', set(), {'A', '.b'}), shown_impl('impl A { pub fn b(); }', set(), {'A', 'b'})
     ('', '')
+    >>> shown_impl("impl<'a> A<'a> { pub fn b(); }", set(), {'A', '.b'}), shown_impl('impl A { pub fn b(); }', set(), {'.b'})
+    ("impl<'a> A<'a> pub fn b();", '')
     """
     start, inside = body_of(item)
     head = item[:start]
     rows = [it for it in items_of(inside) if not it.startswith("ghost use")]
     model = re.search(r"\bModel for (\w+)", head)
     if model and model.group(1) not in opened:
-        rows = [it for it in rows if it.startswith("ghost Value")]
+        rows = [it for it in rows if it.startswith("ghost Value") and model.group(1) in words]
+    elif " for " not in head and OWN.match(head).group(1) not in words:
+        rows = []
     elif " for " not in head:
         rows = [it for it in rows if re.match(ATTRIBUTES + r"pub (?!\()", it) and is_asked(it, words, ".")]
     seen = " ".join(it[:body_of(it)[0]] if FUNCTION.match(it) else it for it in rows)
@@ -239,6 +247,20 @@ def code_of(name):
     """Returns the items of each file of a crate."""
     files = sorted(glob.glob(f"{ROOT}/crates/{name}/src/**/*.rt", recursive=True))
     return {file: items_of(blanked(read(file))) for file in files}
+
+
+def shown_below(names, words):
+    """Returns what is seen of the code of each of some crates by one above all of them that has these words.
+
+    What is seen names types too, beside those that it declares or hands on, and of these it is seen as what their values
+    are seen.
+    """
+    while True:
+        texts = [shown(it, words) for it in names]
+        more = {word for text in texts for word in re.findall(r"\b[A-Z]\w*", DECLARED.sub("", text))} - words
+        if not more:
+            return texts
+        words = words | more
 
 
 def shown(name, words):

@@ -1,4 +1,5 @@
 pub mod Making
+pub mod Bare
 pub mod Picking
 pub mod Distinct
 pub mod Processes

@@ -8,7 +8,7 @@ ghost use Rattle.nc_tables.specs.LocRibs.{IsNumbered};
 ghost use Rattle.nc_tables.specs.Rounds.{entry_at, made_from};
 ghost use Rattle.nc_sessions.specs.Views.{link_view};
 ghost use Rattle.nc_decision.specs.BestPath.{best_among, best_from, best_with, better_of, stays_beside, IsOutranked};
-ghost use Rattle.nc_decision.specs.SessionMaps.{AreMapsOf};
+ghost use Rattle.nc_decision.specs.SessionMaps.{highest_from_outside};
 ghost use Rattle.nc_message.specs.Inputs.{AreRoutingInputs, IsOf};
 ghost use Rattle.nc_decision.specs.Peerings.{ArePeerings, IsPeering};
 
@@ -19,12 +19,15 @@ use crate::rows::best_of;
 use nc_message::RoutingInputs;
 use nc_select::preference_cmp;
 use nc_tables::{LocRibs, Numbered, RibEntry};
-use nc_types::{Neighbor, RouterId};
+use nc_types::{Process, RouterId};
 
 // Whether the best so far beats what may be learnt over a session of the peer's candidate, whatever the
 // maps on its way: then no map runs.
 fn is_outranked_by(best: &Option<FeasibleRoute<'_>>, peering: &Peering<'_>, sent: &RibEntry) -> bool
-    requires { AreMapsOf (link_view peering.now.adjacency.link) peering.now.maps }
+    requires highest { peering.now.highest
+        ≡ highest_from_outside (link_view peering.now.adjacency.link) }
+    requires bare { IfSome peering.now.bare
+        (λ b. peering.now.adjacency.link.session.internal ≡ false) }
     ensures { result ≡ true → MatchOption best.now (false ≡ true)
         (λ b. IsOutranked b (link_view peering.now.adjacency.link) sent.now) }
 {
@@ -72,8 +75,7 @@ fn prefer<'a>(
         inputs.now.sessions.now ribs.now.rows router.0 peering.now.place of.now.prefix) best.old }
     ensures own { IfSome best.old (IsOf of.now.prefix) → IfSome best.new (IsOf of.now.prefix) }
 {
-    let link = &peering.adjacency.link;
-    let Some(sent) = best_of(ribs, link.session.peer, *of) else {
+    let Some(sent) = best_of(ribs, peering.peer, *of) else {
         return;
     };
     if is_outranked_by(&*best, peering, sent) {
@@ -101,7 +103,7 @@ fn prefer_at<'a>(
     requires peerings { ArePeerings inputs.now.network.now inputs.now.base.now
         inputs.now.sessions.now router.0 peerings.now }
     requires ribs { length ribs.now.rows ≡ length inputs.now.network.now }
-    requires place { place < length peerings.now }
+    requires place { place < length peerings.now.sessions }
     requires number { IsNumbered ribs.now.prefixes of.now }
     ensures best { best.new ≡ best_with (entry_at inputs.now.network.now inputs.now.base.now
         inputs.now.sessions.now ribs.now.rows router.0 place of.now.prefix) best.old }
@@ -113,29 +115,29 @@ fn prefer_at<'a>(
     prefer(best, inputs, ribs, router, peering, of);
 }
 
-/// The best of what a router learns of a prefix by its neighbor statements.
+/// The best of what a router learns of a prefix by the neighbor statements of its process.
 pub(crate) fn best_learnt<'a>(
     inputs: &RoutingInputs<'a>,
     peerings: &'a Peerings<'a>,
     ribs: &'a LocRibs,
     router: RouterId,
-    neighbors: &[Neighbor],
+    process: &Process,
     of: &Numbered,
 ) -> Option<FeasibleRoute<'a>>
     requires inputs { AreRoutingInputs inputs.now }
     requires peerings { ArePeerings inputs.now.network.now inputs.now.base.now
         inputs.now.sessions.now router.0 peerings.now }
-    requires all { length peerings.now ≡ length neighbors.now }
+    requires all { length peerings.now.sessions ≡ length process.now.neighbors.items }
     requires ribs { length ribs.now.rows ≡ length inputs.now.network.now }
     requires number { IsNumbered ribs.now.prefixes of.now }
-    requires few { length neighbors.now < 2 ^ 32 }
+    requires few { length process.now.neighbors.items < 2 ^ 32 }
     ensures best { result ≡ best_among (made_from (λ place n. entry_at inputs.now.network.now
         inputs.now.base.now inputs.now.sessions.now ribs.now.rows router.0 place of.now.prefix) 0
-        neighbors.now) }
+        process.now.neighbors.items) }
     ensures own { IfSome result (IsOf of.now.prefix) }
 {
     let mut best = None;
-    let mut place = neighbors.len();
+    let mut place = peerings.count();
     'neighbors: while place > 0 {
         place -= 1;
         prefer_at(&mut best, inputs, peerings, ribs, router, place, of);

@@ -1,16 +1,17 @@
 //! What neighbors say now, that may change what is chosen.
 
-ghost use Rattle.std.specs.Prelude.{◌≡◌, ◌<◌, ◌++◌, All, filter, length, not, true, OnOk};
+ghost use Rattle.std.specs.Prelude.{◌≡◌, ◌<◌, ◌++◌, All, false, filter, length, not, true, IfSome, OnOk};
 ghost use Rattle.std.specs.List.{list_any};
 ghost use Rattle.std.specs.Option.{option_map, option_map_or};
 ghost use Rattle.nc_types.specs.Config.{process_view};
 ghost use Rattle.nc_tables.specs.Choice.{is_learnt};
 ghost use Rattle.nc_tables.specs.LocRibs.{IsNumbered};
 ghost use Rattle.nc_tables.specs.Rounds.{entry_at};
+ghost use Rattle.nc_tables.specs.Sessions.{process_of};
 ghost use Rattle.nc_sessions.specs.Views.{link_view};
 ghost use Rattle.nc_message.specs.Inputs.{AreRoutingInputs};
 ghost use Rattle.nc_decision.specs.BestPath.{is_beaten, is_from, leaves_best_path, IsOutranked};
-ghost use Rattle.nc_decision.specs.SessionMaps.{AreMapsOf};
+ghost use Rattle.nc_decision.specs.SessionMaps.{highest_from_outside};
 ghost use Rattle.nc_decision.specs.Peerings.{ArePeerings, IsPeering, IsPeeringAt};
 
 use crate::compared::Compared;
@@ -54,18 +55,20 @@ fn is_learnt(from: BgpFrom) -> bool
 /// candidate, whatever the maps on its way: by its path, and by its preference, above which none is
 /// accepted over the session.
 pub(crate) fn is_outranked<C: Candidate>(best: &C, peering: &Peering<'_>, sent: &RibEntry) -> bool
-    requires { AreMapsOf (link_view peering.now.adjacency.link) peering.now.maps }
+    requires highest { peering.now.highest
+        ≡ highest_from_outside (link_view peering.now.adjacency.link) }
+    requires bare { IfSome peering.now.bare
+        (λ b. peering.now.adjacency.link.session.internal ≡ false) }
     ensures { result ≡ true
         → IsOutranked (C.candidate_of best.now) (link_view peering.now.adjacency.link) sent.now }
 {
-    let link = &peering.adjacency.link;
-    if link.session.internal {
+    if peering.is_internal() {
         return false;
     }
-    if sent.path().len() < best.path_length() {
+    if sent.path_length() < best.path_length() {
         return false;
     }
-    !is_learnt(best.from()) || best.preference() >= peering.maps.highest
+    !is_learnt(best.from()) || best.preference() >= peering.highest
 }
 
 // Whether the best candidate beats a feasible route: it is preferred, and the other isn't used
@@ -104,8 +107,7 @@ fn cannot_win<'a>(
         (entry_at inputs.now.network.now inputs.now.base.now inputs.now.sessions.now
         ribs.now.rows router.0 peering.now.place of.now.prefix) true }
 {
-    let link = &peering.adjacency.link;
-    let Some(sent) = best_of(ribs, link.session.peer, *of) else {
+    let Some(sent) = best_of(ribs, peering.peer, *of) else {
         return true;
     };
     if is_outranked(best, peering, sent) {
@@ -118,14 +120,15 @@ fn cannot_win<'a>(
 }
 
 // Whether what a router learns now of a prefix by the neighbor statement at a place, whose session
-// this is, leaves what stands chosen as it is: something stands chosen, nothing of it comes from the
-// neighbor, and the neighbor's message isn't accepted, or the best that stands beats what is learnt
-// from it.
+// this is, leaves what its process, which this is, has chosen as it is: something stands chosen,
+// nothing of it comes from the neighbor, and the neighbor's message isn't accepted, or the best that
+// stands beats what is learnt from it.
 fn leaves_best_path(
     inputs: &RoutingInputs<'_>,
     ribs: &LocRibs,
     router: RouterId,
     place: u32,
+    process: Option<&Process>,
     peering: Option<&Peering<'_>>,
     of: &Numbered,
 ) -> bool
@@ -133,6 +136,8 @@ fn leaves_best_path(
     requires ribs { length ribs.now.rows ≡ length inputs.now.network.now }
     requires router { router.0 < length inputs.now.network.now }
     requires number { IsNumbered ribs.now.prefixes of.now }
+    requires process { option_map (λ p. process_view p.now) process
+        ≡ process_of inputs.now.network.now router.0 }
     requires peering { IsPeeringAt inputs.now.network.now inputs.now.base.now
         inputs.now.sessions.now router.0 place (option_map (λ p. p.now) peering) }
     ensures { result ≡ leaves_best_path inputs.now.network.now inputs.now.base.now inputs.now.sessions.now
@@ -145,7 +150,7 @@ fn leaves_best_path(
     if has_from(chosen, place) {
         return false;
     }
-    let Some(process) = &inputs.network.routers()[router.0 as usize].process else {
+    let Some(process) = process else {
         return false;
     };
     let Some(peering) = peering else {
@@ -182,9 +187,10 @@ pub fn add_counting(
         ++ filter (λ n. not (leaves_best_path inputs.now.network.now inputs.now.base.now
         inputs.now.sessions.now ribs.now.rows router.0 place n.prefix)) changed.now) }
 {
+    let process = peerings.process();
     let peering = peerings.get(place);
     'changed: for of in changed {
-        if !leaves_best_path(inputs, ribs, router, place, peering, of) {
+        if !leaves_best_path(inputs, ribs, router, place, process, peering, of) {
             noted.push(*of)?;
         }
     }

@@ -140,7 +140,7 @@ fn learnt_at<'a>(
     requires peerings { ArePeerings inputs.now.network.now inputs.now.base.now
         inputs.now.sessions.now router.0 peerings.now }
     requires ribs { length ribs.now.rows ≡ length inputs.now.network.now }
-    requires place { place < length peerings.now }
+    requires place { place < length peerings.now.sessions }
     requires number { IsNumbered ribs.now.prefixes of.now }
     ensures feasible { result ≡ entry_at inputs.now.network.now inputs.now.base.now
         inputs.now.sessions.now ribs.now.rows router.0 place of.now.prefix }
@@ -164,7 +164,7 @@ fn add_entry<'a>(
     requires peerings { ArePeerings inputs.now.network.now inputs.now.base.now
         inputs.now.sessions.now router.0 peerings.now }
     requires ribs { length ribs.now.rows ≡ length inputs.now.network.now }
-    requires place { place < length peerings.now }
+    requires place { place < length peerings.now.sessions }
     requires number { IsNumbered ribs.now.prefixes of.now }
     ensures made { OnOk result (candidates.new.items ≡ candidates.old.items
         ++ option_to_list (entry_at inputs.now.network.now inputs.now.base.now
@@ -194,7 +194,7 @@ fn add_entries<'a>(
     requires inputs { AreRoutingInputs inputs.now }
     requires peerings { ArePeerings inputs.now.network.now inputs.now.base.now
         inputs.now.sessions.now router.0 peerings.now }
-    requires all { length peerings.now ≡ length neighbors.now }
+    requires all { length peerings.now.sessions ≡ length neighbors.now }
     requires ribs { length ribs.now.rows ≡ length inputs.now.network.now }
     requires number { IsNumbered ribs.now.prefixes of.now }
     requires few { length neighbors.now < 2 ^ 32 }

@@ -21,24 +21,6 @@ use nc_tables::{LocRibs, Numbered, RecentAttributes, RibEntries, RibEntry};
 use nc_types::{Process, RouterId};
 use std::alloc::{AllocError, Global};
 
-// A candidate made in memory, which shares what a recent one has in common with it. Of one that no map
-// changed nothing is made where that is all.
-fn make(
-    alloc: Global,
-    recent: &mut RecentAttributes,
-    candidate: &FeasibleRoute<'_>,
-) -> Result<RibEntry, AllocError>
-    ensures { IfOk result (λ made. made ≡ candidate.now) }
-{
-    if let Some(learnt) = candidate.plain() {
-        let entry = recent.learnt(alloc, &learnt)?;
-        return Ok(entry);
-    }
-    let made = candidate.made(alloc)?;
-    let entry = recent.entry(alloc, made)?;
-    Ok(entry)
-}
-
 // The candidates that stand at these places, in the places' order, made in memory.
 fn made_at(
     alloc: Global,
@@ -53,7 +35,7 @@ fn made_at(
     'places: for place in places {
         let place = *place as usize;
         if place < candidates.len() {
-            let entry = make(alloc, recent, &candidates[place])?;
+            let entry = candidates[place].entry(alloc, recent)?;
             made.push(entry)?;
         }
     }
@@ -71,7 +53,7 @@ fn alone(
     let Some(best) = best else {
         return Ok(RibEntries::none());
     };
-    let entry = make(alloc, recent, best)?;
+    let entry = best.entry(alloc, recent)?;
     Ok(RibEntries::one(entry))
 }
 
@@ -105,8 +87,7 @@ fn best_alone<'a>(
     ensures few { IfOk result (λ chosen. length chosen ≤ MULTIPATH_LIMIT) }
 {
     let begun = begun_routes(alloc, inputs, ribs, router, process, of.prefix)?;
-    let neighbors = &process.neighbors;
-    let mut best = best_learnt(inputs, peerings, ribs, router, neighbors, of);
+    let mut best = best_learnt(inputs, peerings, ribs, router, process, of);
     prefer_each(&mut best, begun);
     let chosen = alone(alloc, recent, &best)?;
     Ok(chosen)
@@ -140,7 +121,7 @@ fn chosen_by(
     ensures own { IfOk result (λ chosen. All (λ x. x.route.prefix ≡ of.now.prefix) chosen) }
     ensures few { IfOk result (λ chosen. length chosen ≤ MULTIPATH_LIMIT) }
 {
-    if process.max_paths == 1 {
+    if peerings.is_single() {
         let chosen = best_alone(alloc, inputs, peerings, ribs, router, process, of, recent)?;
         return Ok(chosen);
     }
@@ -182,7 +163,8 @@ pub fn chosen_anew(
     ensures few { IfOk result (λ chosen. length chosen ≤ MULTIPATH_LIMIT) }
 {
     let _count = inputs.network.element_count();
-    let Some(process) = &inputs.network.routers()[router.0 as usize].process else {
+    let _routers = inputs.network.routers();
+    let Some(process) = peerings.process() else {
         return Ok(RibEntries::none());
     };
     let chosen = chosen_by(alloc, inputs, peerings, ribs, router, process, of, recent)?;

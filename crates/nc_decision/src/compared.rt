@@ -47,7 +47,7 @@ impl<'a> Candidate for Compared<'a> {
 
     fn path_length(&self) -> usize {
         match self {
-            Compared::Standing(chosen) => chosen.path().len(),
+            Compared::Standing(chosen) => chosen.path_length(),
             Compared::New(feasible) => feasible.path_length(),
         }
     }

@@ -1,14 +1,17 @@
 //! A feasible route: a candidate of a prefix as the decision process has it, not in memory
 //! (RFC 4271, 9.1).
 
-ghost use Rattle.std.specs.Prelude.{◌≡◌, ◌≤◌, length, IfOk, IfSome};
+ghost use Rattle.std.specs.Prelude.{◌≡◌, ◌+◌, ◌<◌, ℕ, List, length, IfOk, IfSome};
 ghost use Rattle.std.specs.Str.{bytes_eq};
 ghost use Rattle.nc_types.specs.declared.TheConstants.{PATH_LIMIT};
 ghost use Rattle.nc_tables.specs.LearntView.{learnt_view, path_after};
 ghost use Rattle.nc_tables.specs.LocRibs.{IsNumbered};
 ghost use Rattle.std.specs.Option.{option_and_then, option_map};
-ghost use Rattle.nc_tables.specs.Rounds.{accepted_of, begun, entry_at, learnt_from, message_of};
+ghost use Rattle.nc_tables.specs.declared.base.BaseRow.{BaseRow};
+ghost use Rattle.nc_tables.specs.Rounds.{accepted_of, begun, entry_at, learnt_from, message_of, Link};
 ghost use Rattle.nc_sessions.specs.Views.{link_view};
+ghost use Rattle.nc_decision.specs.Bare.{bare_from, IsBare};
+ghost use Rattle.nc_decision.specs.Draft.{draft_view, IsShort};
 ghost use Rattle.nc_decision.specs.Peerings.{IsPeering};
 ghost use Rattle.nc_message.specs.Inputs.{AreRoutingInputs, IsOf};
 ghost use Rattle.nc_message.specs.Views.{accepted_view, advertised, learnt_as, HasId, IsAccepted};
@@ -16,14 +19,16 @@ ghost use Rattle.nc_message.specs.Views.{accepted_view, advertised, learnt_as, H
 use crate::learnt::{
     Walk, learnt_from, length_of, metric_of, origin_of, plainly_learnt, preference_of, sender_id,
 };
-use crate::peerings::Peering;
+use crate::peerings::{Bare, Peering};
 use crate::rows::best_of;
 use nc_message::{
     AdvertisedRoute, LearntRoute, RoutingInputs, holds_receiver, passed_into, sent_out,
 };
 use nc_select::Candidate;
-use nc_tables::{BgpFrom, Chosen, Learnt, LocRibs, Numbered, Path, RibEntry, Route};
-use nc_types::{Addr, Communities, DEFAULT_PREFERENCE, OriginCode, Prefix, RouterId};
+use nc_tables::{
+    BgpFrom, Chosen, Learnt, LocRibs, Numbered, Path, RecentAttributes, RibEntry, Route,
+};
+use nc_types::{Addr, Communities, DEFAULT_PREFERENCE, OriginCode, PATH_LIMIT, Prefix, RouterId};
 use std::alloc::{AllocError, Global};
 use std::marker::Model;
 
@@ -32,12 +37,15 @@ use std::marker::Model;
 enum Way<'a> {
     // The router begins the prefix, by a network or an aggregate.
     Begun(Prefix, BgpFrom),
+    // It comes over the session of the neighbor statement at a place, on whose way nothing stands, and is
+    // the peer's best candidate but for what is known of the session.
+    Bare(u32, &'a Bare, &'a RibEntry),
     // It was accepted over the neighbor statement at a place.
     Learnt(u32, LearntRoute<'a>),
 }
 
 /// A candidate of a prefix: a network or an aggregate of the router, or what was accepted over a
-/// neighbor statement. It stands for the candidate that [`FeasibleRoute::made`] makes of it in memory.
+/// neighbor statement. It stands for the candidate that [`FeasibleRoute::entry`] makes of it in memory.
 #[derive(Drop)]
 pub(crate) struct FeasibleRoute<'a> {
     way: Way<'a>,
@@ -76,6 +84,61 @@ fn begun(alloc: Global, prefix: Prefix, from: BgpFrom) -> Chosen
     }
 }
 
+// The candidate that is learnt over a session on whose way nothing stands, without memory.
+fn bare_learnt<'a>(place: u32, bare: &Bare, best: &'a RibEntry) -> Learnt<'a>
+    ensures same { learnt_view result ≡ bare_from place bare.now best.entry.now }
+    ensures path { length (path_after result.system result.path.now)
+        ≡ length best.entry.now.route.path + 1 }
+{
+    let communities = if bare.carries {
+        Some(best.communities())
+    } else {
+        None
+    };
+    Learnt {
+        prefix: best.prefix(),
+        system: Some(bare.sender),
+        path: best.path(),
+        communities,
+        next_hop: bare.source,
+        preference: DEFAULT_PREFERENCE,
+        metric: 0,
+        origin: best.origin(),
+        from: BgpFrom::Entry(place),
+        internal: false,
+        sender_id: bare.sender_id,
+        sender: bare.sender_addr,
+    }
+}
+
+// A candidate on the way into memory: one that takes none where a recent one is like it, or one that is
+// made.
+#[derive(Drop)]
+enum Draft<'a> {
+    Plain(Learnt<'a>),
+    Made(Chosen),
+}
+
+// What was accepted over the neighbor statement at a place. Where a map changed its path or its
+// communities, it is made.
+fn accepted_draft<'a>(
+    alloc: Global,
+    place: u32,
+    taken: &LearntRoute<'a>,
+) -> Result<Draft<'a>, AllocError>
+    requires taken { IsAccepted (learnt_as taken.now) }
+    requires sender { HasId (advertised taken.now.sent) }
+    ensures same { IfOk result
+        (λ d. draft_view d ≡ learnt_from place (accepted_view (learnt_as taken.now))) }
+    ensures short { IfOk result IsShort }
+{
+    if let Some(learnt) = plainly_learnt(place, taken) {
+        return Ok(Draft::Plain(learnt));
+    }
+    let made = learnt_from(alloc, place, taken)?;
+    Ok(Draft::Made(made))
+}
+
 impl<'a> FeasibleRoute<'a> {
     /// The candidate of a prefix that a router itself begins.
     pub(crate) fn begun(prefix: Prefix, from: BgpFrom) -> FeasibleRoute<'a>
@@ -97,29 +160,46 @@ impl<'a> FeasibleRoute<'a> {
         }
     }
 
-    /// The candidate in memory.
+    /// The candidate that is learnt of the peer's best candidate over a session on whose way nothing
+    /// stands, by the neighbor statement at a place.
+    pub(crate) fn bare(place: u32, bare: &'a Bare, best: &'a RibEntry) -> FeasibleRoute<'a>
+        requires { length best.now.route.path < PATH_LIMIT }
+        ensures { result ≡ bare_from place bare.entry.now best.entry.now }
+    {
+        FeasibleRoute {
+            way: Way::Bare(place, bare, best),
+        }
+    }
+
+    // The candidate on the way into memory.
+    fn draft(&self, alloc: Global) -> Result<Draft<'a>, AllocError>
+        ensures same { IfOk result (λ d. draft_view d ≡ self.now) }
+        ensures short { IfOk result IsShort }
+    {
+        match &self.way {
+            Way::Begun(prefix, from) => Ok(Draft::Made(begun(alloc, *prefix, *from))),
+            Way::Bare(place, bare, best) => Ok(Draft::Plain(bare_learnt(*place, bare, best))),
+            Way::Learnt(place, taken) => accepted_draft(alloc, *place, taken),
+        }
+    }
+
+    /// The candidate in memory, which shares what a recent one has in common with it.
     ///
     /// # Errors
     ///
     /// Memory that runs out.
-    pub(crate) fn made(&self, alloc: Global) -> Result<Chosen, AllocError>
+    pub(crate) fn entry(
+        &self,
+        alloc: Global,
+        recent: &mut RecentAttributes,
+    ) -> Result<RibEntry, AllocError>
         ensures { IfOk result (λ made. made ≡ self.now) }
     {
-        match &self.way {
-            Way::Begun(prefix, from) => Ok(begun(alloc, *prefix, *from)),
-            Way::Learnt(place, taken) => Ok(learnt_from(alloc, *place, taken)?),
-        }
-    }
-
-    /// The candidate without memory, where it was learnt and no map changed its path or communities.
-    pub(crate) fn plain(&self) -> Option<Learnt<'a>>
-        ensures same { IfSome result (λ l. learnt_view l ≡ self.now) }
-        ensures short { IfSome result (λ l. length (path_after l.system l.path.now) ≤ PATH_LIMIT) }
-    {
-        match &self.way {
-            Way::Begun(_, _) => None,
-            Way::Learnt(place, taken) => plainly_learnt(*place, taken),
-        }
+        let entry = match self.draft(alloc)? {
+            Draft::Plain(learnt) => recent.learnt(alloc, &learnt)?,
+            Draft::Made(made) => recent.entry(alloc, made)?,
+        };
+        Ok(entry)
     }
 
     /// Along its path.
@@ -128,6 +208,7 @@ impl<'a> FeasibleRoute<'a> {
     {
         match &self.way {
             Way::Begun(_, _) => Walk::none(),
+            Way::Bare(_, bare, best) => Walk::behind(bare.sender, best.path()),
             Way::Learnt(_, taken) => Walk::along(taken),
         }
     }
@@ -153,6 +234,7 @@ impl<'a> Candidate for FeasibleRoute<'a> {
     fn from(&self) -> BgpFrom {
         match &self.way {
             Way::Begun(_, from) => *from,
+            Way::Bare(place, _, _) => BgpFrom::Entry(*place),
             Way::Learnt(place, _) => BgpFrom::Entry(*place),
         }
     }
@@ -160,6 +242,7 @@ impl<'a> Candidate for FeasibleRoute<'a> {
     fn preference(&self) -> u32 {
         match &self.way {
             Way::Begun(_, _) => DEFAULT_PREFERENCE,
+            Way::Bare(_, _, _) => DEFAULT_PREFERENCE,
             Way::Learnt(_, taken) => preference_of(taken),
         }
     }
@@ -167,6 +250,7 @@ impl<'a> Candidate for FeasibleRoute<'a> {
     fn path_length(&self) -> usize {
         match &self.way {
             Way::Begun(_, _) => 0,
+            Way::Bare(_, _, best) => 1 + best.path_length(),
             Way::Learnt(_, taken) => length_of(taken),
         }
     }
@@ -174,6 +258,7 @@ impl<'a> Candidate for FeasibleRoute<'a> {
     fn origin(&self) -> OriginCode {
         match &self.way {
             Way::Begun(_, _) => OriginCode::Igp,
+            Way::Bare(_, _, best) => best.origin(),
             Way::Learnt(_, taken) => origin_of(taken),
         }
     }
@@ -181,6 +266,7 @@ impl<'a> Candidate for FeasibleRoute<'a> {
     fn metric(&self) -> u32 {
         match &self.way {
             Way::Begun(_, _) => 0,
+            Way::Bare(_, _, _) => 0,
             Way::Learnt(_, taken) => metric_of(taken),
         }
     }
@@ -188,6 +274,7 @@ impl<'a> Candidate for FeasibleRoute<'a> {
     fn is_internal(&self) -> bool {
         match &self.way {
             Way::Begun(_, _) => false,
+            Way::Bare(_, _, _) => false,
             Way::Learnt(_, taken) => taken.sent.link.session.internal,
         }
     }
@@ -195,6 +282,7 @@ impl<'a> Candidate for FeasibleRoute<'a> {
     fn sender_id(&self) -> Addr {
         match &self.way {
             Way::Begun(_, _) => Addr(0),
+            Way::Bare(_, bare, _) => bare.sender_id,
             Way::Learnt(_, taken) => sender_id(&taken.sent),
         }
     }
@@ -202,6 +290,7 @@ impl<'a> Candidate for FeasibleRoute<'a> {
     fn sender(&self) -> Addr {
         match &self.way {
             Way::Begun(_, _) => Addr(0),
+            Way::Bare(_, bare, _) => bare.sender_addr,
             Way::Learnt(_, taken) => {
                 let link = taken.sent.link;
                 link.receiver.statement.addr
@@ -214,9 +303,27 @@ impl<'a> Candidate for FeasibleRoute<'a> {
     }
 }
 
+// The candidate that a router learns over a session on whose way nothing stands, of its peer's best
+// candidate; `None` where the path of that holds the receiver's system, or has no room for the sender's.
+fn feasible_bare<'a>(place: u32, bare: &'a Bare, best: &'a RibEntry) -> Option<FeasibleRoute<'a>>
+    ensures feasible { (tables : List (List BaseRow)) (router : ℕ) (k : Link)
+        → IsBare tables router k bare.entry.now → result ≡ option_map (learnt_from place)
+        (option_and_then (accepted_of tables router) (message_of k best.entry.now)) }
+    ensures own { IfSome result (λ x. x.route.prefix ≡ best.entry.now.route.prefix) }
+{
+    if best.path().contains(bare.receiver) {
+        return None;
+    }
+    if best.path_length() >= PATH_LIMIT {
+        return None;
+    }
+    Some(FeasibleRoute::bare(place, bare, best))
+}
+
 /// The candidate that a router learns over a session of its peer's best candidate; `None` where
-/// nothing is accepted, as [`nc_message::accepted_at`] tells it. What maps decide on its prefix is looked
-/// for at a number first. Takes no memory.
+/// nothing is accepted, as [`nc_message::accepted_at`] tells it. Where nothing stands on the way, it is
+/// told by the candidate's path alone; else what maps decide on its prefix is looked for at a number
+/// first. Takes no memory.
 pub(crate) fn feasible_over<'a>(
     inputs: &RoutingInputs<'a>,
     router: RouterId,
@@ -232,6 +339,9 @@ pub(crate) fn feasible_over<'a>(
         (message_of (link_view peering.now.adjacency.link) best.entry.now)) }
     ensures own { IfSome result (λ x. x.route.prefix ≡ best.entry.now.route.prefix) }
 {
+    if let Some(bare) = &peering.bare {
+        return feasible_bare(peering.place, bare, best);
+    }
     let adjacency = &peering.adjacency;
     let link = &adjacency.link;
     if holds_receiver(link, best) {
@@ -266,7 +376,7 @@ pub(crate) fn feasible_by<'a>(
         inputs.now.sessions.now ribs.now.rows router.0 peering.now.place of.now.prefix }
     ensures own { IfSome result (IsOf of.now.prefix) }
 {
-    let best = best_of(ribs, peering.adjacency.link.session.peer, *of)?;
+    let best = best_of(ribs, peering.peer, *of)?;
     let feasible = feasible_over(inputs, router, peering, best, of.number)?;
     Some(feasible)
 }

@@ -1,6 +1,6 @@
 //! What is learnt by what was accepted: field by field without memory, or made in memory.
 
-ghost use Rattle.std.specs.Prelude.{◌≡◌, ◌≤◌, ◌+◌, ◌++◌, ℕ, List, [], None, Some, true, drop, if◌then◌else◌, length, slice_get, IfOk, IfSome};
+ghost use Rattle.std.specs.Prelude.{◌≡◌, ◌≤◌, ◌+◌, ◌++◌, ◌∷◌, ℕ, List, [], None, Some, true, drop, if◌then◌else◌, length, slice_get, IfOk, IfSome};
 ghost use Rattle.std.specs.Option.{option_map_or};
 ghost use Rattle.nc_tables.specs.LearntView.{learnt_view, path_after};
 ghost use Rattle.nc_policy.specs.Passing.{communities_by};
@@ -298,6 +298,18 @@ impl<'a> Walk<'a> {
         Walk {
             before: &[],
             sender: None,
+            behind: &[],
+            own: path.numbers(),
+        }
+    }
+
+    /// Along a number and the path of a route that stands.
+    pub(crate) fn behind(number: u32, path: &'a Path) -> Walk<'a>
+        ensures { result ≡ number ∷ path.now }
+    {
+        Walk {
+            before: &[],
+            sender: Some(number),
             behind: &[],
             own: path.numbers(),
         }

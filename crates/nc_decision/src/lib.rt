@@ -6,8 +6,10 @@
 //! preference, nor for a path that holds the router's own system. Of a route that no map changed
 //! nothing is made where an entry like it is remembered. The sessions are found once, as
 //! [`NetworkPeerings`], each with where its two maps stand and how high a preference is accepted over
-//! it: no message looks up its session or a map by its name. [`add_counting`] tells by a look at the
-//! best path that stands which messages of a neighbor can't change it.
+//! it: no message looks up its session or a map by its name. Where nothing stands on the way of a session
+//! from another system, no map and no aggregate of the sender, all that a message asks of its ends stands
+//! in one small record. [`add_counting`] tells by a look at the best path that stands which messages of a
+//! neighbor can't change it.
 //!
 //! The crate stands on `nc_types` for the network, on `nc_tables` for the tables and the definitions,
 //! on `nc_sessions` for the ends of a session, on `nc_policy` for the tables of maps, on `nc_message`

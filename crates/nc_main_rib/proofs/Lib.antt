@@ -2,5 +2,7 @@ pub mod Ascending
 pub mod Activity
 pub mod Parts
 pub mod ByTurns
+pub mod Places
+pub mod Alone
 pub mod Tabling
 pub mod Counting

@@ -1,14 +1,14 @@
-//! The main rows of one prefix.
+//! The main rows of one prefix, and those of BGP rows that stand alone.
 
-ghost use Rattle.std.specs.Prelude.{◌≡◌, ◌+◌, ◌++◌, ◌^◌, ◌<◌, ◌≤◌, ℕ, [], length, map, OnOk};
+ghost use Rattle.std.specs.Prelude.{◌≡◌, ◌+◌, ◌++◌, ◌-◌, ◌^◌, ◌<◌, ◌≤◌, ℕ, [], All, drop, length, map, take, OnOk};
 ghost use Rattle.std.specs.List.{range_with_len};
 ghost use Rattle.std.specs.Option.{option_map, option_map_or};
 ghost use Rattle.nc_types.specs.Cidr.{Cidr};
 ghost use Rattle.nc_types.specs.declared.TheConstants.{MULTIPATH_LIMIT};
-ghost use Rattle.nc_tables.specs.Main.{nearer};
-ghost use Rattle.nc_main_rib.specs.Sides.{base_rows, bgp_rows, learnt_row, first_distance, stands};
+ghost use Rattle.nc_tables.specs.Main.{learnt_rows, nearer};
+ghost use Rattle.nc_main_rib.specs.Sides.{base_rows, bgp_rows, learnt_of, learnt_row, first_distance, stands};
 
-use nc_tables::{BaseRow, LOCAL_DISTANCE, MainFrom, MainRow, RibEntries};
+use nc_tables::{BaseRow, BgpRow, LOCAL_DISTANCE, MainFrom, MainRow, RibEntries};
 use nc_types::Prefix;
 use std::alloc::AllocError;
 
@@ -25,16 +25,6 @@ fn bgp_distance(discard: Option<u32>, chosen: Option<&RibEntries>) -> Option<u8>
     }
     let chosen = chosen?;
     chosen.learnt_distance()
-}
-
-// How many candidates are chosen.
-fn count_of(chosen: Option<&RibEntries>) -> usize
-    ensures { result ≡ length (option_map_or (λ c. c.now) chosen.entry []) }
-{
-    match chosen {
-        Some(chosen) => chosen.as_slice().len(),
-        None => 0,
-    }
 }
 
 // The distance of the base rows of a prefix.
@@ -103,6 +93,42 @@ fn add_learnt(
     Ok(())
 }
 
+// Adds what was learnt of a prefix, of which this is chosen.
+fn add_chosen(
+    main: &mut Vec<MainRow>,
+    prefix: Prefix,
+    chosen: &RibEntries,
+) -> Result<(), AllocError>
+    requires { length chosen.now ≤ MULTIPATH_LIMIT }
+    ensures { OnOk result (main.new.items ≡ main.old.items ++ learnt_rows prefix chosen.now) }
+{
+    let Some(distance) = chosen.learnt_distance() else {
+        return Ok(());
+    };
+    add_learnt(main, prefix, distance, chosen.as_slice().len())?;
+    Ok(())
+}
+
+/// Adds what was learnt of the prefixes of some BGP rows, from a place of the table up to another, which have
+/// neither base rows nor a discard.
+pub(crate) fn add_alone(
+    main: &mut Vec<MainRow>,
+    rows: &[BgpRow],
+    from: usize,
+    to: usize,
+) -> Result<(), AllocError>
+    requires few { All (λ row. length row.chosen ≤ MULTIPATH_LIMIT) rows.now }
+    requires ordered { from ≤ to }
+    requires within { to ≤ length rows.now }
+    ensures { OnOk result (main.new.items ≡ main.old.items ++ learnt_of (take (to - from) (drop from rows.now))) }
+{
+    let alone = &rows[from..to];
+    'rows: for row in alone {
+        add_chosen(main, row.prefix, &row.chosen)?;
+    }
+    Ok(())
+}
+
 // Adds what BGP has of a prefix.
 fn add_bgp(
     main: &mut Vec<MainRow>,
@@ -122,9 +148,9 @@ fn add_bgp(
         })?;
         return Ok(());
     }
-    match bgp_distance(None, chosen) {
-        Some(distance) => {
-            add_learnt(main, prefix, distance, count_of(chosen))?;
+    match chosen {
+        Some(chosen) => {
+            add_chosen(main, prefix, chosen)?;
             Ok(())
         }
         None => Ok(()),

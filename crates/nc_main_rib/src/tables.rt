@@ -8,11 +8,11 @@ ghost use Rattle.nc_tables.specs.Longest.{places_from, AreByPrefix};
 ghost use Rattle.nc_tables.specs.Main.{main_table, main_tables, nearer};
 ghost use Rattle.nc_tables.specs.Rounds.{bgp_row_view, chosen_in, AreBgpRows};
 ghost use Rattle.nc_tables.specs.Sessions.{process_of};
-ghost use Rattle.nc_main_rib.specs.Sides.{base_in, bgp_rows, ArePassed};
+ghost use Rattle.nc_main_rib.specs.Sides.{base_in, bgp_rows, AreLower, ArePassed, AreUpto};
 
 use crate::discards::active_places;
 use crate::prefixes::prefixes_of;
-use crate::rows::add_rows;
+use crate::rows::{add_alone, add_rows};
 use nc_tables::{
     BaseRow, BaseTables, BgpRow, BgpTable, MainRow, MainTables, RibEntries, Rows, rows_on,
 };
@@ -30,11 +30,39 @@ fn aggregates_of(network: &Network, router: RouterId) -> &[AggregateStatement]
     }
 }
 
-// How many rows of a router's tables stand before those of the next prefix, or are among them.
+// How many rows of a router's tables were passed: their main rows stand.
 #[derive(Clone, Copy)]
 struct Passed {
     base: usize,
     bgp: usize,
+}
+
+// How many BGP rows have a lower prefix.
+fn count_lower(rows: &[BgpRow], prefix: Prefix) -> usize
+    requires { AreBgpRows (map bgp_row_view rows.now) }
+    ensures { AreLower rows.now result prefix }
+{
+    rows.partition_point(|row| row.prefix < prefix)
+}
+
+// Where the BGP row of a prefix stands, if there is one, given how many have a lower prefix.
+fn row_on(rows: &[BgpRow], lower: usize, prefix: Prefix) -> Rows
+    requires rows { AreBgpRows (map bgp_row_view rows.now) }
+    requires lower { AreLower rows.now lower prefix }
+    ensures found { places_from (λ row. same_prefix row.prefix prefix) 0 rows.now
+        ≡ range_with_len result.from (result.to - result.from) }
+    ensures upto { AreUpto rows.now result.to prefix }
+{
+    if lower < rows.len() && rows[lower].prefix == prefix {
+        return Rows {
+            from: lower,
+            to: lower + 1,
+        };
+    }
+    Rows {
+        from: lower,
+        to: lower,
+    }
 }
 
 // What is chosen of the prefix whose row stands here, of which there is one at most.
@@ -51,7 +79,8 @@ fn chosen_at(rows: &[BgpRow], found: Rows) -> Option<&RibEntries>
 }
 
 // Adds the main rows of a prefix of a router, given its base rows and its BGP rows, how many of each were passed
-// on the way to the prefix, and the place of the first active aggregate of the prefix. Passes the prefix's rows.
+// on the way to the prefix, and the place of the first active aggregate of the prefix. All BGP rows of lower
+// prefixes are passed already. Passes the prefix's rows.
 fn add_prefix(
     main: &mut Vec<MainRow>,
     prefix: Prefix,
@@ -62,18 +91,18 @@ fn add_prefix(
 ) -> Result<Passed, AllocError>
     requires ordered { IsSortedByKey (λ row. row.prefix) prefix_cmp base.now }
     requires few { length base.now < 2 ^ 32 }
-    requires base { ArePassed (λ row. row.prefix) base.now passed.base prefix }
+    requires base { ArePassed base.now passed.base prefix }
     requires rows { AreBgpRows (map bgp_row_view bgp.now) }
-    requires bgp { ArePassed (λ row. row.prefix) bgp.now passed.bgp prefix }
+    requires bgp { AreLower bgp.now passed.bgp prefix }
     ensures rows { OnOk result (main.new.items ≡ main.old.items ++ nearer (base_in prefix base.now)
         (bgp_rows prefix discard (chosen_in (map bgp_row_view bgp.now) prefix))) }
-    ensures base { IfOk result (λ next. ArePassed (λ row. row.prefix) base.now next.base prefix) }
-    ensures bgp { IfOk result (λ next. ArePassed (λ row. row.prefix) bgp.now next.bgp prefix) }
+    ensures base { IfOk result (λ next. ArePassed base.now next.base prefix) }
+    ensures bgp { IfOk result (λ next. AreUpto bgp.now next.bgp prefix) }
     ensures valid { IsCidr prefix.base prefix.len }
 {
     let _len = prefix.len();
     let base_found = rows_on(base, passed.base, prefix);
-    let bgp_found = rows_on(bgp, passed.bgp, prefix);
+    let bgp_found = row_on(bgp, passed.bgp, prefix);
     let rows = &base[base_found.from..base_found.to];
     let chosen = chosen_at(bgp, bgp_found);
     add_rows(main, prefix, rows, base_found.from, discard, chosen)?;
@@ -83,8 +112,8 @@ fn add_prefix(
     })
 }
 
-// The main rows of a router. The rows of both tables stand in order of prefix, and so do the prefixes, so that one
-// way along both finds those of each.
+// The main rows of a router. The rows of both tables stand in order of prefix, and so do the prefixes of base rows
+// and of aggregates. A BGP row between two of these prefixes stands alone: nothing else has its prefix.
 fn main_table(
     alloc: Global,
     network: &Network,
@@ -104,14 +133,18 @@ fn main_table(
     let aggregates = aggregates_of(network, router);
     let base_rows = base.rows(router);
     let rows = bgp.rows(router);
-    let prefixes = prefixes_of(alloc, base_rows, rows, aggregates)?;
+    let prefixes = prefixes_of(alloc, base_rows, aggregates)?;
     let discards = active_places(alloc, bgp, router, aggregates)?;
-    let mut main = Vec::with_capacity(alloc, prefixes.len())?;
+    let mut main = Vec::with_capacity(alloc, base_rows.len().saturating_add(rows.len()))?;
     let mut passed = Passed { base: 0, bgp: 0 };
     'prefixes: for prefix in &prefixes {
+        let lower = count_lower(rows, *prefix);
+        add_alone(&mut main, rows, passed.bgp, lower)?;
+        passed.bgp = lower;
         let discard = discards.get(prefix).copied();
         passed = add_prefix(&mut main, *prefix, base_rows, rows, discard, passed)?;
     }
+    add_alone(&mut main, rows, passed.bgp, rows.len())?;
     Ok(main)
 }
 

@@ -108,7 +108,7 @@ fn out_of<'a>(
         (λ p. length (communities_by p best.now.route.communities) ≤ COMMUNITY_LIMIT) }
 {
     let held = Held::of(best.communities());
-    let count = best.path().len();
+    let count = best.path_length();
     let map = &link.sender.statement.map_out;
     let Some(_reference) = map else {
         return Some(Passing::Unchanged);
@@ -128,7 +128,7 @@ pub fn sent_length(internal: bool, best: &RibEntry, out: &Passing) -> usize
     ensures { result ≡ (if internal then 0 else 1)
         + (length (prepended_by out.now) + length best.now.route.path) }
 {
-    let length = out.prepended().len() + best.path().len();
+    let length = out.prepended().len() + best.path_length();
     if internal { length } else { 1 + length }
 }
 

@@ -6,6 +6,7 @@ pub mod Alike
 pub mod NextRows
 pub mod NextOf
 pub mod LocRibChanges
+pub mod Renewed
 pub mod Woken
 pub mod Settled
 pub mod KeptPrefixes

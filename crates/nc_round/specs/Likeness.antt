@@ -1,5 +1,5 @@
 -- Prefixes that spread alike: what routers choose of one of them tells what they choose of the other.
-use Rattle.std.specs.Prelude.{◌≡◌, ◌⊎◌, ◌==◌, ℕ, ◌<◌, Bool, false, ◌&&◌, List, [], Option, Some, None, All, Contains, length, map, position, slice_get, if◌then◌else◌}
+use Rattle.std.specs.Prelude.{◌≡◌, ◌⊎◌, ◌==◌, ℕ, ◌<◌, Bool, false, ◌&&◌, List, [], ◌∷◌, Option, Some, None, All, Contains, length, map, position, slice_get, if◌then◌else◌}
 use Rattle.std.specs.List.{list_any}
 use Rattle.std.specs.Option.{option_and_then, option_map_or}
 use Rattle.nc_types.specs.Cidr.{Cidr, same_prefix}
@@ -8,6 +8,7 @@ use Rattle.nc_tables.specs.declared.base.BaseRow.{BaseRow}
 use Rattle.nc_tables.specs.declared.bgp.Chosen.{Chosen}
 use Rattle.nc_tables.specs.declared.bgp.BgpFrom.{BgpFrom}
 use Rattle.nc_tables.specs.declared.bgp.BgpFrom.TheVariants.{Origin, Aggregate, Entry}
+use Rattle.nc_tables.specs.Choice.{is_learnt}
 use Rattle.nc_tables.specs.LocRibs.{Ascend}
 use Rattle.nc_tables.specs.Reach.{rows_of}
 use Rattle.nc_tables.specs.Rounds.{BgpRowView, chosen_at, prefixes}
@@ -51,6 +52,12 @@ moved_from place (Entry own) = Entry own
 -- the same candidate of another prefix
 abbrev pub moved : Cidr → Option ℕ → Chosen → Chosen
 moved prefix place x = record x { route = record x.route { prefix = prefix }; from = moved_from place x.from }
+
+-- what is chosen is one candidate alone, which was learnt
+abbrev pub is_learnt_alone : List Chosen → Bool
+is_learnt_alone [] = false
+is_learnt_alone (x ∷ []) = is_learnt x.from
+is_learnt_alone (x ∷ y ∷ ys) = false
 
 -- a router begins a prefix, and no other does
 abbrev pub BeginsAlone : List ConfigView → List (List BaseRow) → Cidr → ℕ → Type 0

@@ -1,17 +1,20 @@
 //! What routers choose of all prefixes, from what they choose of those that stand for them.
 
-ghost use Rattle.std.specs.Prelude.{◌≡◌, ◌≢◌, ◌==◌, ◌&&◌, ◌<◌, ◌≤◌, ◌⊎◌, ℕ, All, Contains, IfOk, OnOk, length, map, if◌then◌else◌};
-ghost use Rattle.nc_types.specs.Cidr.{Cidr, same_prefix};
+ghost use Rattle.std.specs.Prelude.{◌≡◌, ◌<◌, ◌≤◌, ◌++◌, ℕ, [], true, Contains, IfOk, OnOk, Option, length, map};
+ghost use Rattle.nc_types.specs.Cidr.{Cidr};
 ghost use Rattle.nc_types.specs.declared.TheConstants.{MULTIPATH_LIMIT};
-ghost use Rattle.nc_tables.specs.LocRibs.{Ascend, IsNumbered};
-ghost use Rattle.nc_tables.specs.Rounds.{chosen_at};
+ghost use Rattle.nc_tables.specs.LocRibs.{row_before};
+ghost use Rattle.nc_tables.specs.Rounds.{bgp_row_view, chosen_at, chosen_in, AreBgpRows};
 ghost use Rattle.nc_message.specs.Inputs.{AreRoutingInputs};
-ghost use Rattle.nc_round.specs.Likeness.{moved, network_at, IsSpread, IsLikeness, IsStandingFor};
+ghost use Rattle.nc_round.specs.Likeness.{is_learnt_alone, moved, network_at, IsSpread, IsLikeness, IsStandingFor};
 
 use crate::likeness::Likeness;
 use nc_message::RoutingInputs;
-use nc_tables::{BgpFrom, Learnt, LocRibs, Numbered, RecentAttributes, RibEntries, RibEntry};
-use nc_types::{Prefix, RouterId};
+use nc_tables::{
+    BgpFrom, BgpRow, BgpTable, Chosen, LocRibs, Numbered, RecentAttributes, RibEntries, RibEntry,
+    Route,
+};
+use nc_types::{Communities, Prefix, RouterId};
 use std::alloc::{AllocError, Global};
 
 // The place of a router's network of a prefix, if it has one.
@@ -37,22 +40,24 @@ fn moved_to(
     ensures { IfOk result (λ made. made
         ≡ record entry.now { route = record entry.now.route { prefix = prefix }; from = from }) }
 {
-    let _len = entry.path().len();
-    let learnt = Learnt {
+    let numbers = Vec::from_slice(alloc, entry.communities().numbers())?;
+    let route = Route {
         prefix,
-        system: None,
-        path: entry.path(),
-        communities: Some(entry.communities()),
+        path: entry.path().share()?,
         next_hop: entry.next_hop(),
         preference: entry.preference(),
         metric: entry.metric(),
         origin: entry.origin(),
+        communities: Communities::of(alloc, numbers)?,
+    };
+    let chosen = Chosen {
+        route,
         from,
         internal: entry.is_internal(),
         sender_id: entry.sender_id(),
         sender: entry.sender(),
     };
-    let made = recent.learnt(alloc, &learnt)?;
+    let made = recent.entry(alloc, chosen)?;
     Ok(made)
 }
 
@@ -126,86 +131,129 @@ fn moved_chosen(
     Ok(held)
 }
 
-// Puts what a router chooses of one prefix as what it chooses of another.
-fn put_moved(
-    alloc: Global,
-    recent: &mut RecentAttributes,
-    inputs: &RoutingInputs<'_>,
-    ribs: &LocRibs,
-    full: &mut LocRibs,
-    router: RouterId,
-    one: Numbered,
-    other: Numbered,
-) -> Result<(), AllocError>
-    requires inputs { AreRoutingInputs inputs.now }
-    requires router { router.0 < length inputs.now.network.now }
-    requires ribs { length ribs.now.rows ≡ length inputs.now.network.now }
-    requires full { length full.old.rows ≡ length inputs.now.network.now }
-    requires one { IsNumbered ribs.now.prefixes one }
-    requires other { IsNumbered full.old.prefixes other }
-    requires few { length (chosen_at ribs.now.rows router.0 one.prefix) ≤ MULTIPATH_LIMIT }
-    ensures prefixes { full.new.prefixes ≡ full.old.prefixes }
-    ensures count { length full.new.rows ≡ length full.old.rows }
-    ensures put { OnOk result ((r : ℕ) (p : Cidr) → chosen_at full.new.rows r p
-        ≡ (if (r == router.0) && same_prefix other.prefix p
-        then map (moved other.prefix (network_at inputs.now.network.now router.0 other.prefix))
-        (chosen_at ribs.now.rows router.0 one.prefix)
-        else chosen_at full.old.rows r p)) }
+// Whether what is chosen is one candidate alone, which was learnt.
+fn is_learnt_alone(chosen: &[RibEntry]) -> bool
+    ensures { result ≡ is_learnt_alone chosen.now }
 {
-    let chosen = ribs.chosen(router, one);
-    let entries = moved_chosen(alloc, recent, inputs, router, chosen, other.prefix)?;
-    full.put(router, other, entries);
+    if chosen.len() != 1 {
+        return false;
+    }
+    match chosen[0].from() {
+        BgpFrom::Entry(_) => true,
+        BgpFrom::Origin(_) | BgpFrom::Aggregate(_) => false,
+    }
+}
+
+// Notes of each prefix that stands for some whether a router chooses one candidate alone of it, which
+// it learnt. Nothing else is done between two of them, so that the processor waits for many at once.
+fn note_learnt(learnt: &mut Vec<bool>, ribs: &LocRibs, router: RouterId) -> Result<(), AllocError>
+    requires { router.0 < length ribs.now.rows }
+    ensures { OnOk result (learnt.new.items
+        ≡ map (λ p. is_learnt_alone (chosen_at ribs.now.rows router.0 p)) ribs.now.prefixes) }
+{
+    learnt.clear();
+    let standing = ribs.prefixes();
+    'prefixes: for number in 0..standing.len() {
+        let of = Numbered {
+            prefix: standing[number],
+            number,
+        };
+        learnt.push(is_learnt_alone(ribs.chosen(router, of)))?;
+    }
     Ok(())
 }
 
-// Puts what a router chooses of each prefix: what it chooses of the one that stands for it.
-fn put_each(
+// Adds the row of a prefix, which is what a router chooses of another one, if anything.
+fn push_moved(
+    alloc: Global,
+    rows: &mut Vec<BgpRow>,
+    recent: &mut RecentAttributes,
+    inputs: &RoutingInputs<'_>,
+    router: RouterId,
+    chosen: &[RibEntry],
+    prefix: Prefix,
+) -> Result<(), AllocError>
+    requires inputs { AreRoutingInputs inputs.now }
+    requires router { router.0 < length inputs.now.network.now }
+    ensures { OnOk result (map bgp_row_view rows.new.items ≡ map bgp_row_view rows.old.items
+        ++ row_before prefix
+        (map (moved prefix (network_at inputs.now.network.now router.0 prefix)) chosen.now) []) }
+{
+    if chosen.is_empty() {
+        return Ok(());
+    }
+    let chosen = moved_chosen(alloc, recent, inputs, router, chosen, prefix)?;
+    rows.push(BgpRow { prefix, chosen })?;
+    Ok(())
+}
+
+// Adds the row of a prefix, which is what a router chooses of another one: one candidate alone, which it
+// learnt. Where the router has a network of the prefix doesn't matter to it.
+fn push_learnt(
+    rows: &mut Vec<BgpRow>,
+    chosen: &[RibEntry],
+    prefix: Prefix,
+) -> Result<(), AllocError>
+    requires { is_learnt_alone chosen.now ≡ true }
+    ensures { OnOk result ((place : Option ℕ) → map bgp_row_view rows.new.items
+        ≡ map bgp_row_view rows.old.items
+        ++ row_before prefix (map (moved prefix place) chosen.now) []) }
+{
+    let made = chosen[0].of_prefix(prefix)?;
+    let chosen = RibEntries::one(made);
+    rows.push(BgpRow { prefix, chosen })?;
+    Ok(())
+}
+
+// The rows of a router: of each prefix what it chooses of the one that stands for it.
+fn rows_of(
     alloc: Global,
     recent: &mut RecentAttributes,
     inputs: &RoutingInputs<'_>,
     likeness: &Likeness,
+    learnt: &[bool],
     ribs: &LocRibs,
-    full: &mut LocRibs,
     router: RouterId,
-) -> Result<(), AllocError>
+) -> Result<Vec<BgpRow>, AllocError>
     requires inputs { AreRoutingInputs inputs.now }
+    requires likeness { IsLikeness inputs.now.network.now inputs.now.base.now likeness.now }
     requires router { router.0 < length inputs.now.network.now }
     requires ribs { length ribs.now.rows ≡ length inputs.now.network.now }
-    requires full { length full.old.rows ≡ length inputs.now.network.now }
     requires standing { ribs.now.prefixes ≡ likeness.now.standing.items }
-    requires all { full.old.prefixes ≡ likeness.now.all.items }
-    requires ordered { Ascend likeness.now.all.items }
-    requires count { length likeness.now.places.items ≡ length likeness.now.all.items }
-    requires within { All (λ place. place < length likeness.now.standing.items)
-        likeness.now.places.items }
     requires few { (p : Cidr) → length (chosen_at ribs.now.rows router.0 p) ≤ MULTIPATH_LIMIT }
-    ensures prefixes { full.new.prefixes ≡ full.old.prefixes }
-    ensures count { length full.new.rows ≡ length full.old.rows }
-    ensures moved { OnOk result ((q p : Cidr) → IsStandingFor likeness.now q p
-        → chosen_at full.new.rows router.0 q
+    requires learnt { learnt.now
+        ≡ map (λ p. is_learnt_alone (chosen_at ribs.now.rows router.0 p)) ribs.now.prefixes }
+    ensures valid { IfOk result (λ rows. AreBgpRows (map bgp_row_view rows.items)) }
+    ensures moved { IfOk result (λ rows. (q p : Cidr) → IsStandingFor likeness.now q p
+        → chosen_in (map bgp_row_view rows.items) q
         ≡ map (moved q (network_at inputs.now.network.now router.0 q))
         (chosen_at ribs.now.rows router.0 p)) }
-    ensures others { OnOk result ((r : ℕ) (p : Cidr)
-        → (r ≢ router.0) ⊎ ¬ Contains likeness.now.all.items p
-        → chosen_at full.new.rows r p ≡ chosen_at full.old.rows r p) }
+    ensures others { IfOk result (λ rows. (q : Cidr) → ¬ Contains likeness.now.all.items q
+        → chosen_in (map bgp_row_view rows.items) q ≡ []) }
 {
+    let mut rows = Vec::with_capacity(alloc, likeness.all.len())?;
     'prefixes: for number in 0..likeness.all.len() {
         let place = likeness.places[number];
         let one = Numbered {
             prefix: likeness.standing[place],
             number: place,
         };
-        let other = Numbered {
-            prefix: likeness.all[number],
-            number,
-        };
-        put_moved(alloc, recent, inputs, ribs, full, router, one, other)?;
+        let chosen = ribs.chosen(router, one);
+        let prefix = likeness.all[number];
+        let _len = prefix.len();
+        let alone = learnt[place];
+        if alone {
+            push_learnt(&mut rows, chosen, prefix)?;
+        } else {
+            push_moved(alloc, &mut rows, recent, inputs, router, chosen, prefix)?;
+        }
     }
-    Ok(())
+    rows.shrink_to_fit();
+    Ok(rows)
 }
 
-/// What routers choose of all prefixes, from what they choose of those that stand for them. Where each
-/// stands for itself nothing is made.
+/// The table of what routers choose of all prefixes, from what they choose of those that stand for them,
+/// router by router.
 ///
 /// # Errors
 ///
@@ -216,25 +264,28 @@ pub(crate) fn expand(
     inputs: &RoutingInputs<'_>,
     likeness: &Likeness,
     ribs: LocRibs,
-) -> Result<LocRibs, AllocError>
+) -> Result<BgpTable, AllocError>
     requires inputs { AreRoutingInputs inputs.now }
     requires likeness { IsLikeness inputs.now.network.now inputs.now.base.now likeness.now }
     requires ribs { length ribs.rows ≡ length inputs.now.network.now }
     requires standing { ribs.prefixes ≡ likeness.now.standing.items }
     requires few { (router : ℕ) (p : Cidr) → length (chosen_at ribs.rows router p) ≤ MULTIPATH_LIMIT }
     ensures { IfOk result
-        (λ full. IsSpread inputs.now.network.now likeness.now ribs.rows full.rows) }
+        (λ table. IsSpread inputs.now.network.now likeness.now ribs.rows table) }
 {
     if likeness.all.as_slice() == ribs.prefixes() {
-        return Ok(ribs);
+        let table = ribs.into_table(alloc)?;
+        return Ok(table);
     }
     let _routers = inputs.network.routers();
-    let all = Vec::from_slice(alloc, &likeness.all)?;
     let count = ribs.count();
-    let mut full = LocRibs::new(alloc, all, count)?;
+    let mut tables = Vec::with_capacity(alloc, count)?;
+    let mut learnt = Vec::new(alloc);
     'routers: for router in 0..count {
         let router = RouterId(router as u32);
-        put_each(alloc, recent, inputs, likeness, &ribs, &mut full, router)?;
+        note_learnt(&mut learnt, &ribs, router)?;
+        let rows = rows_of(alloc, recent, inputs, likeness, &learnt, &ribs, router)?;
+        tables.push(rows)?;
     }
-    Ok(full)
+    Ok(BgpTable::from_rows(tables))
 }

@@ -6,7 +6,8 @@
 //! that changed, and those of the aggregates around such a row. Each router looks at what changed at
 //! the peers of its sessions, and a row stays as it is where what a peer advertises of it now isn't
 //! accepted or is beaten by what stands, and what it advertised before wasn't chosen. The sessions
-//! are found once, for what is woken as for what is chosen anew.
+//! are found once, for what is woken as for what is chosen anew, and both are done router by router,
+//! while what is known of its sessions is at hand.
 //!
 //! Prefixes that the same router begins, and no other, spread alike where no router tells prefixes
 //! apart, for no process has a map or an aggregate. While a network settles one of them stands for

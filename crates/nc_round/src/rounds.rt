@@ -11,8 +11,8 @@ ghost use Rattle.nc_round.specs.Waking.{HaveAggregates};
 
 use crate::changed::{Changed, NumberedRow};
 use crate::likeness::likeness_of;
-use crate::renewal::renew;
-use crate::waking::{begun_in_order, woken_in_order};
+use crate::renewal::{complete, renew, renewed_in_order};
+use crate::waking::begun_in_order;
 use nc_decision::NetworkPeerings;
 use nc_message::RoutingInputs;
 use nc_tables::{LocRibs, RecentAttributes};
@@ -140,8 +140,8 @@ pub(crate) fn next_by(
     let _count = old.count();
     let _prefixes = old.prefixes();
     let _routers = inputs.network.routers();
-    let rows = woken_in_order(alloc, &inputs, all, &old, &changed.rows)?;
-    let made = renew(alloc, recent, inputs, all, old, &rows)?;
+    let renewed = renewed_in_order(alloc, recent, inputs, all, &old, &changed.rows)?;
+    let made = complete(alloc, old, renewed.changes)?;
     Ok(made)
 }
 

@@ -31,9 +31,8 @@ fn table_of(
     ensures spread { IfOk result
         (λ table. IsSpread inputs.now.network.now likeness.now ribs.rows table) }
 {
-    let full = expand(alloc, recent, inputs, likeness, ribs)?;
-    let _count = full.count();
-    let table = full.into_table(alloc)?;
+    let table = expand(alloc, recent, inputs, likeness, ribs)?;
+    let _count = table.count();
     Ok(table)
 }
 

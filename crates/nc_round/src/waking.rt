@@ -8,28 +8,17 @@ ghost use Rattle.nc_tables.specs.LocRibs.{Ascend, IsNumbered};
 ghost use Rattle.nc_tables.specs.Rounds.{is_longer_in, prefixes_in};
 ghost use Rattle.nc_message.specs.Inputs.{AreRoutingInputs};
 ghost use Rattle.nc_decision.specs.Peerings.{AreNetworkPeerings, ArePeerings};
-ghost use Rattle.nc_round.specs.Keys.{Key, key, AreInOrder};
-ghost use Rattle.nc_round.specs.Rows.{listed, numbered_row, prefixes_of, row_key, AreListed, AreRows};
-ghost use Rattle.nc_round.specs.Waking.{aggregates_of, begun_from, affected_over, woken_at, AreWoken, HaveAggregates, IsWoken};
+ghost use Rattle.nc_round.specs.Keys.{Key, AreInOrder};
+ghost use Rattle.nc_round.specs.Rows.{listed, numbered_row, prefixes_of, row_key, AreListed};
+ghost use Rattle.nc_round.specs.Waking.{begun_from, affected_over, woken_at, AreWoken, HaveAggregates};
 
-use crate::by_router::{ByRouter, by_router};
+use crate::by_router::ByRouter;
 use crate::changed::NumberedRow;
 use nc_decision::{NetworkPeerings, Peerings, add_counting};
 use nc_message::RoutingInputs;
 use nc_tables::{LocRibs, Numbered, SessionRow, is_longer_in};
 use nc_types::{AggregateStatement, Network, NetworkStatement, Prefix, RouterConfig, RouterId};
 use std::alloc::{AllocError, Global};
-
-// The aggregates of a router; none where it has no BGP process.
-fn aggregates_of(network: &Network, router: RouterId) -> &[AggregateStatement]
-    requires { router.0 < length network.now }
-    ensures { result.now ≡ aggregates_of network.now router.0 }
-{
-    match &network.routers()[router.0 as usize].process {
-        Some(process) => &process.aggregates,
-        None => &[],
-    }
-}
 
 // Adds the prefixes that changed at the peers of a router's sessions, where what it learns of them
 // now may count.
@@ -132,9 +121,10 @@ fn wake_each(
     Ok(())
 }
 
-// Wakes the rows of a router that may come from rows that changed, given the prefixes of these at
-// each router. What is noted on the way is used again for the next router.
-fn wake(
+/// Wakes the rows of a router that may come from rows that changed, given the prefixes of these at
+/// each router, and leaves noted of which prefixes they are. The vector for these is used again for
+/// the next router.
+pub(crate) fn wake(
     woken: &mut Vec<NumberedRow>,
     noted: &mut Vec<Numbered>,
     inputs: &RoutingInputs<'_>,
@@ -152,6 +142,9 @@ fn wake(
     requires numbers { AreListed ribs.now.prefixes lists.now }
     requires router { router.0 < length inputs.now.network.now }
     requires woken { AreWoken router.0 ribs.now.prefixes woken.old.items }
+    ensures added { OnOk result (woken.new.items
+        ≡ woken.old.items ++ map (numbered_row router) noted.new.items) }
+    ensures noted { OnOk result (All (IsNumbered ribs.now.prefixes) noted.new.items) }
     ensures kept { OnOk result ((k : Key) → Contains (map row_key woken.old.items) k
         → Contains (map row_key woken.new.items) k) }
     ensures woken { OnOk result ((p : Cidr) → Contains (woken_at inputs.now ribs.now.rows
@@ -160,74 +153,13 @@ fn wake(
 {
     let peerings = all.get(router);
     let rows = inputs.sessions.rows(router);
-    let aggregates = aggregates_of(inputs.network, router);
+    let aggregates = peerings.aggregate_statements();
     noted.clear();
     add_affected(noted, inputs, peerings, ribs, router, rows, lists)?;
     add_around(noted, ribs, aggregates, lists.changed_at(router))?;
     keep_once(noted);
     wake_each(woken, router, noted)?;
     Ok(())
-}
-
-// All rows that may come from rows that changed, given the prefixes of these at each router.
-fn woken(
-    alloc: Global,
-    inputs: &RoutingInputs<'_>,
-    all: &NetworkPeerings<'_>,
-    ribs: &LocRibs,
-    lists: &ByRouter,
-) -> Result<Vec<NumberedRow>, AllocError>
-    requires inputs { AreRoutingInputs inputs.now }
-    requires all { AreNetworkPeerings inputs.now.network.now inputs.now.base.now
-        inputs.now.sessions.now all.now }
-    requires ribs { length ribs.now.rows ≡ length inputs.now.network.now }
-    requires ordered { Ascend ribs.now.prefixes }
-    requires known { HaveAggregates inputs.now.network.now ribs.now.prefixes }
-    requires numbers { AreListed ribs.now.prefixes lists.now }
-    ensures woken { IfOk result (λ rows. (router : ℕ) (p : Cidr)
-        → router < length inputs.now.network.now
-        → Contains (woken_at inputs.now ribs.now.rows (listed lists.now) router) p
-        → Contains (map row_key rows.items) (key router p)) }
-    ensures rows { IfOk result
-        (λ rows. AreWoken (length inputs.now.network.now) ribs.now.prefixes rows.items) }
-{
-    let mut rows = Vec::new(alloc);
-    let mut noted = Vec::new(alloc);
-    'routers: for router in 0..inputs.network.routers().len() {
-        let router = RouterId(router as u32);
-        wake(&mut rows, &mut noted, inputs, all, ribs, lists, router)?;
-    }
-    Ok(rows)
-}
-
-/// The rows that may come from rows that changed in a table, in order, each once, given the sessions of
-/// the routers.
-pub(crate) fn woken_in_order(
-    alloc: Global,
-    inputs: &RoutingInputs<'_>,
-    all: &NetworkPeerings<'_>,
-    ribs: &LocRibs,
-    changed: &[NumberedRow],
-) -> Result<Vec<NumberedRow>, AllocError>
-    requires inputs { AreRoutingInputs inputs.now }
-    requires all { AreNetworkPeerings inputs.now.network.now inputs.now.base.now
-        inputs.now.sessions.now all.now }
-    requires ribs { length ribs.now.rows ≡ length inputs.now.network.now }
-    requires ordered { Ascend ribs.now.prefixes }
-    requires known { HaveAggregates inputs.now.network.now ribs.now.prefixes }
-    requires numbers { AreRows ribs.now.prefixes changed.now }
-    requires changed { AreInOrder (map row_key changed.now) }
-    ensures woken { IfOk result (λ rows. (router : ℕ) (p : Cidr)
-        → router < length inputs.now.network.now
-        → (All (λ k. k.0.0 < length inputs.now.network.now) (map row_key changed.now))
-        → IsWoken inputs.now ribs.now.rows (map row_key changed.now) router p
-        → Contains (map row_key rows.items) (key router p)) }
-    ensures rows { IfOk result
-        (λ rows. AreWoken (length inputs.now.network.now) ribs.now.prefixes rows.items) }
-{
-    let lists = by_router(alloc, inputs.network.routers().len(), changed)?;
-    let rows = woken(alloc, inputs, all, ribs, &lists)?;
-    Ok(rows)
 }
 
 // Wakes the rows of the networks of a router.

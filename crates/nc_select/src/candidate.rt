@@ -62,7 +62,7 @@ impl Candidate for RibEntry {
     }
 
     fn path_length(&self) -> usize {
-        self.path().len()
+        self.path_length()
     }
 
     fn origin(&self) -> OriginCode {

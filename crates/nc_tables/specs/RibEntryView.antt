@@ -1,5 +1,7 @@
 -- The candidate of a prefix that has these attributes.
+use Rattle.std.specs.Prelude.{◌≡◌, ◌≤◌, length}
 use Rattle.nc_types.specs.Cidr.{Cidr}
+use Rattle.nc_types.specs.declared.TheConstants.{PATH_LIMIT}
 use Rattle.nc_tables.specs.declared.bgp.Chosen.{Chosen}
 use Rattle.nc_tables.specs.declared.rib_entry.Attributes.{Attributes}
 
@@ -12,3 +14,7 @@ entry_of p a =
       sender_id = a.source.sender_id;
       sender = a.source.sender;
     }
+
+-- the number that stands beside the path is how many numbers that has, and no more than a path may have
+abbrev pub IsCounted : Attributes → Type 0
+IsCounted a = (a.source.length ≡ length a.path) × (length a.path ≤ PATH_LIMIT)

@@ -4,7 +4,7 @@ ghost use Rattle.std.specs.Prelude.{◌≡◌, ◌↔◌, ◌≤◌, [], true, l
 ghost use Rattle.std.specs.Option.{option_map_or};
 ghost use Rattle.nc_types.specs.declared.TheConstants.{PATH_LIMIT};
 ghost use Rattle.nc_tables.specs.LearntView.{learnt_view, path_after};
-ghost use Rattle.nc_tables.specs.RibEntryView.{entry_of};
+ghost use Rattle.nc_tables.specs.RibEntryView.{entry_of, IsCounted};
 
 use crate::bgp::{BgpFrom, Chosen, Route};
 use crate::learnt::Learnt;
@@ -17,7 +17,14 @@ use std::rc::Rc;
 // How many blocks of attributes are remembered: more than a router mostly learns anew in one round.
 const RECENT: usize = 1024;
 
-// Where a candidate comes from.
+// Of so many candidates, so many of the first are looked for in any case; the others only where one of
+// these shared a block.
+const TURN: u32 = 4096;
+
+const TRIED: u32 = 1024;
+
+// Where a candidate comes from, and how many numbers its path has: what is asked of most candidates, at
+// the front of a block.
 #[derive(Clone, Copy, PartialEq, Eq)]
 struct Source {
     from: BgpFrom,
@@ -25,6 +32,7 @@ struct Source {
     sender: Addr,
     origin: OriginCode,
     internal: bool,
+    length: u16,
 }
 
 // What candidates of several prefixes may have in common, all but the prefix: mostly those that a
@@ -42,7 +50,8 @@ struct Attributes {
 impl Attributes {
     // Those of a candidate, beside its prefix.
     fn of(chosen: Chosen) -> (Prefix, Attributes)
-        ensures { entry_of result.0 result.1 ≡ chosen }
+        ensures entry { entry_of result.0 result.1 ≡ chosen }
+        ensures counted { IsCounted result.1 }
     {
         let Chosen {
             route,
@@ -66,6 +75,7 @@ impl Attributes {
             sender,
             origin,
             internal,
+            length: path.len() as u16,
         };
         let attributes = Attributes {
             source,
@@ -98,7 +108,8 @@ impl Attributes {
     // Those of a candidate that isn't in memory.
     fn made(alloc: Global, learnt: &Learnt<'_>) -> Result<Attributes, AllocError>
         requires { length (path_after learnt.now.system learnt.now.path.now) ≤ PATH_LIMIT }
-        ensures { IfOk result (λ made. entry_of learnt.now.prefix made ≡ learnt_view learnt.now) }
+        ensures entry { IfOk result (λ made. entry_of learnt.now.prefix made ≡ learnt_view learnt.now) }
+        ensures counted { IfOk result IsCounted }
     {
         Ok(Attributes {
             source: source_of(learnt),
@@ -112,7 +123,9 @@ impl Attributes {
 
     // Whether they are those of a candidate that isn't in memory.
     fn are_of(&self, learnt: &Learnt<'_>) -> bool
-        ensures { result ≡ true → entry_of learnt.now.prefix self.now ≡ learnt_view learnt.now }
+        requires { length (path_after learnt.now.system learnt.now.path.now) ≤ PATH_LIMIT }
+        ensures entry { result ≡ true → entry_of learnt.now.prefix self.now ≡ learnt_view learnt.now }
+        ensures counted { result ≡ true → IsCounted self.now }
     {
         self.source == source_of(learnt)
             && self.next_hop == learnt.next_hop
@@ -136,20 +149,24 @@ fn place_of(digest: u64, from: BgpFrom) -> usize {
 
 // Where a candidate that isn't in memory comes from.
 fn source_of(learnt: &Learnt<'_>) -> Source
+    requires { length (path_after learnt.now.system learnt.now.path.now) ≤ PATH_LIMIT }
     ensures { result ≡ record {
       from = learnt.now.from;
       sender_id = learnt.now.sender_id;
       sender = learnt.now.sender;
       origin = learnt.now.origin;
       internal = learnt.now.internal;
+      length = length (path_after learnt.now.system learnt.now.path.now);
     } }
 {
+    let before: u16 = if learnt.system.is_some() { 1 } else { 0 };
     Source {
         from: learnt.from,
         sender_id: learnt.sender_id,
         sender: learnt.sender,
         origin: learnt.origin,
         internal: learnt.internal,
+        length: learnt.path.len() as u16 + before,
     }
 }
 
@@ -185,11 +202,13 @@ pub struct RibEntry {
 
 impl Model for RibEntry {
     ghost use Rattle.nc_tables.specs.declared.bgp.Chosen.{Chosen};
-    ghost use Rattle.nc_tables.specs.RibEntryView.{entry_of};
+    ghost use Rattle.nc_tables.specs.RibEntryView.{entry_of, IsCounted};
 
     ghost Value = { Chosen };
 
     ghost view = { λ e. entry_of e.prefix e.attributes.value };
+
+    ghost invariant = { λ e. IsCounted e.attributes.value };
 }
 
 impl RibEntry {
@@ -205,6 +224,14 @@ impl RibEntry {
         ensures { result.now ≡ self.now.route.path }
     {
         &self.attributes.path
+    }
+
+    /// How many numbers its path has, at most [`nc_types::PATH_LIMIT`], without a look at the path.
+    pub fn path_length(&self) -> usize
+        ensures length { result ≡ length self.now.route.path }
+        ensures few { result ≤ PATH_LIMIT }
+    {
+        self.attributes.source.length as usize
     }
 
     /// The address to which packets are sent.
@@ -292,10 +319,15 @@ impl RibEntry {
 }
 
 /// What candidates had in common that were chosen lately: 1,024 blocks at most, each at a place that its
-/// path tells. It saves memory alone, and no answer depends on it.
+/// path tells. It saves memory alone, and no answer depends on it. Where candidates share none, most of them
+/// aren't looked for.
 #[derive(Drop)]
 pub struct RecentAttributes {
     blocks: Vec<Option<Rc<Attributes>>>,
+    // how many candidates came in this turn
+    count: u32,
+    // whether one of them shared a block
+    has_shared: bool,
 }
 
 impl RecentAttributes {
@@ -309,7 +341,20 @@ impl RecentAttributes {
         'places: for _place in 0..RECENT {
             blocks.push(None)?;
         }
-        Ok(RecentAttributes { blocks })
+        Ok(RecentAttributes {
+            blocks,
+            count: 0,
+            has_shared: false,
+        })
+    }
+
+    // Whether the next candidate is looked for.
+    fn is_tried(&mut self) -> bool {
+        self.count = self.count.wrapping_add(1) % TURN;
+        if self.count == 0 {
+            self.has_shared = false;
+        }
+        self.has_shared || self.count < TRIED
     }
 
     // The block that is remembered at a place, if it is of the same attributes.
@@ -326,8 +371,10 @@ impl RecentAttributes {
     // The block that is remembered at a place, if it is of the attributes of a candidate that isn't in
     // memory.
     fn block_of(&self, place: usize, learnt: &Learnt<'_>) -> Option<&Rc<Attributes>>
-        ensures { IfSome result
+        requires { length (path_after learnt.now.system learnt.now.path.now) ≤ PATH_LIMIT }
+        ensures entry { IfSome result
             (λ known. entry_of learnt.now.prefix known.now.value ≡ learnt_view learnt.now) }
+        ensures counted { IfSome result (λ known. IsCounted known.now.value) }
     {
         let known = self.blocks.get(place)?.as_ref()?;
         if known.are_of(learnt) {
@@ -353,9 +400,14 @@ impl RecentAttributes {
         ensures { IfOk result (λ entry. entry ≡ chosen) }
     {
         let (prefix, made) = Attributes::of(chosen);
+        if !self.is_tried() {
+            let attributes = Rc::new(alloc, made)?;
+            return Ok(RibEntry { prefix, attributes });
+        }
         let place = made.place();
         if let Some(known) = self.like(place, &made) {
             let attributes = known.clone()?;
+            self.has_shared = true;
             return Ok(RibEntry { prefix, attributes });
         }
         let attributes = Rc::new(alloc, made)?;
@@ -375,9 +427,14 @@ impl RecentAttributes {
         ensures { IfOk result (λ entry. entry ≡ learnt_view learnt.now) }
     {
         let prefix = learnt.prefix;
+        if !self.is_tried() {
+            let attributes = Rc::new(alloc, Attributes::made(alloc, learnt)?)?;
+            return Ok(RibEntry { prefix, attributes });
+        }
         let place = place_of(learnt.path.digest_after(learnt.system), learnt.from);
         if let Some(known) = self.block_of(place, learnt) {
             let attributes = known.clone()?;
+            self.has_shared = true;
             return Ok(RibEntry { prefix, attributes });
         }
         let attributes = Rc::new(alloc, Attributes::made(alloc, learnt)?)?;

@@ -11,18 +11,20 @@ use Rattle.nc_decision.proofs.best_learnt.best_learnt.Goals as goal
 pub neighbors-init : goal.neighbors-init
 neighbors-init c =
     let i = c.args.inputs.now in
-    let all = c.args.neighbors.now in
+    let all = c.args.process.now.neighbors.items in
     let make : ℕ → Neighbor → Option Chosen = λ place n. entry_at i.network.now i.base.now i.sessions.now c.args.ribs.now.rows c.args.router.0 place c.args.of.now.prefix in
+    let start = c.count-place.result in
+    let same : start ≡ length all = c.count-place.ensures ∙ c.requires.all in
     record {
-      within = omega arith;
-      best = sym (ap (λ (l : List Neighbor). best_among (made_from make (length all) l)) (drop_all (length all) all (omega arith)));
+      within = omega (arith, same);
+      best = sym (ap (λ (l : List Neighbor). best_among (made_from make start l)) (drop_all start all (omega (arith, same))));
       own = tt;
     }
 
 pub neighbors-preserved : goal.neighbors-preserved
 neighbors-preserved c =
     let i = c.args.inputs.now in
-    let all = c.args.neighbors.now in
+    let all = c.args.process.now.neighbors.items in
     let make : ℕ → Neighbor → Option Chosen = λ place n. entry_at i.network.now i.base.now i.sessions.now c.args.ribs.now.rows c.args.router.0 place c.args.of.now.prefix in
     let k = c.neighbors.place - 1 in
     let lt : k < length all = omega (arith, c.neighbors.invariant.within) in
@@ -40,7 +42,7 @@ neighbors-preserved c =
 pub returns-clause-best : goal.returns-clause-best
 returns-clause-best c =
     let i = c.args.inputs.now in
-    let all = c.args.neighbors.now in
+    let all = c.args.process.now.neighbors.items in
     let make : ℕ → Neighbor → Option Chosen = λ place n. entry_at i.network.now i.base.now i.sessions.now c.args.ribs.now.rows c.args.router.0 place c.args.of.now.prefix in
     let none : c.neighbors.place ≡ 0 = omega arith in
     c.neighbors.invariant.best ∙ ap (λ (n : ℕ). best_among (made_from make n (drop n all))) none

@@ -1,15 +1,14 @@
 use Rattle.std.proofs.Common.{◌≡◌, ℕ, Bool, Bor, true, false, not, ◌&&◌, List, [], ◌∷◌, Option, Some, None, slice_get, IfNone, IfSome, refl, sym, ap, subst, ◌∙◌}
 use Rattle.std.specs.List.{list_any}
-use Rattle.std.specs.Option.{option_map, option_map_or, option_and_then}
+use Rattle.std.specs.Option.{option_map, option_map_or}
 use Rattle.nc_types.specs.Cidr.{Cidr}
 use Rattle.nc_types.specs.Config.{ConfigView, ProcessView, process_view}
-use Rattle.nc_types.specs.declared.config.RouterConfig.{RouterConfig}
+use Rattle.nc_types.specs.declared.config.Process.{Process}
 use Rattle.nc_tables.specs.declared.base.BaseRow.{BaseRow}
 use Rattle.nc_tables.specs.declared.bgp.SessionRow.{SessionRow}
 use Rattle.nc_tables.specs.declared.bgp.Chosen.{Chosen}
 use Rattle.nc_tables.specs.Rounds.{BgpRowView, chosen_at, entry_at, link_at}
 use Rattle.nc_tables.specs.Sessions.{process_of}
-use Rattle.nc_policy.proofs.Tables.{config_at}
 use Rattle.nc_decision.specs.BestPath.{is_from, is_beaten, leaves_best_beside, leaves_best_path}
 use Rattle.nc_decision.specs.declared.peerings.Peering.{Peering}
 use Rattle.nc_decision.specs.Peerings.{IsPeering}
@@ -55,8 +54,9 @@ module _ (routers : List ConfigView) (tables : List (List BaseRow)) (sessions : 
           let same : best ≡ x = cc in
           ap (λ (c : Chosen). option_map_or (is_beaten p c) entry true) same ∙ sym (ap (λ (b : Bool). not b && option_map_or (is_beaten p x) entry true) g)
 
-abbrev process_in : Option ConfigView → Option ProcessView
-process_in o = option_and_then (λ (k : ConfigView). k.process) o
+-- the process that is told
+abbrev seen : Option (Bor Process) → Option ProcessView
+seen o = option_map (λ (q : Bor Process). process_view q.now) o
 
 pub returns-in_default : goal.returns-in_default
 returns-in_default c =
@@ -71,21 +71,18 @@ returns-then-has_from c =
 pub returns-in_default-process : goal.returns-in_default-process
 returns-in_default-process c =
     let i = c.args.inputs.now in
-    let routers = i.network.now in
-    let at = config_at routers c.routers.result.now c.args.router.0 c.index-routers-router.result c.routers.ensures.routers c.requires.router c.index-routers-router.is in
     idle_if_alone i.network.now i.base.now i.sessions.now c.args.ribs.now.rows c.args.router.0 c.args.place c.args.of.now.prefix c.chosen-chosen.result.now c.chosen-chosen.ensures.chosen
-    (ap process_in at ∙ ap (option_map process_view) (ap (λ (r : RouterConfig). r.process) c.index-routers-router.is ∙ c.in_default-process.is))
+    (sym c.requires.process ∙ ap seen c.in_default-process.is)
 
 pub returns-in_default-peering : goal.returns-in_default-peering
 returns-in_default-peering c =
     let i = c.args.inputs.now in
     let routers = i.network.now in
-    let at = config_at routers c.routers.result.now c.args.router.0 c.index-routers-router.result c.routers.ensures.routers c.requires.router c.index-routers-router.is in
-    let p = process_view c.in-Some-process.process in
+    let p = process_view c.in-Some-process.process.now in
     let none : None ≡ link_at routers i.sessions.now c.args.router.0 c.args.place = subst (λ (o : Option (Bor Peering)). IfNone (option_map (λ (q : Bor Peering). q.now) o) (None ≡ link_at routers i.sessions.now c.args.router.0 c.args.place)) c.in_default-peering.is c.requires.peering.none in
     sym (cannot_win_alone routers i.base.now i.sessions.now c.args.ribs.now.rows c.args.router.0 c.args.place c.args.of.now.prefix c.in-Some.best.now p (sym none))
     ∙ idle_if_beaten i.network.now i.base.now i.sessions.now c.args.ribs.now.rows c.args.router.0 c.args.place c.args.of.now.prefix c.chosen-chosen.result.now c.chosen-chosen.ensures.chosen p
-    (ap process_in at ∙ ap (option_map process_view) (ap (λ (r : RouterConfig). r.process) c.index-routers-router.is ∙ c.in-Some-process.is)) c.in-Some.best.now c.in-Some.ensures.value (sym c.has_from.ensures ∙ c.if-has_from.false)
+    (sym c.requires.process ∙ ap seen c.in-Some-process.is) c.in-Some.best.now c.in-Some.ensures.value (sym c.has_from.ensures ∙ c.if-has_from.false)
 
 pub cannot_win-requires-clause-peering : goal.cannot_win-requires-clause-peering
 cannot_win-requires-clause-peering c =
@@ -96,10 +93,9 @@ pub returns : goal.returns
 returns c =
     let i = c.args.inputs.now in
     let routers = i.network.now in
-    let at = config_at routers c.routers.result.now c.args.router.0 c.index-routers-router.result c.routers.ensures.routers c.requires.router c.index-routers-router.is in
-    let p = process_view c.in-Some-process.process in
+    let p = process_view c.in-Some-process.process.now in
     let own : c.in-Some-peering.peering.now.place ≡ c.args.place = subst (λ (o : Option (Bor Peering)). IfSome (option_map (λ (q : Bor Peering). q.now) o) (λ q. q.place ≡ c.args.place)) c.in-Some-peering.is c.requires.peering.own in
     c.cannot_win.ensures
     ∙ ap (λ (n : ℕ). option_map_or (is_beaten p c.in-Some.best.now) (entry_at routers i.base.now i.sessions.now c.args.ribs.now.rows c.args.router.0 n c.args.of.now.prefix) true) own
     ∙ idle_if_beaten i.network.now i.base.now i.sessions.now c.args.ribs.now.rows c.args.router.0 c.args.place c.args.of.now.prefix c.chosen-chosen.result.now c.chosen-chosen.ensures.chosen p
-    (ap process_in at ∙ ap (option_map process_view) (ap (λ (r : RouterConfig). r.process) c.index-routers-router.is ∙ c.in-Some-process.is)) c.in-Some.best.now c.in-Some.ensures.value (sym c.has_from.ensures ∙ c.if-has_from.false)
+    (sym c.requires.process ∙ ap seen c.in-Some-process.is) c.in-Some.best.now c.in-Some.ensures.value (sym c.has_from.ensures ∙ c.if-has_from.false)

@@ -1,16 +1,14 @@
-use Rattle.std.proofs.Common.{◌≤◌, ℕ, List, [], Option, Some, None, All, IfSome, length, option_to_list, slice_index_or, refl, sym, ap, subst, ◌∙◌, arith}
+use Rattle.std.proofs.Common.{◌≤◌, ℕ, [], Option, Some, None, All, IfSome, length, option_to_list, slice_index_or, refl, sym, ap, subst, ◌∙◌, arith}
 use Rattle.std.proofs.lemmas.List.Elements.{All-append}
 use Rattle.nc_types.specs.Config.{process_view}
 use Rattle.nc_types.specs.declared.TheConstants.{MULTIPATH_LIMIT}
 use Rattle.nc_types.specs.declared.config.AggregateStatement.{AggregateStatement}
-use Rattle.nc_types.specs.declared.config.Neighbor.{Neighbor}
 use Rattle.nc_types.specs.declared.config.NetworkStatement.{NetworkStatement}
 use Rattle.nc_tables.specs.Base.{same_prefix}
 use Rattle.nc_tables.specs.declared.bgp.BgpFrom.TheVariants.{Aggregate, Origin}
 use Rattle.nc_tables.specs.declared.bgp.Chosen.{Chosen}
-use Rattle.nc_tables.specs.Rounds.{begun, entry_at, has_longer, made_from}
+use Rattle.nc_tables.specs.Rounds.{begun, has_longer}
 use Rattle.nc_decision.specs.Beginning.{aggregates_of, has_base_row, networks_of}
-use Rattle.nc_decision.specs.BestPath.{best_among}
 use Rattle.nc_message.specs.Inputs.{IsOf}
 use Rattle.nc_decision.proofs.Making.{kept_all}
 use Rattle.nc_decision.proofs.Preferred.{alone_own, best_chosen, from_own}
@@ -21,7 +19,6 @@ pub best_learnt-best-requires-clause-all : goal.best_learnt-best-requires-clause
 best_learnt-best-requires-clause-all c =
     let i = c.args.inputs.now in
     as_many i.network.now i.base.now i.sessions.now c.args.router.0 c.args.peerings.now c.requires.peerings (process_view c.args.process.now) c.requires.process
-    ∙ ap (length {A = Neighbor}) (sym c.deref.ensures.value)
 
 one_at_most : (o : Option Chosen) → length (option_to_list o) ≤ MULTIPATH_LIMIT
 one_at_most None = omega arith
@@ -30,11 +27,10 @@ one_at_most (Some x) = omega arith
 pub returns-clause-chosen : goal.returns-clause-chosen
 returns-clause-chosen c =
     let i = c.args.inputs.now in
-    let make : ℕ → Neighbor → Option Chosen = λ place n. entry_at i.network.now i.base.now i.sessions.now c.args.ribs.now.rows c.args.router.0 place c.args.of.now.prefix in
     c.in_ok-chosen.ensures
     ∙ best_chosen i.network.now i.base.now i.sessions.now c.args.ribs.now.rows c.args.router.0 (process_view c.args.process.now) c.args.of.now.prefix c.requires.single
     c.in_ok-begun.begun.items c.best_learnt-best.result c.prefer_each.new.best c.in_ok-begun.ensures
-    (c.best_learnt-best.ensures.best ∙ ap (λ (l : List Neighbor). best_among (made_from make 0 l)) c.deref.ensures.value) c.prefer_each.ensures
+    c.best_learnt-best.ensures.best c.prefer_each.ensures
 
 pub returns-clause-own : goal.returns-clause-own
 returns-clause-own c =

@@ -1,5 +1,6 @@
-use Rattle.std.proofs.Common.{◌+◌, ◌++◌, ◌≤◌, ℕ, List, Option, All, length, sym, ap, subst, ◌∙◌, arith}
+use Rattle.std.proofs.Common.{◌+◌, ◌++◌, ◌≤◌, ℕ, Bool, false, ◌==◌, eqb-true, List, Option, All, length, sym, ap, subst, ◌∙◌, arith}
 use Rattle.std.specs.List.{filter_map, slice_get}
+use Rattle.std.specs.Option.{option_map_or}
 use Rattle.std.proofs.lemmas.List.{length-append, map-id}
 use Rattle.nc_types.specs.Cidr.{Cidr}
 use Rattle.nc_types.specs.Config.{ConfigView, ProcessView, process_view}
@@ -35,6 +36,13 @@ module _ (routers : List ConfigView) (tables : List (List BaseRow)) (sessions : 
       let gs = made_from of_aggregates 0 p.aggregates in
       let es = made_from of_neighbors 0 p.neighbors in
       omega (arith, length-append ns (gs ++ es), length-append gs es, made_fewer of_networks 0 p.networks, made_fewer of_aggregates 0 p.aggregates, made_fewer of_neighbors 0 p.neighbors)
+
+-- what is told of the process is so
+pub best_alone-requires-clause-single : goal.best_alone-requires-clause-single
+best_alone-requires-clause-single c =
+    let single : Option ProcessView → Bool = λ o. option_map_or (λ p. p.max_paths == 1) o false in
+    eqb-true c.args.process.now.max_paths 1
+    (sym (c.is_single.ensures ∙ c.requires.peerings.alone.single ∙ ap single (c.requires.peerings.process ∙ c.requires.process)) ∙ c.if-is_single.true)
 
 pub choose-requires : goal.choose-requires
 choose-requires c =

@@ -1,4 +1,4 @@
-use Rattle.std.proofs.Common.{◌≡◌, ℕ, List, Option, Some, None, IfSome, sym, ap, ◌∙◌}
+use Rattle.std.proofs.Common.{◌≡◌, ℕ, List, Option, Some, None, IfSome, sym, subst, ap, ◌∙◌}
 use Rattle.std.specs.Option.{option_and_then, option_map}
 use Rattle.nc_tables.specs.declared.base.BaseRow.{BaseRow}
 use Rattle.nc_tables.specs.declared.bgp.Chosen.{Chosen}
@@ -9,12 +9,20 @@ use Rattle.nc_message.specs.Adjacencies.{IsSender}
 use Rattle.nc_message.specs.declared.adjacencies.Sender.{Sender}
 use Rattle.nc_message.proofs.Sending.{message_is}
 use Rattle.nc_message.proofs.Holding.{held_not_taken}
+use Rattle.nc_decision.specs.declared.peerings.Bare.{Bare}
+use Rattle.nc_decision.specs.Bare.{IsBare}
 use Rattle.nc_decision.proofs.feasible.feasible_over.Goals as goal
 
 -- of what is known of a sender, its router id
 id_of : (tables : List (List BaseRow)) (router : ℕ) (k : Link) (o : Option Sender) → IfSome o (IsSender tables router k) → IfSome o (λ d. d.id.0 ≡ router_id k.sender.config)
 id_of tables router k None known = tt
 id_of tables router k (Some d) known = known.id
+
+-- nothing stands on the way
+pub returns-in-Some-clause-feasible : goal.returns-in-Some-clause-feasible
+returns-in-Some-clause-feasible c =
+    let bare = subst (λ (o : Option Bare). IfSome o (IsBare c.args.inputs.now.base.now c.args.router.0 (link_view c.args.peering.now.adjacency.link))) c.in-Some.is c.requires.peering.bare in
+    c.feasible_bare.ensures.feasible c.args.inputs.now.base.now c.args.router.0 (link_view c.args.peering.now.adjacency.link) bare
 
 pub returns-then-holds_receiver-clause-feasible : goal.returns-then-holds_receiver-clause-feasible
 returns-then-holds_receiver-clause-feasible c =

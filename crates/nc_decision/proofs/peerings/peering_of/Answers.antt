@@ -9,8 +9,8 @@ returns-in_err-adjacency c =
     (record { peering = tt; own = tt; none = c.in_err-adjacency.ensures.link })
 
 pub returns : goal.returns
-returns c = record {
-  peering = record { link = c.in_ok-adjacency.ensures.link; between = c.in_ok-adjacency.ensures.between; known = c.in_ok-adjacency.ensures.sender; maps = c.of-maps.ensures };
+returns c = let i = c.args.inputs.now in record {
+  peering = record { link = c.in_ok-adjacency.ensures.link; between = c.in_ok-adjacency.ensures.between; known = c.in_ok-adjacency.ensures.sender; maps = c.of-maps.ensures; peer = refl; highest = c.highest_over.ensures; bare = c.bare_of.ensures i.base.now c.args.router.0 c.in_ok-adjacency.ensures.sender };
   own = refl;
   none = tt;
 }

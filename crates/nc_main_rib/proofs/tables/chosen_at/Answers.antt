@@ -1,4 +1,4 @@
-use Rattle.std.proofs.Common.{◌-◌, sym, ◌∙◌, arith}
+use Rattle.std.proofs.Common.{◌-◌, sym, arith}
 use Rattle.nc_tables.proofs.BgpRows.{chosen_nowhere, chosen_there}
 use Rattle.nc_main_rib.proofs.tables.chosen_at.Goals as goal
 

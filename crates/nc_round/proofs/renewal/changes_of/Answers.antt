@@ -1,21 +1,13 @@
-use Rattle.std.proofs.Common.{◌≡◌, ℕ, ◌++◌, ◌+◌, ◌∷◌, ◌<◌, [], List, Option, Some, None, length, map, drop, append_assoc, append-nil, sym, ap, subst, ◌∙◌, arith}
-use Rattle.std.specs.List.{cons_option, filter_map}
+use Rattle.std.proofs.Common.{ℕ, ◌+◌, ◌<◌, length, map, drop, sym, ap, subst, arith}
+use Rattle.std.specs.List.{filter_map}
 use Rattle.nc_types.proofs.Walks.{drop_read}
 use Rattle.nc_tables.specs.LocRibs.{IsNumbered}
 use Rattle.nc_round.specs.declared.changed.NumberedRow.{NumberedRow}
-use Rattle.nc_round.specs.Keys.{Key}
 use Rattle.nc_round.specs.Rows.{row_key}
+use Rattle.nc_round.proofs.Renewed.{one_more}
 use Rattle.nc_round.proofs.NumberedRows.{all_under}
-use Rattle.nc_round.specs.Renewing.{RowChange, row_change, change_at}
+use Rattle.nc_round.specs.Renewing.{row_change, change_at}
 use Rattle.nc_round.proofs.renewal.changes_of.Goals as goal
-
--- what is new of one more row
-more : (f : Key → Option RowChange) (k : Key) (left rest : List Key) (before after all : List RowChange) → left ≡ k ∷ rest → after ≡ before ++ cons_option (f k) [] → before ++ filter_map f left ≡ all → after ++ filter_map f rest ≡ all
-more f k left rest before after all parts longer is = ap (λ (l : List RowChange). l ++ filter_map f rest) longer ∙ on (f k) ∙ ap (λ (l : List Key). before ++ filter_map f l) (sym parts) ∙ is
-  where
-    on : (o : Option RowChange) → (before ++ cons_option o []) ++ filter_map f rest ≡ before ++ cons_option o (filter_map f rest)
-    on None = ap (λ (l : List RowChange). l ++ filter_map f rest) (append-nil before)
-    on (Some x) = append_assoc before (x ∷ []) (filter_map f rest)
 
 -- the item at a place is of a router of the network
 abbrev of_network : ℕ → NumberedRow → Type 0
@@ -49,7 +41,7 @@ rows-preserved c =
     let k = c.rows.row-index in
     let lt : k < length rows = omega arith in
     record {
-      rows = more (change_at c.args.inputs c.args.ribs.now.rows) (row_key c.row-item.result) (map row_key (drop k rows)) (map row_key (drop (k + 1) rows)) (map row_change c.rows.changes.items) (map row_change c.add_of.new.changes.items) (filter_map (change_at c.args.inputs c.args.ribs.now.rows) (map row_key rows))
+      rows = one_more (change_at c.args.inputs c.args.ribs.now.rows) (row_key c.row-item.result) (map row_key (drop k rows)) (map row_key (drop (k + 1) rows)) (map row_change c.rows.changes.items) (map row_change c.add_of.new.changes.items) (filter_map (change_at c.args.inputs c.args.ribs.now.rows) (map row_key rows))
           (ap (map row_key) (drop_read rows k c.row-item.result c.row-item.is lt)) c.in_ok-add_of.ensures.rows c.rows.invariant.rows;
       changes = c.add_of.ensures.changes;
     }

@@ -25,7 +25,13 @@ add_affected-requires-clause-noted c = subst (All (IsNumbered c.args.ribs.now.pr
 
 pub add_around-requires-clause-known : goal.add_around-requires-clause-known
 add_around-requires-clause-known c =
-    subst (All (λ (a : AggregateStatement). Contains c.args.ribs.now.prefixes a.prefix)) (sym c.aggregates_of-aggregates.ensures) (c.requires.known c.args.router.0)
+    subst (All (λ (a : AggregateStatement). Contains c.args.ribs.now.prefixes a.prefix)) (sym (c.aggregate_statements-aggregates.ensures c.args.inputs.now.network.now c.args.inputs.now.base.now c.args.inputs.now.sessions.now c.args.router.0 (c.requires.all.each c.args.router.0 c.get-peerings.result.now c.get-peerings.ensures))) (c.requires.known c.args.router.0)
+
+pub returns-clause-added : goal.returns-clause-added
+returns-clause-added c = c.in_ok-wake_each.ensures ∙ ap (λ (l : List Numbered). c.args.woken.now.items ++ map (numbered_row c.args.router) l) c.deref.ensures.value
+
+pub returns-clause-noted : goal.returns-clause-noted
+returns-clause-noted c = c.keep_once.ensures.numbers c.args.ribs.now.prefixes c.in_ok-add_around.ensures.numbers
 
 pub returns-clause-kept : goal.returns-clause-kept
 returns-clause-kept c k some =
@@ -50,7 +56,7 @@ returns-clause-woken c p some =
     let router = c.args.router.0 in
     let all : List Numbered = c.add_around.new.noted.items in
     let noted = noted_is (affected_over i c.args.ribs.now.rows lists router) (prefixes_of c.clear.new.self.items) (prefixes_of c.add_affected.new.noted.items) (prefixes_of all) (prefixes_of c.changed_at.result.now) (slice_index_or lists router []) c.rows-rows.result.now (slice_index_or i.sessions.now router [])
-    c.aggregates_of-aggregates.result.now (aggregates_of i.network.now router) (ap prefixes_of c.clear.ensures.items) c.in_ok-add_affected.ensures.prefixes c.in_ok-add_around.ensures.prefixes c.rows-rows.ensures.rows c.changed_at.ensures.prefixes c.aggregates_of-aggregates.ensures in
+    c.aggregate_statements-aggregates.result.now (aggregates_of i.network.now router) (ap prefixes_of c.clear.ensures.items) c.in_ok-add_affected.ensures.prefixes c.in_ok-add_around.ensures.prefixes c.rows-rows.ensures.rows c.changed_at.ensures.prefixes (c.aggregate_statements-aggregates.ensures c.args.inputs.now.network.now c.args.inputs.now.base.now c.args.inputs.now.sessions.now c.args.router.0 (c.requires.all.each c.args.router.0 c.get-peerings.result.now c.get-peerings.ensures)) in
     let at = in_by_map (λ (n : Numbered). n.prefix) all p (in_by_contains (prefixes_of all) p (subst (λ (l : List Cidr). Contains l p) (sym noted) some)) in
     let once : Contains c.keep_once.new.noted.items at.0 = c.keep_once.ensures.kept c.args.ribs.now.prefixes c.in_ok-add_around.ensures.numbers at.0 (contains_by_in all at.0 at.1) in
     subst (λ (l : List NumberedRow). Contains (map row_key l) (c.args.router, p)) (sym c.in_ok-wake_each.ensures)

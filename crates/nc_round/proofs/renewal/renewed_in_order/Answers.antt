@@ -14,7 +14,7 @@ use Rattle.nc_round.specs.Rows.{listed, row_key}
 use Rattle.nc_round.specs.Keys.{Key, key}
 use Rattle.nc_round.specs.Waking.{aggregates_of, changed_at, affected_over, woken_at, IsAffectedByPeer, IsAround, IsWoken}
 use Rattle.nc_round.proofs.Lists.{in_flat_map, in_filter_map}
-use Rattle.nc_round.proofs.waking.woken_in_order.Goals as goal
+use Rattle.nc_round.proofs.renewal.renewed_in_order.Goals as goal
 
 -- a row that changed is among those that changed at its router
 there : (changed : List Key) (router : ℕ) (p : Cidr) → In (key router p) changed → In p (changed_at changed router)
@@ -62,9 +62,9 @@ module _ (i : RoutingInputs) (table : List (List BgpRowView)) (changed : List Ke
 
 pub returns-clause-woken : goal.returns-clause-woken
 returns-clause-woken c router p lt within woken =
-    let i = c.args.inputs.now in
+    let i = c.args.inputs in
     let network = i.network.now in
     let lists : List (List Cidr) = listed c.in_ok-lists.lists in
     let each : (r : ℕ) → r < length network → slice_index_or lists r [] ≡ changed_at (map row_key c.args.changed.now) r =
     λ r less. c.in_ok-lists.ensures.each r (omega (arith, length-map c.routers.result.now config_view, ap (length {A = ConfigView}) c.routers.ensures.routers)) in
-    c.in_ok-rows.ensures.woken router p lt (is_woken i c.args.ribs.now.rows (map row_key c.args.changed.now) lists within each router p woken)
+    c.in_ok-made.ensures.woken router p lt (is_woken i c.args.ribs.now.rows (map row_key c.args.changed.now) lists within each router p woken)

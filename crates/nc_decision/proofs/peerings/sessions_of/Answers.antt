@@ -4,12 +4,12 @@ use Rattle.nc_types.specs.declared.config.Neighbor.{Neighbor}
 use Rattle.nc_decision.specs.declared.peerings.Peering.{Peering}
 use Rattle.nc_decision.specs.Peerings.{IsPeeringAt}
 use Rattle.nc_message.proofs.Ends.{numbered}
-use Rattle.nc_decision.proofs.peerings.peerings_of.Goals as goal
+use Rattle.nc_decision.proofs.peerings.sessions_of.Goals as goal
 
 pub places-preserved : goal.places-preserved
 places-preserved c =
     let i = c.args.inputs.now in
-    let before = c.places.peerings.items in
+    let before = c.places.sessions.items in
     let o : Option Peering = c.peering_of.result in
     let P : ℕ → Option Peering → Type 0 = IsPeeringAt i.network.now i.base.now i.sessions.now c.args.router.0 in
     let items = c.in_ok-push.ensures.items in
