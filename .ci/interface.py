@@ -4,7 +4,8 @@ these name.
 A crate above is proved over the contracts of the crates below it and never over their bodies. So what is left out here
 can change below a crate without any effect on what the prover says of it: bodies, private functions, public ones that
 the crate above doesn't name, private fields with the views and invariants of their types, calls of a type that neither
-the crate above nor anything left names and as what its values are seen, definitions that no contract left leads to, and comments. Lemmas that
+the crate above nor anything left names and as what its values are seen, definitions that no contract left leads to, and
+comments. A name that a crate gives a type anew as it hands it on (pub use .. as ..) isn't followed; none does. Lemmas that
 a crate takes from the proofs below it aren't counted, nor definitions to which these alone lead: where one of them
 changes its statement, the proofs above tell.
 """
