@@ -3,9 +3,9 @@ these name.
 
 A crate above is proved over the contracts of the crates below it and never over their bodies. So what is left out here
 can change below a crate without any effect on what the prover says of it: bodies, private functions, public ones that
-the crate above doesn't name, private fields with the views and invariants of their types, calls of a type that neither
-the crate above nor anything left names and as what its values are seen, definitions that no contract left leads to, and
-comments. A name that a crate gives a type anew as it hands it on (pub use .. as ..) isn't followed; none does. Lemmas that
+the crate above doesn't name, private fields with the views and invariants of their types, a type that neither the crate
+above nor anything left names, with its calls, its traits and as what its values are seen, definitions that no contract
+left leads to, and comments. A name that a crate gives a type anew as it hands it on (pub use .. as ..) isn't followed; none does. Lemmas that
 a crate takes from the proofs below it aren't counted, nor definitions to which these alone lead: where one of them
 changes its statement, the proofs above tell.
 """
@@ -22,6 +22,8 @@ FUNCTION = re.compile(ATTRIBUTES + r"(?:pub(?:\([^)]*\))?\s+)?(?:const\s+)?fn\s+
 TYPE = re.compile(ATTRIBUTES + r"pub (?:struct|enum) (\w+)")
 HIDDEN = re.compile(ATTRIBUTES + r"(?:pub\([^)]*\) )?(?:struct|enum) (\w+)")
 DEFINITIONS = re.compile(r"Rattle\.(nc_\w+)\.specs\.(\w+(?:\.\w+)*)")
+HANDED_ON = re.compile(ATTRIBUTES + r"pub use (\w+(?:::\w+)*?)::(\w+|\{[^{}]*\})\s*;")
+OF = re.compile(r" for (\w+)")
 OWN = re.compile(ATTRIBUTES + r"impl\b(?:<[^{]*?>)?\s+(\w+)")
 DECLARED = re.compile(r"\bpub (?:struct|enum) \w+|\b(?:pub|ghost) use [^;]*;|\bimpl\b[^;{]*? for \w+")
 CONSTANT = re.compile(ATTRIBUTES + r"(?:pub\([^)]*\) )?const (\w+)")
@@ -149,15 +151,19 @@ def shown_impl(item, opened, words):
     ''
     >>> shown_impl('impl A { fn b(); }', set(), {'A', '.b'}), shown_impl('impl A { pub fn b(); }', set(), {'A', 'b'})
     ('', '')
+    >>> shown_impl('impl B for A { fn b(); }', {'A'}, {'A'}), shown_impl('impl B for A { fn b(); }', {'A'}, {'B'})
+    ('impl B for A fn b();', '')
     >>> shown_impl("impl<'a> A<'a> { pub fn b(); }", set(), {'A', '.b'}), shown_impl('impl A { pub fn b(); }', set(), {'.b'})
     ("impl<'a> A<'a> pub fn b();", '')
     """
     start, inside = body_of(item)
     head = item[:start]
     rows = [it for it in items_of(inside) if not it.startswith("ghost use")]
-    model = re.search(r"\bModel for (\w+)", head)
-    if model and model.group(1) not in opened:
-        rows = [it for it in rows if it.startswith("ghost Value") and model.group(1) in words]
+    model, of = re.search(r"\bModel for (\w+)", head), OF.search(head)
+    if of and of.group(1)[0].isupper() and of.group(1) not in words:
+        rows = []
+    elif model and model.group(1) not in opened:
+        rows = [it for it in rows if it.startswith("ghost Value")]
     elif " for " not in head and OWN.match(head).group(1) not in words:
         rows = []
     elif " for " not in head:
@@ -173,9 +179,17 @@ def shown_item(item, opened, words):
     'pub fn a() ensures { b } '
     >>> shown_item('fn a() { c }', set(), {'a'}), shown_item('pub fn a() ensures { b } { c }', set(), {'b'})
     ('', '')
+    >>> shown_item('pub struct A(pub u8);', set(), {'A'}), shown_item('pub struct A(pub u8);', set(), {'B'})
+    ('pub struct A(pub u8);', '')
+    >>> shown_item('pub use a::{A, b};', set(), {'A'}), shown_item('pub use a::A;', set(), {'b'})
+    ('pub use a::{A};', '')
     """
     if TYPE.match(item):
-        return shown_type(item)
+        return shown_type(item) if TYPE.match(item).group(1) in words else ""
+    if HANDED_ON.match(item):
+        path, names = HANDED_ON.match(item).groups()
+        kept = [it for it in re.split(r",\s*", names.strip("{} \n,")) if it in words]
+        return f"pub use {path}::{{{', '.join(kept)}}};" if kept else ""
     if re.match(ATTRIBUTES + r"impl\b", item):
         return shown_impl(item, opened, words)
     if FUNCTION.match(item):

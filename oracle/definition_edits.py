@@ -27,8 +27,9 @@ COPIED = {
     "nc_network": ("Judged", "CaseLists"),
     "nc_community": ("Words", "CaseWords"),
 }
-# What isn't copied of nc_tables: the pieces of a path name what only that crate can see, and no definition of the state names them.
-LEFT_OUT = ("Lib.antt", "Pieces.antt")
+# What isn't copied of nc_tables: the pieces of a path, and what a table holds, name what only that crate can see, and no definition of
+# the state names them.
+LEFT_OUT = ("Lib.antt", "Pieces.antt", "SpreadView.antt")
 # The crates that have to be there, each with those below it.
 BELOW = ("nc_types", "nc_lines", "nc_community", "nc_network", "nc_tables")
 # The cases of the subject of each file.
@@ -48,6 +49,7 @@ NEAREST = {
     "Rounds": ["CaseChoice", "CaseMessages", "CaseCommunities", "CaseRounds", "CaseRelations"],
     "Settling": ["CaseRounds"],
     "State": ["CaseRounds", "CaseRelations"],
+    "Spread": ["CaseSpread"],
     "Distances": ["CaseForwarding"],
     "Main": ["CaseForwarding"],
     "Forwarding": ["CaseForwarding"],

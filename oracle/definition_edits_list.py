@@ -381,6 +381,12 @@ STATE = of(
     ("state_at", "      bgp = bgp;", "      bgp = no_routes routers;", "the table of BGP is empty"),
 )
 
+SPREAD = of(
+    "Spread",
+    ("choice_of", "option_map_or (λ row. row.chosen) (find (λ row. same_prefix row.prefix p) own) others", "others", "a router's own rows don't count"),
+    ("choice_of", "with_prefix p x = record x { route = record x.route { prefix = p } }", "with_prefix p x = x", "a route keeps the prefix that stands for others"),
+)
+
 DISTANCES = of(
     "Distances",
     ("main_table", "if best.internal then INTERNAL_DISTANCE else EXTERNAL_DISTANCE", "if best.internal then EXTERNAL_DISTANCE else INTERNAL_DISTANCE", "internal routes are nearer"),
@@ -495,4 +501,4 @@ FILTERS = of(
     ("flow_step_at", "lets router way && arrives_by (goes_on", "arrives_by (goes_on", "a step isn't filtered"),
 )
 
-EDITS = NETWORK + JOINING + COMMUNITIES + SETTING + WORDS + BASE + ORDER + LONGEST + REACH + SESSIONS + POLICY + CHOICE + ROUNDS + SETTLING + STATE + DISTANCES + MAIN + FORWARDING + LEVELS + RELATIONS + FILTERS
+EDITS = NETWORK + JOINING + COMMUNITIES + SETTING + WORDS + BASE + ORDER + LONGEST + REACH + SESSIONS + POLICY + CHOICE + ROUNDS + SETTLING + STATE + SPREAD + DISTANCES + MAIN + FORWARDING + LEVELS + RELATIONS + FILTERS

@@ -26,7 +26,7 @@ use nc_message::{
 };
 use nc_select::Candidate;
 use nc_tables::{
-    BgpFrom, Chosen, Learnt, LocRibs, Numbered, Path, RecentAttributes, RibEntry, Route,
+    BgpFrom, Chosen, Learnt, LocRibs, Numbered, Path, RecentAttributes, RibEntry, RibRoute, Route,
 };
 use nc_types::{Addr, Communities, DEFAULT_PREFERENCE, OriginCode, PATH_LIMIT, Prefix, RouterId};
 use std::alloc::{AllocError, Global};
@@ -344,6 +344,7 @@ pub(crate) fn feasible_over<'a>(
     }
     let adjacency = &peering.adjacency;
     let link = &adjacency.link;
+    let best = RibRoute::of(best);
     if holds_receiver(link, best) {
         return None;
     }

@@ -146,7 +146,7 @@ pub(crate) fn learnt_from(
 {
     let link = taken.sent.link;
     let route = Route {
-        prefix: taken.sent.best.prefix(),
+        prefix: *taken.sent.best.prefix,
         path: path_of(alloc, taken)?,
         next_hop: hop_of(&taken.sent),
         preference: preference_of(taken),
@@ -207,7 +207,7 @@ pub(crate) fn plainly_learnt<'a>(place: u32, taken: &LearntRoute<'a>) -> Option<
     let communities = kept_communities(taken)?;
     let link = sent.link;
     Some(Learnt {
-        prefix: sent.best.prefix(),
+        prefix: *sent.best.prefix,
         system: outer_number(sent),
         path: sent.best.path(),
         communities,

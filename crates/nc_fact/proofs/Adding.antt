@@ -1,5 +1,5 @@
 -- The facts of a list, one item after another.
-use Rattle.std.proofs.Common.{◌≡◌, ℕ, suc, ◌+◌, Bool, true, false, cond, List, [], ◌∷◌, ◌++◌, map, filter, refl, sym, ap, ◌∙◌, append_assoc, arith}
+use Rattle.std.proofs.Common.{◌≡◌, ℕ, suc, ◌+◌, Bool, true, cond, List, [], ◌∷◌, ◌++◌, map, filter, sym, ap, ◌∙◌, append_assoc, arith}
 use Rattle.std.specs.List.{flat_map, range_with_len}
 use Rattle.std.proofs.lemmas.List.{flat_map_more, map_push}
 use Rattle.nc_types.proofs.Placing.{range_more}
@@ -31,15 +31,10 @@ module _ {X : Type 0} (x : X) (left rest : List X) (first : left ≡ x ∷ rest)
       ∙ append_assoc before (parts x) (flat_map parts rest)
       ∙ ap (λ (l : List X). before ++ flat_map parts l) (sym first)
 
-  -- one fact more, if its item passes
-  pub kept_more : (test : X → Bool) (make : X → Fact) (b : Bool) → test x ≡ b → after ≡ before ++ cond b (make x ∷ []) [] → after ++ map make (filter test rest) ≡ before ++ map make (filter test left)
-  kept_more test make b is added =
+  -- one fact more, as its item passes
+  pub kept_more : (test : X → Bool) (make : X → Fact) → test x ≡ true → after ≡ before ++ make x ∷ [] → after ++ map make (filter test rest) ≡ before ++ map make (filter test left)
+  kept_more test make passes added =
       ap (λ (fs : List Fact). fs ++ map make (filter test rest)) added
-      ∙ append_assoc before (cond b (make x ∷ []) []) (map make (filter test rest))
-      ∙ ap (λ (fs : List Fact). before ++ fs) (by_kept b)
-      ∙ ap (λ (h : Bool). before ++ map make (cond h (x ∷ filter test rest) (filter test rest))) (sym is)
+      ∙ append_assoc before (make x ∷ []) (map make (filter test rest))
+      ∙ ap (λ (h : Bool). before ++ map make (cond h (x ∷ filter test rest) (filter test rest))) (sym passes)
       ∙ ap (λ (l : List X). before ++ map make (filter test l)) (sym first)
-    where
-      by_kept : (h : Bool) → cond h (make x ∷ []) [] ++ map make (filter test rest) ≡ map make (cond h (x ∷ filter test rest) (filter test rest))
-      by_kept true = refl
-      by_kept false = refl

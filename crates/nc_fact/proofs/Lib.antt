@@ -1,3 +1,4 @@
+pub mod First
 pub mod Few
 pub mod Beyond
 pub mod Places

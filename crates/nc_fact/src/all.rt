@@ -1,7 +1,7 @@
 //! The roots: the facts in which it shows what a network does.
 
-ghost use Rattle.std.specs.Prelude.{◌≡◌, ◌≢◌, ◌↔◌, ◌++◌, true, map, All, AllPairs, Contains, IfOk, OnOk};
-ghost use Rattle.nc_tables.specs.Rounds.{bgp_row_view};
+ghost use Rattle.std.specs.Prelude.{◌≡◌, ◌≢◌, ◌↔◌, ◌++◌, [], true, All, AllPairs, Contains, IfNone, IfOk, IfSome, OnOk};
+ghost use Rattle.nc_tables.specs.SpreadView.{row_view};
 ghost use Rattle.nc_tables.specs.State.{StateView, IsState};
 ghost use Rattle.nc_policy.specs.Indexes.{ArePolicies};
 ghost use Rattle.nc_fact.specs.declared.fact.Fact.{Fact};
@@ -18,7 +18,7 @@ use crate::fact::Fact;
 use crate::rows::{has_router, main_rows};
 use nc_message::{Adjacencies, Adjacency, RoutingInputs, accepted_over, adjacency_of};
 use nc_policy::Policies;
-use nc_tables::{BgpRow, SessionRow, Stable};
+use nc_tables::{ChosenRow, RouterRows, SessionRow, Stable};
 use nc_types::RouterId;
 use std::alloc::{AllocError, Global};
 
@@ -32,14 +32,15 @@ fn sessions_at(state: &Stable, router: RouterId) -> &[SessionRow]
     state.sessions().rows(router)
 }
 
-// The rows of a router's BGP table, in order of prefix; none where there is no such router.
-fn bgp_rows(state: &Stable, router: RouterId) -> &[BgpRow]
-    ensures { map bgp_row_view result.now ≡ bgp_rows state.now router.0 }
+// The rows of a router's BGP table, in order of prefix; `None` where there is no such router.
+fn bgp_rows(state: &Stable, router: RouterId) -> Option<RouterRows<'_>>
+    ensures some { IfSome result (λ rows. rows ≡ bgp_rows state.now router.0) }
+    ensures none { IfNone result (bgp_rows state.now router.0 ≡ []) }
 {
     if !has_router(state, router) {
-        return &[];
+        return None;
     }
-    state.bgp().rows(router)
+    Some(state.bgp().rows(router))
 }
 
 // Adds the facts of a router's main rows.
@@ -69,14 +70,14 @@ fn accepts(
     inputs: &RoutingInputs<'_>,
     router: RouterId,
     adjacency: Adjacency<'_>,
-    row: &BgpRow,
+    row: ChosenRow<'_>,
 ) -> bool
     requires inputs { AreRoutingInputs inputs.now }
     requires between { IsBetween inputs.now.network.now router.0 (link_view adjacency.link) }
     requires sender { IsAdjacency inputs.now.base.now router.0 adjacency }
-    ensures { result ≡ accepts inputs.now.base.now router.0 (link_view adjacency.entry.link) (bgp_row_view row.now) }
+    ensures { result ≡ accepts inputs.now.base.now router.0 (link_view adjacency.entry.link) (row_view row.entry) }
 {
-    match row.chosen.as_slice().first() {
+    match row.get(0) {
         Some(best) => accepted_over(inputs, router, adjacency, best).is_some(),
         None => false,
     }
@@ -90,17 +91,17 @@ fn add_entries_by(
     router: RouterId,
     place: u32,
     adjacency: Adjacency<'_>,
-    rows: &[BgpRow],
+    mut rows: RouterRows<'_>,
 ) -> Result<(), AllocError>
     requires inputs { AreRoutingInputs inputs.now }
     requires between { IsBetween inputs.now.network.now router.0 (link_view adjacency.link) }
     requires sender { IsAdjacency inputs.now.base.now router.0 adjacency }
     ensures { OnOk result (facts.new.items ≡ facts.old.items
-        ++ entries_by inputs.now.base.now router.0 place (link_view adjacency.entry.link) (map bgp_row_view rows.now)) }
+        ++ entries_by inputs.now.base.now router.0 place (link_view adjacency.entry.link) rows.entry) }
 {
-    'rows: for row in rows {
+    'rows: while let Some(row) = rows.next_row() {
         if accepts(inputs, router, adjacency, row) {
-            facts.push(Fact::Entry(router, place, row.prefix))?;
+            facts.push(Fact::Entry(router, place, *row.prefix))?;
         }
     }
     Ok(())
@@ -120,7 +121,9 @@ fn add_entries_over(
         ≡ facts.old.items ++ entries_over state.now router.0 session.now) }
 {
     let _valid = state.network();
-    let rows = bgp_rows(state, session.peer);
+    let Some(rows) = bgp_rows(state, session.peer) else {
+        return Ok(());
+    };
     match adjacency_of(inputs, router, session.neighbor) {
         Some(adjacency) => add_entries_by(facts, inputs, router, session.neighbor, adjacency, rows),
         None => Ok(()),

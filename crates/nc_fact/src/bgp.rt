@@ -1,9 +1,10 @@
 //! The routes of a router's BGP process: what it begins, what it is sent, what it accepts and what it chooses.
 
-ghost use Rattle.std.specs.Prelude.{◌≡◌, ◌≤◌, false, IfSome, length};
+ghost use Rattle.std.specs.Prelude.{◌≡◌, ◌≤◌, [], false, IfSome, length};
 ghost use Rattle.std.specs.Option.{option_map, option_map_or};
 ghost use Rattle.nc_types.specs.declared.TheConstants.{MULTIPATH_LIMIT};
-ghost use Rattle.nc_tables.specs.Rounds.{best_at, chosen_at, is_active, link_at};
+ghost use Rattle.nc_tables.specs.Rounds.{chosen_at, is_active, link_at};
+ghost use Rattle.nc_tables.specs.SpreadView.{route_view, row_view};
 ghost use Rattle.nc_policy.specs.Indexes.{ArePolicies};
 ghost use Rattle.nc_sessions.specs.Views.{link_view};
 ghost use Rattle.nc_message.specs.Inputs.{IsBetween};
@@ -21,7 +22,7 @@ use nc_message::{
 };
 use nc_policy::Policies;
 use nc_sessions::Link;
-use nc_tables::{RibEntry, Stable};
+use nc_tables::{ChosenRow, RibRoute, Stable};
 use nc_types::{AggregateStatement, NetworkStatement, Prefix, RouterId};
 
 /// What is needed to tell messages: the network with its tables, those of its maps, and what is known of the senders
@@ -156,13 +157,6 @@ pub fn link_at<'a>(
     Some(adjacency.link)
 }
 
-// The best route of a prefix that a router has chosen.
-fn best_at(state: &Stable, router: RouterId, prefix: Prefix) -> Option<&RibEntry>
-    ensures { option_map (λ b. b.now) result ≡ best_at state.now.bgp router.0 prefix }
-{
-    chosen_at(state, router, prefix).first()
-}
-
 /// What a router accepts over a session of the best that its peer has chosen of a prefix; `None` where it accepts
 /// nothing. The policies are those of the state's routers. Takes no memory.
 pub fn accepted_by<'a>(
@@ -178,26 +172,32 @@ pub fn accepted_by<'a>(
         ≡ accepted_by state.entry.now router.0 (link_view link.entry) prefix }
 {
     let inputs = inputs(state, policies, None);
-    let best = best_at(state, link.session.peer, prefix)?;
+    let best = chosen_of(state, link.session.peer, prefix, 0)?;
     let adjacency = Adjacency { link, sender: None };
     accepted_over(&inputs, router, adjacency, best)
 }
 
-/// The routes of a prefix that a router has chosen, best first; none where the prefix has no row, and where
+/// The routes of a prefix that a router has chosen, best first; `None` where the prefix has no row, and where
 /// there is no such router.
-pub fn chosen_at(state: &Stable, router: RouterId, prefix: Prefix) -> &[RibEntry]
-    ensures chosen { result.now ≡ chosen_at state.now.bgp router.0 prefix }
-    ensures few { length result.now ≤ MULTIPATH_LIMIT }
+pub fn chosen_at(state: &Stable, router: RouterId, prefix: Prefix) -> Option<ChosenRow<'_>>
+    ensures chosen { option_map_or (λ row. (row_view row).chosen) result []
+        ≡ chosen_at state.now.bgp router.0 prefix }
+    ensures few { IfSome result (λ row. length (row_view row).chosen ≤ MULTIPATH_LIMIT) }
 {
     if !has_router(state, router) {
-        return &[];
+        return None;
     }
     state.bgp().chosen(router, prefix)
 }
 
 /// The route of a prefix that a router has chosen at a place, the best at 0.
-pub fn chosen_of(state: &Stable, router: RouterId, prefix: Prefix, place: u32) -> Option<&RibEntry>
-    ensures { option_map (λ x. x.now) result ≡ chosen_of state.now router.0 prefix place }
+pub fn chosen_of(
+    state: &Stable,
+    router: RouterId,
+    prefix: Prefix,
+    place: u32,
+) -> Option<RibRoute<'_>>
+    ensures { option_map route_view result ≡ chosen_of state.now router.0 prefix place }
 {
-    chosen_at(state, router, prefix).get(place as usize)
+    chosen_at(state, router, prefix)?.get(place as usize)
 }

@@ -3,6 +3,7 @@
 ghost use Rattle.std.specs.Prelude.{◌≡◌, ◌≤◌, length};
 ghost use Rattle.std.specs.Option.{option_map_or};
 ghost use Rattle.nc_types.specs.declared.TheConstants.{PATH_LIMIT};
+ghost use Rattle.nc_tables.specs.SpreadView.{route_view};
 ghost use Rattle.nc_policy.specs.Indexes.{ArePolicies};
 ghost use Rattle.nc_message.specs.Views.{message_view, accepted_view, IsAdvertised, IsAccepted};
 ghost use Rattle.nc_fact.specs.Facts.{weight, lowest_rank, rank_of_network, rank_of_aggregate};
@@ -12,7 +13,7 @@ ghost use Rattle.nc_fact.specs.Facts.{network_of, aggregate_of, message_of, acce
 use crate::bgp::{accepted_of, aggregate_of, chosen_of, message_of, network_of};
 use nc_message::{AcceptedRoute, Advertisement};
 use nc_policy::Policies;
-use nc_tables::{RibEntry, Stable};
+use nc_tables::{RibRoute, Stable};
 use nc_types::{Prefix, RouterId};
 
 // What a route with so many numbers in its path weighs.
@@ -85,8 +86,8 @@ fn rank_of_accepted(prefix: Prefix, taken: &AcceptedRoute) -> u32
 }
 
 // The rank of a route of a prefix that is chosen.
-fn rank_of_chosen(prefix: Prefix, chosen: &RibEntry) -> u32
-    ensures { result ≡ rank_of_chosen prefix chosen.now }
+fn rank_of_chosen(prefix: Prefix, chosen: RibRoute<'_>) -> u32
+    ensures { result ≡ rank_of_chosen prefix (route_view chosen.entry) }
 {
     lowest_rank(prefix, weight(chosen.path().len(), chosen.is_internal())) + 4
 }

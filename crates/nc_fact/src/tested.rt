@@ -125,8 +125,10 @@ fn asked_routes(
         ≡ filter (holds state.now) (asked_routes state.now router.0 prefix)) }
 {
     let mut facts = Vec::new(alloc);
-    let count = chosen_at(state, router, prefix).len();
-    'places: for place in 0..count {
+    let Some(row) = chosen_at(state, router, prefix) else {
+        return Ok(facts);
+    };
+    'places: for place in 0..row.count() {
         let chosen = Fact::Chosen(router, prefix, place as u32);
         if holds(state, policies, &chosen) {
             facts.push(chosen)?;

@@ -29,24 +29,6 @@ nearer_is [] bgp = refl
 nearer_is (row ∷ rows) [] = refl
 nearer_is (row ∷ rows) (other ∷ others) = refl
 
-pub first_base : (prefix : Cidr) (first : ℕ) (rows : List BaseRow) → first_distance (base_rows prefix first rows) ≡ option_map (λ row. row.distance) (first_of rows)
-first_base prefix first [] = refl
-first_base prefix first (row ∷ rows) = refl
-
--- the distance of the rows that were learnt
-abbrev pub learnt_by : Chosen → Option ℕ
-learnt_by best = cond (is_learnt best.from) (Some (distance_of best)) None
-
-pub first_learnt : (prefix : Cidr) (best : Chosen) (others : List Chosen) → first_distance (learnt_rows prefix (best ∷ others)) ≡ learnt_by best
-first_learnt prefix best others = on (is_learnt best.from)
-  where
-    more : length others + 1 ≡ suc (length others)
-    more = omega arith
-
-    on : (b : Bool) → first_distance (cond b (map (learnt_row prefix (distance_of best)) (range_with_len 0 (length others + 1))) []) ≡ cond b (Some (distance_of best)) None
-    on true = ap (λ (n : ℕ). first_distance (map (learnt_row prefix (distance_of best)) (range_with_len 0 n))) more
-    on false = refl
-
 -- ---- base rows of a prefix
 
 low : {A : Type 0} (test : A → Bool) (place : ℕ) (xs : List A) (p : ℕ) (ps : List ℕ) → places_from test place xs ≡ p ∷ ps → place ≤ p

@@ -2,21 +2,21 @@
 use Rattle.std.specs.Prelude.{◌≡◌, ℕ, zero, ◌+◌, ◌≤◌, Bool, true, false, ◌&&◌, nat_le, List, [], ◌∷◌, length, Option, Some, None, if◌then◌else◌}
 use Rattle.std.specs.BTreeMap.{BTreeMap, get_by}
 use Rattle.std.specs.List.{flat_map, AllWithin}
-use Rattle.std.specs.List.Sorted.{IsPartitionPoint}
-use Rattle.std.specs.Option.{option_map}
-use Rattle.std.specs.Ordering.{is_le, is_lt}
+use Rattle.std.specs.Option.{option_map, option_map_or}
+use Rattle.std.specs.Ordering.{is_le}
 use Rattle.nc_types.specs.Cidr.{Cidr}
 use Rattle.nc_types.specs.declared.config.AggregateStatement.{AggregateStatement}
 use Rattle.nc_tables.specs.declared.TheConstants.{LOCAL_DISTANCE}
 use Rattle.nc_tables.specs.declared.base.BaseRow.{BaseRow}
-use Rattle.nc_tables.specs.declared.bgp.BgpRow.{BgpRow}
 use Rattle.nc_tables.specs.declared.bgp.Chosen.{Chosen}
 use Rattle.nc_tables.specs.declared.bgp.MainRow.{MainRow}
 use Rattle.nc_tables.specs.declared.bgp.MainFrom.TheVariants.{Base, Bgp, Discard}
+use Rattle.nc_tables.specs.declared.router_rows.ChosenRow.{ChosenRow}
 use Rattle.nc_tables.specs.Base.{same_prefix, prefix_cmp}
 use Rattle.nc_tables.specs.Main.{learnt_rows}
 use Rattle.nc_tables.specs.Rounds.{BgpRowView, has_longer, made_from}
 use Rattle.nc_tables.specs.Sessions.{first_of}
+use Rattle.nc_tables.specs.SpreadView.{row_view}
 
 -- ---- aggregates
 
@@ -48,22 +48,16 @@ base_in prefix rows = made_from (λ at row. if same_prefix row.prefix prefix the
 abbrev pub ArePassed : List BaseRow → ℕ → Cidr → Type 0
 ArePassed rows count prefix = (count ≤ length rows) × AllWithin (λ row. is_le (prefix_cmp row.prefix prefix) ≡ true) rows zero count
 
--- so many BGP rows, the first of a table, have a lower prefix, and no others
-abbrev pub AreLower : List BgpRow → ℕ → Cidr → Type 0
-AreLower rows count prefix =
-    (count ≤ length rows) × IsPartitionPoint (λ row. is_lt (prefix_cmp row.prefix prefix) ≡ true) (λ row. is_lt (prefix_cmp row.prefix prefix) ≡ false) rows count
-
--- so many BGP rows, the first of a table, have no later prefix, and all others do
-abbrev pub AreUpto : List BgpRow → ℕ → Cidr → Type 0
-AreUpto rows count prefix =
-    (count ≤ length rows) × IsPartitionPoint (λ row. is_le (prefix_cmp row.prefix prefix) ≡ true) (λ row. is_le (prefix_cmp row.prefix prefix) ≡ false) rows count
-
 -- the main row of the chosen candidate at a place
 abbrev pub learnt_row : Cidr → ℕ → ℕ → MainRow
 learnt_row prefix distance place = record { prefix = prefix; distance = distance; from = Bgp place }
 
+-- what is chosen of a prefix, if it has a BGP row
+abbrev pub chosen_of : Option ChosenRow → List Chosen
+chosen_of o = option_map_or (λ row. (row_view row).chosen) o []
+
 -- what was learnt of the prefixes of BGP rows, one after another
-abbrev pub learnt_of : List BgpRow → List MainRow
+abbrev pub learnt_of : List BgpRowView → List MainRow
 learnt_of rows = flat_map (λ row. learnt_rows row.prefix row.chosen) rows
 
 -- the row of the aggregate that discards, if there is one, else those of what was learnt

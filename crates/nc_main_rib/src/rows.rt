@@ -1,14 +1,14 @@
 //! The main rows of one prefix, and those of BGP rows that stand alone.
 
-ghost use Rattle.std.specs.Prelude.{◌≡◌, ◌+◌, ◌++◌, ◌-◌, ◌^◌, ◌<◌, ◌≤◌, ℕ, [], All, drop, length, map, take, OnOk};
+ghost use Rattle.std.specs.Prelude.{◌≡◌, ◌+◌, ◌++◌, ◌^◌, ◌<◌, ◌≤◌, ℕ, All, length, map, IfSome, OnOk};
 ghost use Rattle.std.specs.List.{range_with_len};
-ghost use Rattle.std.specs.Option.{option_map, option_map_or};
 ghost use Rattle.nc_types.specs.Cidr.{Cidr};
 ghost use Rattle.nc_types.specs.declared.TheConstants.{MULTIPATH_LIMIT};
 ghost use Rattle.nc_tables.specs.Main.{learnt_rows, nearer};
-ghost use Rattle.nc_main_rib.specs.Sides.{base_rows, bgp_rows, learnt_of, learnt_row, first_distance, stands};
+ghost use Rattle.nc_tables.specs.SpreadView.{row_view};
+ghost use Rattle.nc_main_rib.specs.Sides.{base_rows, bgp_rows, chosen_of, learnt_of, learnt_row, first_distance, stands};
 
-use nc_tables::{BaseRow, BgpRow, LOCAL_DISTANCE, MainFrom, MainRow, RibEntries};
+use nc_tables::{BaseRow, ChosenRow, LOCAL_DISTANCE, MainFrom, MainRow, RouterRows};
 use nc_types::Prefix;
 use std::alloc::AllocError;
 
@@ -16,9 +16,9 @@ use std::alloc::AllocError;
 
 // The distance of what BGP has of a prefix: of the discard, if there is one, else of the best
 // candidate.
-fn bgp_distance(discard: Option<u32>, chosen: Option<&RibEntries>) -> Option<u8>
+fn bgp_distance(discard: Option<u32>, chosen: Option<ChosenRow<'_>>) -> Option<u8>
     ensures { (prefix : Cidr)
-        → result ≡ first_distance (bgp_rows prefix discard (option_map_or (λ c. c.now) chosen.entry [])) }
+        → result ≡ first_distance (bgp_rows prefix discard (chosen_of chosen.entry)) }
 {
     if discard.is_some() {
         return Some(LOCAL_DISTANCE);
@@ -94,37 +94,25 @@ fn add_learnt(
 }
 
 // Adds what was learnt of a prefix, of which this is chosen.
-fn add_chosen(
-    main: &mut Vec<MainRow>,
-    prefix: Prefix,
-    chosen: &RibEntries,
-) -> Result<(), AllocError>
-    requires { length chosen.now ≤ MULTIPATH_LIMIT }
-    ensures { OnOk result (main.new.items ≡ main.old.items ++ learnt_rows prefix chosen.now) }
+fn add_chosen(main: &mut Vec<MainRow>, row: ChosenRow<'_>) -> Result<(), AllocError>
+    requires { length (row_view row).chosen ≤ MULTIPATH_LIMIT }
+    ensures { OnOk result (main.new.items
+        ≡ main.old.items ++ learnt_rows row.entry.prefix.now (row_view row.entry).chosen) }
 {
-    let Some(distance) = chosen.learnt_distance() else {
+    let Some(distance) = row.learnt_distance() else {
         return Ok(());
     };
-    add_learnt(main, prefix, distance, chosen.as_slice().len())?;
+    add_learnt(main, *row.prefix, distance, row.count())?;
     Ok(())
 }
 
-/// Adds what was learnt of the prefixes of some BGP rows, from a place of the table up to another, which have
-/// neither base rows nor a discard.
-pub(crate) fn add_alone(
-    main: &mut Vec<MainRow>,
-    rows: &[BgpRow],
-    from: usize,
-    to: usize,
-) -> Result<(), AllocError>
-    requires few { All (λ row. length row.chosen ≤ MULTIPATH_LIMIT) rows.now }
-    requires ordered { from ≤ to }
-    requires within { to ≤ length rows.now }
-    ensures { OnOk result (main.new.items ≡ main.old.items ++ learnt_of (take (to - from) (drop from rows.now))) }
+/// Adds what was learnt of the prefixes of some BGP rows, which have neither base rows nor a discard.
+pub(crate) fn add_alone(main: &mut Vec<MainRow>, mut rows: RouterRows<'_>) -> Result<(), AllocError>
+    requires { All (λ row. length row.chosen ≤ MULTIPATH_LIMIT) rows }
+    ensures { OnOk result (main.new.items ≡ main.old.items ++ learnt_of rows.entry) }
 {
-    let alone = &rows[from..to];
-    'rows: for row in alone {
-        add_chosen(main, row.prefix, &row.chosen)?;
+    'rows: while let Some(row) = rows.next_row() {
+        add_chosen(main, row)?;
     }
     Ok(())
 }
@@ -134,11 +122,12 @@ fn add_bgp(
     main: &mut Vec<MainRow>,
     prefix: Prefix,
     discard: Option<u32>,
-    chosen: Option<&RibEntries>,
+    chosen: Option<ChosenRow<'_>>,
 ) -> Result<(), AllocError>
-    requires { length (option_map_or (λ c. c.now) chosen []) ≤ MULTIPATH_LIMIT }
+    requires own { IfSome chosen (λ row. row.prefix.now ≡ prefix) }
+    requires few { length (chosen_of chosen) ≤ MULTIPATH_LIMIT }
     ensures { OnOk result (main.new.items
-        ≡ main.old.items ++ bgp_rows prefix discard (option_map_or (λ c. c.now) chosen.entry [])) }
+        ≡ main.old.items ++ bgp_rows prefix discard (chosen_of chosen.entry)) }
 {
     if let Some(place) = discard {
         main.push(MainRow {
@@ -149,8 +138,8 @@ fn add_bgp(
         return Ok(());
     }
     match chosen {
-        Some(chosen) => {
-            add_chosen(main, prefix, chosen)?;
+        Some(row) => {
+            add_chosen(main, row)?;
             Ok(())
         }
         None => Ok(()),
@@ -165,12 +154,13 @@ pub(crate) fn add_rows(
     base: &[BaseRow],
     first: usize,
     discard: Option<u32>,
-    chosen: Option<&RibEntries>,
+    chosen: Option<ChosenRow<'_>>,
 ) -> Result<(), AllocError>
     requires base { first + length base.now < 2 ^ 32 }
-    requires chosen { length (option_map_or (λ c. c.now) chosen []) ≤ MULTIPATH_LIMIT }
+    requires own { IfSome chosen (λ row. row.prefix.now ≡ prefix) }
+    requires few { length (chosen_of chosen) ≤ MULTIPATH_LIMIT }
     ensures { OnOk result (main.new.items ≡ main.old.items
-        ++ nearer (base_rows prefix first base.now) (bgp_rows prefix discard (option_map_or (λ c. c.now) chosen.entry []))) }
+        ++ nearer (base_rows prefix first base.now) (bgp_rows prefix discard (chosen_of chosen.entry))) }
 {
     if stands(base_distance(base), bgp_distance(discard, chosen)) {
         add_base(main, prefix, base, first)?;

@@ -3,6 +3,7 @@ use Rattle.std.specs.Prelude.{◌≡◌, ℕ, ◌≤◌, List, length, IfSome}
 use Rattle.nc_types.specs.declared.TheConstants.{COMMUNITY_LIMIT, PATH_LIMIT}
 use Rattle.nc_tables.specs.Rounds.{Link, Passed, Message, Accepted, outgoing, sent_over}
 use Rattle.nc_tables.specs.Sessions.{router_id}
+use Rattle.nc_tables.specs.SpreadView.{route_view}
 use Rattle.nc_tables.specs.declared.base.BaseRow.{BaseRow}
 use Rattle.nc_tables.specs.declared.bgp.Chosen.{Chosen}
 use Rattle.nc_policy.specs.Passing.{passing_view}
@@ -23,7 +24,7 @@ abbrev pub message_by : Link → Chosen → Passing → Message
 message_by k b out = record { link = k; best = b; out = out_view k b out; route = sent_over k b (out_view k b out).route }
 
 abbrev pub message_view : Advertisement → Message
-message_view s = message_by (link_view s.link) s.best.now s.out
+message_view s = message_by (link_view s.link) (route_view s.best) s.out
 
 -- what the receiver's map made of the message
 abbrev pub accepted_view : AcceptedRoute → Accepted

@@ -8,6 +8,7 @@ ghost use Rattle.nc_tables.specs.Base.{is_own};
 ghost use Rattle.nc_tables.specs.Choice.{is_learnt};
 ghost use Rattle.nc_tables.specs.Reach.{hits};
 ghost use Rattle.nc_tables.specs.Rounds.{accepted_at, accepted_of, is_looped, message_of};
+ghost use Rattle.nc_tables.specs.SpreadView.{route_view};
 ghost use Rattle.nc_sessions.specs.Views.{link_view};
 ghost use Rattle.nc_message.specs.Inputs.{AreRoutingInputs, IsBetween};
 ghost use Rattle.nc_message.specs.Adjacencies.{IsAdjacency};
@@ -24,7 +25,7 @@ use crate::messages::{
 use crate::rows::is_own;
 use nc_policy::{MapPlace, Passing};
 use nc_sessions::Link;
-use nc_tables::{BgpFrom, BgpTable, Numbered, RibEntry};
+use nc_tables::{BgpFrom, BgpTable, Numbered, RibRoute};
 use nc_types::{Addr, Prefix, RouterId};
 use nc_underlay::has_hit;
 
@@ -59,8 +60,9 @@ fn has_own_sender(link: &Link) -> bool
 
 /// Whether the path of a peer's candidate holds the receiver's own system. What is sent of it holds
 /// it too, and isn't accepted (RFC 4271, 9.1.2): no map is asked about it.
-pub fn holds_receiver(link: &Link, best: &RibEntry) -> bool
-    ensures { result ≡ list_any (λ n. n == link.now.receiver.process.now.asn) best.now.route.path }
+pub fn holds_receiver(link: &Link, best: RibRoute<'_>) -> bool
+    ensures { result ≡ list_any (λ n. n == link.now.receiver.process.now.asn)
+        (route_view best.entry).route.path }
 {
     best.path().contains(link.receiver.process.asn)
 }
@@ -68,7 +70,7 @@ pub fn holds_receiver(link: &Link, best: &RibEntry) -> bool
 // Whether the path of a message holds the receiver's own system, that of the peer's candidate doesn't.
 fn is_looped(sent: &AdvertisedRoute) -> bool
     requires { list_any (λ n. n == sent.now.link.now.receiver.process.now.asn)
-        sent.now.best.now.route.path ≡ false }
+        (route_view sent.now.best).route.path ≡ false }
     ensures { result ≡ is_looped (message_view (advertised sent.now)) }
 {
     let link = sent.link;
@@ -157,7 +159,7 @@ pub fn passed_into<'a>(
     requires map { IsMapIn (link_view sent.now.link.now) place }
     requires feasible { IsAdvertised (advertised sent.now) }
     requires other { list_any (λ n. n == sent.now.link.now.receiver.process.now.asn)
-        sent.now.best.now.route.path ≡ false }
+        (route_view sent.now.best).route.path ≡ false }
     ensures accepted { option_map (accepted_by (advertised sent.now)) result
         ≡ accepted_of inputs.now.base.now router.0 (message_view (advertised sent.now)) }
     ensures short { IfSome result (λ p.
@@ -177,7 +179,7 @@ pub fn passed_into<'a>(
     let Some(_reference) = map else {
         return Some(Passing::Unchanged);
     };
-    let prefix = sent.best.prefix();
+    let prefix = *sent.best.prefix;
     let of = Numbered { prefix, number };
     let count = sent_length(link.session.internal, sent.best, &sent.out);
     let held = carried(sent);
@@ -194,15 +196,15 @@ pub fn accepted_over<'a>(
     inputs: &RoutingInputs<'a>,
     router: RouterId,
     adjacency: Adjacency<'a>,
-    best: &'a RibEntry,
+    best: RibRoute<'a>,
 ) -> Option<AcceptedRoute<'a>>
     requires inputs { AreRoutingInputs inputs.now }
     requires between { IsBetween inputs.now.network.now router.0 (link_view adjacency.link) }
     requires sender { IsAdjacency inputs.now.base.now router.0 adjacency }
     ensures accepted { option_map accepted_view result
         ≡ option_and_then (accepted_of inputs.now.base.now router.0)
-        (message_of (link_view adjacency.entry.link) best.entry.now) }
-    ensures best { IfSome result (λ t. t.sent.best.now ≡ best.entry.now) }
+        (message_of (link_view adjacency.entry.link) (route_view best.entry)) }
+    ensures best { IfSome result (λ t. route_view t.sent.best ≡ route_view best.entry) }
     ensures known { IfSome result (λ t. IsKnown inputs.now.base.now router.0 t.sent) }
     ensures taken { IfSome result IsAccepted }
 {
@@ -246,7 +248,7 @@ pub fn accepted_at<'a>(
     ensures accepted { option_map accepted_view result
         ≡ accepted_at inputs.now.network.now inputs.now.base.now inputs.now.sessions.now table.now
         router.0 place prefix }
-    ensures own { IfSome result (λ t. t.sent.best.now.route.prefix ≡ prefix) }
+    ensures own { IfSome result (λ t. (route_view t.sent.best).route.prefix ≡ prefix) }
     ensures known { IfSome result (λ t. IsKnown inputs.now.base.now router.0 t.sent) }
     ensures taken { IfSome result IsAccepted }
 {

@@ -5,6 +5,7 @@ ghost use Rattle.std.specs.Option.{option_map};
 ghost use Rattle.nc_types.specs.Config.{process_view};
 ghost use Rattle.nc_types.specs.declared.TheConstants.{COMMUNITY_LIMIT, PATH_LIMIT};
 ghost use Rattle.nc_tables.specs.Rounds.{best_at, is_held_back, message_at, message_of, out_of, session_by};
+ghost use Rattle.nc_tables.specs.SpreadView.{route_view};
 ghost use Rattle.nc_policy.specs.Passing.{communities_by, prepended_by};
 ghost use Rattle.nc_sessions.specs.Views.{link_view};
 ghost use Rattle.nc_message.specs.Inputs.{AreRoutingInputs, IsBetween};
@@ -18,7 +19,7 @@ use crate::maps::map_out;
 use nc_community::Held;
 use nc_policy::{MapPlace, Passing};
 use nc_sessions::Link;
-use nc_tables::{BgpTable, Numbered, RibEntry, is_longer_in};
+use nc_tables::{BgpTable, Numbered, RibRoute, is_longer_in};
 use nc_types::{PATH_LIMIT, Prefix, Process, RouterId};
 
 /// A message: over which session, of which candidate of the sender, and how the candidate passed
@@ -28,7 +29,7 @@ pub struct Advertisement<'a> {
     pub link: Link<'a>,
     /// What is known of the sender, where it was asked before.
     pub sender: Option<Sender>,
-    pub best: &'a RibEntry,
+    pub best: RibRoute<'a>,
     pub out: Passing<'a>,
 }
 
@@ -38,18 +39,17 @@ pub struct Advertisement<'a> {
 pub struct AdvertisedRoute<'a> {
     pub link: &'a Link<'a>,
     pub sender: Option<Sender>,
-    pub best: &'a RibEntry,
+    pub best: RibRoute<'a>,
     pub out: Passing<'a>,
 }
 
 // The best candidate that a router has chosen of a prefix.
-fn best_at(table: &BgpTable, router: RouterId, prefix: Prefix) -> Option<&RibEntry>
+fn best_at(table: &BgpTable, router: RouterId, prefix: Prefix) -> Option<RibRoute<'_>>
     requires { router.0 < length table.now }
-    ensures best { option_map (λ b. b.now) result ≡ best_at table.now router.0 prefix }
-    ensures own { IfSome result (λ b. b.now.route.prefix ≡ prefix) }
+    ensures best { option_map route_view result ≡ best_at table.now router.0 prefix }
+    ensures own { IfSome result (λ b. (route_view b).route.prefix ≡ prefix) }
 {
-    let _rows = table.rows(router);
-    table.chosen(router, prefix).first()
+    table.chosen(router, prefix)?.get(0)
 }
 
 // The best candidate of a prefix that the peer of a neighbor statement's session has chosen. Most
@@ -60,12 +60,12 @@ pub(crate) fn best_of_peer<'a>(
     router: RouterId,
     place: u32,
     prefix: Prefix,
-) -> Option<&'a RibEntry>
+) -> Option<RibRoute<'a>>
     requires inputs { AreRoutingInputs inputs.now }
     requires table { length table.now ≡ length inputs.now.network.now }
-    ensures best { option_map (λ b. b.now) result
+    ensures best { option_map route_view result
         ≡ best_over table.now prefix (session_by inputs.now.sessions.now router.0 place) }
-    ensures own { IfSome result (λ b. b.now.route.prefix ≡ prefix) }
+    ensures own { IfSome result (λ b. (route_view b).route.prefix ≡ prefix) }
 {
     let count = inputs.network.routers().len();
     if router.0 as usize >= count {
@@ -93,19 +93,19 @@ fn out_of<'a>(
     inputs: &RoutingInputs<'a>,
     link: &Link<'a>,
     place: Option<MapPlace>,
-    best: &'a RibEntry,
+    best: RibRoute<'a>,
     number: usize,
 ) -> Option<Passing<'a>>
     requires inputs { AreRoutingInputs inputs.now }
     requires sender { slice_get inputs.now.network.now link.now.session.peer.0
         ≡ Some (link_view link.now).sender.config }
     requires map { IsMapOut (link_view link.now) place }
-    ensures out { option_map (out_view (link_view link.now) best.now) result
-        ≡ out_of (link_view link.now) best.now }
+    ensures out { option_map (out_view (link_view link.now) (route_view best.entry)) result
+        ≡ out_of (link_view link.now) (route_view best.entry) }
     ensures short { IfSome result
-        (λ p. length (prepended_by p) + length best.now.route.path ≤ PATH_LIMIT) }
-    ensures few { IfSome result
-        (λ p. length (communities_by p best.now.route.communities) ≤ COMMUNITY_LIMIT) }
+        (λ p. length (prepended_by p) + length (route_view best.entry).route.path ≤ PATH_LIMIT) }
+    ensures few { IfSome result (λ p.
+        length (communities_by p (route_view best.entry).route.communities) ≤ COMMUNITY_LIMIT) }
 {
     let held = Held::of(best.communities());
     let count = best.path_length();
@@ -114,7 +114,7 @@ fn out_of<'a>(
         return Some(Passing::Unchanged);
     };
     let peer = link.session.peer;
-    let prefix = best.prefix();
+    let prefix = *best.prefix;
     let of = Numbered { prefix, number };
     inputs
         .policies
@@ -123,10 +123,10 @@ fn out_of<'a>(
 
 /// How many numbers the path has of a route as it is sent: toward another system the sender's own
 /// number goes before it.
-pub fn sent_length(internal: bool, best: &RibEntry, out: &Passing) -> usize
-    requires { length (prepended_by out.now) + length best.now.route.path ≤ PATH_LIMIT }
+pub fn sent_length(internal: bool, best: RibRoute<'_>, out: &Passing) -> usize
+    requires { length (prepended_by out.now) + length (route_view best).route.path ≤ PATH_LIMIT }
     ensures { result ≡ (if internal then 0 else 1)
-        + (length (prepended_by out.now) + length best.now.route.path) }
+        + (length (prepended_by out.now) + length (route_view best.entry).route.path) }
 {
     let length = out.prepended().len() + best.path_length();
     if internal { length } else { 1 + length }
@@ -153,21 +153,23 @@ pub fn sent_out<'a>(
     inputs: &RoutingInputs<'a>,
     link: &Link<'a>,
     place: Option<MapPlace>,
-    best: &'a RibEntry,
+    best: RibRoute<'a>,
     number: usize,
 ) -> Option<Passing<'a>>
     requires inputs { AreRoutingInputs inputs.now }
     requires sender { slice_get inputs.now.network.now link.now.session.peer.0
         ≡ Some (link_view link.now).sender.config }
     requires map { IsMapOut (link_view link.now) place }
-    ensures message { option_map (message_by (link_view link.now) best.now) result
-        ≡ message_of (link_view link.now) best.now }
+    ensures message { option_map (message_by (link_view link.now) (route_view best.entry)) result
+        ≡ message_of (link_view link.now) (route_view best.entry) }
     ensures short { IfSome result (λ p.
-        length (message_by (link_view link.now) best.now p).route.path ≤ PATH_LIMIT) }
+        length (message_by (link_view link.now) (route_view best.entry) p).route.path
+        ≤ PATH_LIMIT) }
     ensures few { IfSome result (λ p.
-        length (message_by (link_view link.now) best.now p).route.communities ≤ COMMUNITY_LIMIT) }
+        length (message_by (link_view link.now) (route_view best.entry) p).route.communities
+        ≤ COMMUNITY_LIMIT) }
 {
-    if is_held_back(link.sender.process, best.prefix()) {
+    if is_held_back(link.sender.process, *best.prefix) {
         return None;
     }
     if link.session.internal && best.is_internal() {
@@ -184,16 +186,16 @@ pub fn sent_out<'a>(
 fn message_of<'a>(
     inputs: &RoutingInputs<'a>,
     adjacency: Adjacency<'a>,
-    best: &'a RibEntry,
+    best: RibRoute<'a>,
 ) -> Option<Advertisement<'a>>
     requires inputs { AreRoutingInputs inputs.now }
     requires sender { slice_get inputs.now.network.now adjacency.link.session.peer.0
         ≡ Some (link_view adjacency.link).sender.config }
     ensures message { option_map message_view result
-        ≡ message_of (link_view adjacency.entry.link) best.entry.now }
+        ≡ message_of (link_view adjacency.entry.link) (route_view best.entry) }
     ensures link { IfSome result (λ s. s.link ≡ adjacency.entry.link) }
     ensures sender { IfSome result (λ s. s.sender ≡ adjacency.entry.sender) }
-    ensures best { IfSome result (λ s. s.best.now ≡ best.entry.now) }
+    ensures best { IfSome result (λ s. route_view s.best ≡ route_view best.entry) }
     ensures feasible { IfSome result IsAdvertised }
 {
     let Adjacency { link, sender } = adjacency;
@@ -227,7 +229,7 @@ pub fn message_at<'a>(
         router.0 place prefix }
     ensures between { IfSome result
         (λ s. IsBetween inputs.now.network.now router.0 (link_view s.link)) }
-    ensures own { IfSome result (λ s. s.best.now.route.prefix ≡ prefix) }
+    ensures own { IfSome result (λ s. (route_view s.best).route.prefix ≡ prefix) }
     ensures sender { IfSome result (IsKnown inputs.now.base.now router.0) }
     ensures feasible { IfSome result IsAdvertised }
 {

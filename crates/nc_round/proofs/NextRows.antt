@@ -22,6 +22,7 @@ use Rattle.nc_tables.specs.Reach.{rows_of}
 use Rattle.nc_tables.specs.Sessions.{first_of}
 use Rattle.nc_tables.specs.Rounds.{BgpRowView, Link, Message, made_from, distinct, chosen_in, chosen_at, is_active, link_at, message_of, message_at, accepted_of, accepted_at, learnt_from, entry_at, begun, origin_at, aggregate_at, candidates_at, chosen_by, chosen_anew, prefixes_in, prefixes, row_of, row_at, rows_anew, round}
 use Rattle.nc_tables.proofs.ByPrefix.{same_itself, pairs_cons}
+use Rattle.nc_tables.specs.Order.{in_order}
 use Rattle.nc_tables.proofs.Ordered.{in_its_order}
 use Rattle.nc_tables.proofs.InOrder.{Up, IsBelow, HaveSome, at_head, past_head}
 use Rattle.nc_base_rib.proofs.Members.{Rises}
@@ -97,8 +98,11 @@ pairs_by_rises : {X : Type 0} (before : X → X → Type 0) (xs : List X) → Ri
 pairs_by_rises before [] r = λ i j d less lt. absurd (omega arith)
 pairs_by_rises before (x ∷ xs) r = pairs_cons before x xs (λ k d lt. r.0 (get_or xs k d) (in_at xs k d lt)) (pairs_by_rises before xs r.1)
 
+pub ordered_up : (ps : List Cidr) → AllPairs (λ p q. prefix_cmp p q ≡ Less) (in_order prefix_cmp (distinct ps))
+ordered_up ps = pairs_by_rises (λ p q. prefix_cmp p q ≡ Less) (in_order prefix_cmp (distinct ps)) (distinct_ascend ps)
+
 pub prefixes_up : (routers : List ConfigView) → AllPairs (λ p q. prefix_cmp p q ≡ Less) (prefixes routers)
-prefixes_up routers = pairs_by_rises (λ p q. prefix_cmp p q ≡ Less) (prefixes routers) (distinct_ascend (flat_map prefixes_in routers))
+prefixes_up routers = ordered_up (flat_map prefixes_in routers)
 
 pub in_prefixes : (routers : List ConfigView) (c : ConfigView) (p : Cidr) → In c routers → In p (prefixes_in c) → In p (prefixes routers)
 in_prefixes routers c p i j = in_its_order prefix_cmp (distinct (flat_map prefixes_in routers)) p (in_distinct (flat_map prefixes_in routers) p (in_flat_map prefixes_in routers c p i j))

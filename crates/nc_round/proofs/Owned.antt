@@ -5,7 +5,6 @@ use Rattle.std.specs.Ordering.{is_lt, ordering_index, ordering_reverse}
 use Rattle.std.specs.declared.cmp.Ordering.TheVariants.{Less}
 use Rattle.std.proofs.lemmas.Bool.{cases_lt, eqb-true}
 use Rattle.std.proofs.lemmas.List.Elements.{Contains-push_cases}
-use Rattle.std.proofs.lemmas.List.Sorted.{searchable_from_sorted}
 use Rattle.std.proofs.lemmas.Option.{get_or_from_slice_get, slice_get_within, same_Some}
 use Rattle.nc_types.specs.Cidr.{Cidr}
 use Rattle.nc_types.specs.declared.config.RouterId.{RouterId}
@@ -48,12 +47,6 @@ one_place ps p i j up e f = on (cases_lt i j) (cases_lt j i)
     on (inl lt) c = absurd (never i j e f lt)
     on (inr ge) (inl lt) = absurd (never j i f e lt)
     on (inr ge) (inr le) = omega arith
-
--- prefixes in order can be searched
-pub searchable : (ps : List Cidr) (q : Cidr) → Ascend ps → IsNonDecreasingBy (λ (p : Cidr). ordering_index (prefix_cmp p q)) ps
-searchable ps q up =
-    searchable_from_sorted prefix_total (λ (p : Cidr). p) ps q
-    (λ k d lo hi. ap is_lt (prefix_total.antisymm (get_or ps (k + 1) d) (get_or ps k d) ∙ ap ordering_reverse (up k (k + 1) d (omega arith) hi)))
 
 module _ (seen : List Key) (k : Key) where
   -- one more row of a prefix

@@ -32,7 +32,7 @@ use Rattle.nc_round.proofs.KeyOrder.{same_key, same_key_is, key_itself}
 use Rattle.nc_round.proofs.NextRows.{nothing_anew}
 use Rattle.nc_round.proofs.NextOf.{made_count, beyond_chosen, others_none, inside_anew}
 
-found_in : {X : Type 0} (test : X → Bool) (xs : List X) (x : X) → find test xs ≡ Some x → In x xs
+pub found_in : {X : Type 0} (test : X → Bool) (xs : List X) (x : X) → find test xs ≡ Some x → In x xs
 found_in test [] x e = absurd cc
 found_in test (y ∷ ys) x e = on (test y) (found_in test ys x) e
   where

@@ -1,5 +1,5 @@
 -- Prefixes that spread alike: what routers choose of one of them tells what they choose of the other.
-use Rattle.std.specs.Prelude.{◌≡◌, ◌⊎◌, ◌==◌, ℕ, ◌<◌, Bool, false, ◌&&◌, List, [], ◌∷◌, Option, Some, None, All, Contains, length, map, position, slice_get, if◌then◌else◌}
+use Rattle.std.specs.Prelude.{◌≡◌, ◌⊎◌, ◌==◌, ℕ, ◌<◌, ◌≤◌, Bool, false, ◌&&◌, List, [], ◌∷◌, Option, Some, None, All, Contains, length, map, position, slice_get, if◌then◌else◌}
 use Rattle.std.specs.List.{list_any}
 use Rattle.std.specs.Option.{option_and_then, option_map_or}
 use Rattle.nc_types.specs.Cidr.{Cidr, same_prefix}
@@ -8,11 +8,13 @@ use Rattle.nc_tables.specs.declared.base.BaseRow.{BaseRow}
 use Rattle.nc_tables.specs.declared.bgp.Chosen.{Chosen}
 use Rattle.nc_tables.specs.declared.bgp.BgpFrom.{BgpFrom}
 use Rattle.nc_tables.specs.declared.bgp.BgpFrom.TheVariants.{Origin, Aggregate, Entry}
-use Rattle.nc_tables.specs.Choice.{is_learnt}
 use Rattle.nc_tables.specs.LocRibs.{Ascend}
 use Rattle.nc_tables.specs.Reach.{rows_of}
 use Rattle.nc_tables.specs.Rounds.{BgpRowView, chosen_at, prefixes}
 use Rattle.nc_tables.specs.Sessions.{process_of}
+use Rattle.nc_tables.specs.Spread.{chosen_or, with_prefix}
+use Rattle.nc_types.specs.declared.TheConstants.{MULTIPATH_LIMIT}
+use Rattle.nc_types.specs.declared.config.NetworkStatement.{NetworkStatement}
 use Rattle.nc_types.specs.declared.config.RouterId.{RouterId}
 use Rattle.nc_round.specs.Keys.{Key}
 use Rattle.nc_round.specs.declared.likeness.Draft.{Draft}
@@ -49,15 +51,13 @@ moved_from None (Origin own) = Origin own
 moved_from place (Aggregate own) = Aggregate own
 moved_from place (Entry own) = Entry own
 
+-- the network statements of a router
+abbrev pub networks_at : List ConfigView → ℕ → List NetworkStatement
+networks_at routers router = option_map_or (λ p. p.networks) (process_of routers router) []
+
 -- the same candidate of another prefix
 abbrev pub moved : Cidr → Option ℕ → Chosen → Chosen
 moved prefix place x = record x { route = record x.route { prefix = prefix }; from = moved_from place x.from }
-
--- what is chosen is one candidate alone, which was learnt
-abbrev pub is_learnt_alone : List Chosen → Bool
-is_learnt_alone [] = false
-is_learnt_alone (x ∷ []) = is_learnt x.from
-is_learnt_alone (x ∷ y ∷ ys) = false
 
 -- a router begins a prefix, and no other does
 abbrev pub BeginsAlone : List ConfigView → List (List BaseRow) → Cidr → ℕ → Type 0
@@ -79,6 +79,20 @@ pub record IsLikeness (routers : List ConfigView) (tables : List (List BaseRow))
   pub count : length l.places.items ≡ length l.all.items
   pub within : All (λ place. place < length l.standing.items) l.places.items
   pub like : (l.standing.items ≡ l.all.items) ⊎ (ArePlain routers × ((q p : Cidr) → IsStandingFor l q p → AreAlike routers tables p q))
+
+-- made of a prefix is what a router chooses of the one that stands for it, moved to this prefix
+pub record IsMade (routers : List ConfigView) (l : Likeness) (table : List (List BgpRowView)) (router : ℕ) (q : Cidr) (made : List Chosen) : Type 0 where
+  pub few : length made ≤ MULTIPATH_LIMIT
+  pub own : All (λ x. x.route.prefix ≡ q) made
+  pub moved : (p : Cidr) → IsStandingFor l q p → made ≡ map (moved q (network_at routers router q)) (chosen_at table router p)
+
+abbrev pub AreMade : List ConfigView → Likeness → List (List BgpRowView) → ℕ → List Cidr → List (List Chosen) → Type 0
+AreMade routers l table router qs choices = (k : ℕ) (q : Cidr) (made : List Chosen) → slice_get qs k ≡ Some q → slice_get choices k ≡ Some made → IsMade routers l table router q made
+
+-- with rows of its own a router has of each prefix what it chooses of the one that stands for it, moved to this prefix
+abbrev pub AreOwnRows : List ConfigView → Likeness → List (List BgpRowView) → ℕ → List BgpRowView → Type 0
+AreOwnRows routers l table router own =
+    (q p : Cidr) → IsStandingFor l q p → map (with_prefix q) (chosen_or own q (chosen_at table router p)) ≡ map (moved q (network_at routers router q)) (chosen_at table router p)
 
 -- a table has of each prefix what another one has of that which stands for it, moved to this prefix, and nothing of others
 pub record IsExpansion (routers : List ConfigView) (l : Likeness) (table full : List (List BgpRowView)) : Type 0 where

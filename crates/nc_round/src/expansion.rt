@@ -1,20 +1,23 @@
 //! What routers choose of all prefixes, from what they choose of those that stand for them.
 
-ghost use Rattle.std.specs.Prelude.{◌≡◌, ◌<◌, ◌≤◌, ◌++◌, ℕ, [], true, Contains, IfOk, OnOk, Option, length, map};
+ghost use Rattle.std.specs.Prelude.{◌≡◌, ◌<◌, ◌≤◌, ◌++◌, ℕ, [], All, IfOk, OnOk, length, map, slice_index_or};
 ghost use Rattle.nc_types.specs.Cidr.{Cidr};
 ghost use Rattle.nc_types.specs.declared.TheConstants.{MULTIPATH_LIMIT};
-ghost use Rattle.nc_tables.specs.LocRibs.{row_before};
-ghost use Rattle.nc_tables.specs.Rounds.{bgp_row_view, chosen_at, chosen_in, AreBgpRows};
+ghost use Rattle.nc_tables.specs.Base.{prefix_cmp};
+ghost use Rattle.nc_tables.specs.LocRibs.{row_before, rows_by, Ascend, AreChoices};
+ghost use Rattle.nc_tables.specs.Order.{in_order};
+ghost use Rattle.nc_tables.specs.Rounds.{bgp_row_view, chosen_at, distinct, AreBgpRows};
 ghost use Rattle.nc_message.specs.Inputs.{AreRoutingInputs};
-ghost use Rattle.nc_round.specs.Likeness.{is_learnt_alone, moved, network_at, IsSpread, IsLikeness, IsStandingFor};
+ghost use Rattle.nc_round.specs.Likeness.{moved, network_at, networks_at, AreMade, AreOwnRows, IsLikeness, IsMade, IsSpread};
 
 use crate::likeness::Likeness;
+use nc_main_rib::in_order;
 use nc_message::RoutingInputs;
 use nc_tables::{
     BgpFrom, BgpRow, BgpTable, Chosen, LocRibs, Numbered, RecentAttributes, RibEntries, RibEntry,
     Route,
 };
-use nc_types::{Communities, Prefix, RouterId};
+use nc_types::{Communities, Network, NetworkStatement, Prefix, RouterId};
 use std::alloc::{AllocError, Global};
 
 // The place of a router's network of a prefix, if it has one.
@@ -131,87 +134,132 @@ fn moved_chosen(
     Ok(held)
 }
 
-// Whether what is chosen is one candidate alone, which was learnt.
-fn is_learnt_alone(chosen: &[RibEntry]) -> bool
-    ensures { result ≡ is_learnt_alone chosen.now }
+// The network statements of a router; none where it has no BGP process.
+fn networks_of(network: &Network, router: RouterId) -> &[NetworkStatement]
+    requires { router.0 < length network.now }
+    ensures { result.now ≡ networks_at network.now router.0 }
 {
-    if chosen.len() != 1 {
-        return false;
-    }
-    match chosen[0].from() {
-        BgpFrom::Entry(_) => true,
-        BgpFrom::Origin(_) | BgpFrom::Aggregate(_) => false,
+    match &network.routers()[router.0 as usize].process {
+        Some(process) => &process.networks,
+        None => &[],
     }
 }
 
-// Notes of each prefix that stands for some whether a router chooses one candidate alone of it, which
-// it learnt. Nothing else is done between two of them, so that the processor waits for many at once.
-fn note_learnt(learnt: &mut Vec<bool>, ribs: &LocRibs, router: RouterId) -> Result<(), AllocError>
-    requires { router.0 < length ribs.now.rows }
-    ensures { OnOk result (learnt.new.items
-        ≡ map (λ p. is_learnt_alone (chosen_at ribs.now.rows router.0 p)) ribs.now.prefixes) }
+// The prefixes of network statements in order, each once.
+fn prefixes_of(alloc: Global, networks: &[NetworkStatement]) -> Result<Vec<Prefix>, AllocError>
+    ensures { IfOk result (λ prefixes. prefixes.items
+        ≡ in_order prefix_cmp (distinct (map (λ n. n.prefix) networks.now))) }
 {
-    learnt.clear();
-    let standing = ribs.prefixes();
-    'prefixes: for number in 0..standing.len() {
-        let of = Numbered {
-            prefix: standing[number],
-            number,
-        };
-        learnt.push(is_learnt_alone(ribs.chosen(router, of)))?;
+    let mut prefixes = Vec::with_capacity(alloc, networks.len())?;
+    'networks: for network in networks {
+        prefixes.push(network.prefix)?;
     }
-    Ok(())
+    let sorted = in_order(prefixes)?;
+    Ok(sorted)
 }
 
-// Adds the row of a prefix, which is what a router chooses of another one, if anything.
-fn push_moved(
-    alloc: Global,
-    rows: &mut Vec<BgpRow>,
-    recent: &mut RecentAttributes,
-    inputs: &RoutingInputs<'_>,
-    router: RouterId,
-    chosen: &[RibEntry],
-    prefix: Prefix,
-) -> Result<(), AllocError>
-    requires inputs { AreRoutingInputs inputs.now }
-    requires router { router.0 < length inputs.now.network.now }
-    ensures { OnOk result (map bgp_row_view rows.new.items ≡ map bgp_row_view rows.old.items
-        ++ row_before prefix
-        (map (moved prefix (network_at inputs.now.network.now router.0 prefix)) chosen.now) []) }
-{
-    if chosen.is_empty() {
-        return Ok(());
-    }
-    let chosen = moved_chosen(alloc, recent, inputs, router, chosen, prefix)?;
-    rows.push(BgpRow { prefix, chosen })?;
-    Ok(())
-}
-
-// Adds the row of a prefix, which is what a router chooses of another one: one candidate alone, which it
-// learnt. Where the router has a network of the prefix doesn't matter to it.
-fn push_learnt(
-    rows: &mut Vec<BgpRow>,
-    chosen: &[RibEntry],
-    prefix: Prefix,
-) -> Result<(), AllocError>
-    requires { is_learnt_alone chosen.now ≡ true }
-    ensures { OnOk result ((place : Option ℕ) → map bgp_row_view rows.new.items
-        ≡ map bgp_row_view rows.old.items
-        ++ row_before prefix (map (moved prefix place) chosen.now) []) }
-{
-    let made = chosen[0].of_prefix(prefix)?;
-    let chosen = RibEntries::one(made);
-    rows.push(BgpRow { prefix, chosen })?;
-    Ok(())
-}
-
-// The rows of a router: of each prefix what it chooses of the one that stands for it.
-fn rows_of(
+// What a router chooses of a prefix, from what it chooses of the one that stands for it.
+fn own_choice(
     alloc: Global,
     recent: &mut RecentAttributes,
     inputs: &RoutingInputs<'_>,
     likeness: &Likeness,
-    learnt: &[bool],
+    ribs: &LocRibs,
+    router: RouterId,
+    prefix: Prefix,
+) -> Result<RibEntries, AllocError>
+    requires inputs { AreRoutingInputs inputs.now }
+    requires likeness { IsLikeness inputs.now.network.now inputs.now.base.now likeness.now }
+    requires router { router.0 < length inputs.now.network.now }
+    requires ribs { length ribs.now.rows ≡ length inputs.now.network.now }
+    requires standing { ribs.now.prefixes ≡ likeness.now.standing.items }
+    requires few { (p : Cidr) → length (chosen_at ribs.now.rows router.0 p) ≤ MULTIPATH_LIMIT }
+    ensures { IfOk result
+        (λ chosen. IsMade inputs.now.network.now likeness.now ribs.now.rows router.0 prefix chosen) }
+{
+    let Ok(number) = likeness.all.binary_search(&prefix) else {
+        return Ok(RibEntries::none());
+    };
+    let place = likeness.places[number];
+    let one = Numbered {
+        prefix: likeness.standing[place],
+        number: place,
+    };
+    let chosen = ribs.chosen(router, one);
+    let made = moved_chosen(alloc, recent, inputs, router, chosen, prefix)?;
+    Ok(made)
+}
+
+// The same of each of some prefixes.
+fn own_choices(
+    alloc: Global,
+    recent: &mut RecentAttributes,
+    inputs: &RoutingInputs<'_>,
+    likeness: &Likeness,
+    ribs: &LocRibs,
+    router: RouterId,
+    prefixes: &[Prefix],
+) -> Result<Vec<RibEntries>, AllocError>
+    requires inputs { AreRoutingInputs inputs.now }
+    requires likeness { IsLikeness inputs.now.network.now inputs.now.base.now likeness.now }
+    requires router { router.0 < length inputs.now.network.now }
+    requires ribs { length ribs.now.rows ≡ length inputs.now.network.now }
+    requires standing { ribs.now.prefixes ≡ likeness.now.standing.items }
+    requires few { (p : Cidr) → length (chosen_at ribs.now.rows router.0 p) ≤ MULTIPATH_LIMIT }
+    ensures count { IfOk result (λ choices. length choices.items ≡ length prefixes.now) }
+    ensures made { IfOk result (λ choices. AreMade inputs.now.network.now likeness.now ribs.now.rows
+        router.0 prefixes.now choices.items) }
+{
+    let mut choices = Vec::with_capacity(alloc, prefixes.len())?;
+    'prefixes: for prefix in prefixes {
+        choices.push(own_choice(alloc, recent, inputs, likeness, ribs, router, *prefix)?)?;
+    }
+    Ok(choices)
+}
+
+// Adds the row of a prefix, where something is chosen of it.
+fn push_row(rows: &mut Vec<BgpRow>, prefix: Prefix, chosen: RibEntries) -> Result<(), AllocError>
+    ensures { OnOk result (map bgp_row_view rows.new.items
+        ≡ map bgp_row_view rows.old.items ++ row_before prefix chosen []) }
+{
+    if chosen.is_empty() {
+        return Ok(());
+    }
+    rows.push(BgpRow { prefix, chosen })?;
+    Ok(())
+}
+
+// The rows of a router that chooses this of each prefix.
+fn rows_of(
+    alloc: Global,
+    prefixes: &[Prefix],
+    choices: Vec<RibEntries>,
+) -> Result<Vec<BgpRow>, AllocError>
+    requires ordered { Ascend prefixes.now }
+    requires choices { AreChoices prefixes.now choices.items }
+    ensures rows { IfOk result
+        (λ rows. map bgp_row_view rows.items ≡ rows_by prefixes.now choices.items) }
+    ensures valid { IfOk result (λ rows. AreBgpRows (map bgp_row_view rows.items)) }
+{
+    let mut rows = Vec::with_capacity(alloc, prefixes.len())?;
+    let mut left = choices.into_iter();
+    'prefixes: for prefix in prefixes {
+        let _len = prefix.len();
+        let Some(chosen) = left.next() else {
+            break 'prefixes;
+        };
+        push_row(&mut rows, *prefix, chosen)?;
+    }
+    Ok(rows)
+}
+
+// The rows of the prefixes of which a router has a network, from what it chooses of those that stand for
+// them: where it begins such a prefix itself, its own statement stands in the row.
+fn own_rows(
+    alloc: Global,
+    recent: &mut RecentAttributes,
+    inputs: &RoutingInputs<'_>,
+    likeness: &Likeness,
     ribs: &LocRibs,
     router: RouterId,
 ) -> Result<Vec<BgpRow>, AllocError>
@@ -221,39 +269,55 @@ fn rows_of(
     requires ribs { length ribs.now.rows ≡ length inputs.now.network.now }
     requires standing { ribs.now.prefixes ≡ likeness.now.standing.items }
     requires few { (p : Cidr) → length (chosen_at ribs.now.rows router.0 p) ≤ MULTIPATH_LIMIT }
-    requires learnt { learnt.now
-        ≡ map (λ p. is_learnt_alone (chosen_at ribs.now.rows router.0 p)) ribs.now.prefixes }
     ensures valid { IfOk result (λ rows. AreBgpRows (map bgp_row_view rows.items)) }
-    ensures moved { IfOk result (λ rows. (q p : Cidr) → IsStandingFor likeness.now q p
-        → chosen_in (map bgp_row_view rows.items) q
-        ≡ map (moved q (network_at inputs.now.network.now router.0 q))
-        (chosen_at ribs.now.rows router.0 p)) }
-    ensures others { IfOk result (λ rows. (q : Cidr) → ¬ Contains likeness.now.all.items q
-        → chosen_in (map bgp_row_view rows.items) q ≡ []) }
+    ensures own { IfOk result (λ rows. AreOwnRows inputs.now.network.now likeness.now ribs.now.rows
+        router.0 (map bgp_row_view rows.items)) }
 {
-    let mut rows = Vec::with_capacity(alloc, likeness.all.len())?;
-    'prefixes: for number in 0..likeness.all.len() {
-        let place = likeness.places[number];
-        let one = Numbered {
-            prefix: likeness.standing[place],
-            number: place,
-        };
-        let chosen = ribs.chosen(router, one);
-        let prefix = likeness.all[number];
-        let _len = prefix.len();
-        let alone = learnt[place];
-        if alone {
-            push_learnt(&mut rows, chosen, prefix)?;
-        } else {
-            push_moved(alloc, &mut rows, recent, inputs, router, chosen, prefix)?;
-        }
-    }
-    rows.shrink_to_fit();
+    let prefixes = prefixes_of(alloc, networks_of(inputs.network, router))?;
+    let choices = own_choices(alloc, recent, inputs, likeness, ribs, router, &prefixes)?;
+    let rows = rows_of(alloc, &prefixes, choices)?;
     Ok(rows)
 }
 
-/// The table of what routers choose of all prefixes, from what they choose of those that stand for them,
-/// router by router.
+// The same of each router.
+fn each_own_rows(
+    alloc: Global,
+    recent: &mut RecentAttributes,
+    inputs: &RoutingInputs<'_>,
+    likeness: &Likeness,
+    ribs: &LocRibs,
+) -> Result<Vec<Vec<BgpRow>>, AllocError>
+    requires inputs { AreRoutingInputs inputs.now }
+    requires likeness { IsLikeness inputs.now.network.now inputs.now.base.now likeness.now }
+    requires ribs { length ribs.now.rows ≡ length inputs.now.network.now }
+    requires standing { ribs.now.prefixes ≡ likeness.now.standing.items }
+    requires few { (router : ℕ) (p : Cidr) → length (chosen_at ribs.now.rows router p) ≤ MULTIPATH_LIMIT }
+    ensures count { IfOk result (λ own. length own.items ≡ length ribs.now.rows) }
+    ensures valid { IfOk result
+        (λ own. All (λ rows. AreBgpRows (map bgp_row_view rows.items)) own.items) }
+    ensures own { IfOk result (λ own. (router : ℕ) → router < length ribs.now.rows
+        → AreOwnRows inputs.now.network.now likeness.now ribs.now.rows router
+        (slice_index_or (map (λ rows. map bgp_row_view rows.items) own.items) router [])) }
+{
+    let _routers = inputs.network.routers();
+    let count = ribs.count();
+    let mut own = Vec::with_capacity(alloc, count)?;
+    'routers: for router in 0..count {
+        let rows = own_rows(
+            alloc,
+            recent,
+            inputs,
+            likeness,
+            ribs,
+            RouterId(router as u32),
+        )?;
+        own.push(rows)?;
+    }
+    Ok(own)
+}
+
+/// The table of what routers choose of all prefixes, from what they choose of those that stand for them.
+/// Rows are made of those prefixes alone of which a router has a network itself.
 ///
 /// # Errors
 ///
@@ -262,30 +326,22 @@ pub(crate) fn expand(
     alloc: Global,
     recent: &mut RecentAttributes,
     inputs: &RoutingInputs<'_>,
-    likeness: &Likeness,
+    likeness: Likeness,
     ribs: LocRibs,
 ) -> Result<BgpTable, AllocError>
     requires inputs { AreRoutingInputs inputs.now }
-    requires likeness { IsLikeness inputs.now.network.now inputs.now.base.now likeness.now }
+    requires likeness { IsLikeness inputs.now.network.now inputs.now.base.now likeness }
     requires ribs { length ribs.rows ≡ length inputs.now.network.now }
-    requires standing { ribs.prefixes ≡ likeness.now.standing.items }
+    requires standing { ribs.prefixes ≡ likeness.standing.items }
     requires few { (router : ℕ) (p : Cidr) → length (chosen_at ribs.rows router p) ≤ MULTIPATH_LIMIT }
     ensures { IfOk result
-        (λ table. IsSpread inputs.now.network.now likeness.now ribs.rows table) }
+        (λ table. IsSpread inputs.now.network.now likeness ribs.rows table) }
 {
     if likeness.all.as_slice() == ribs.prefixes() {
         let table = ribs.into_table(alloc)?;
         return Ok(table);
     }
-    let _routers = inputs.network.routers();
-    let count = ribs.count();
-    let mut tables = Vec::with_capacity(alloc, count)?;
-    let mut learnt = Vec::new(alloc);
-    'routers: for router in 0..count {
-        let router = RouterId(router as u32);
-        note_learnt(&mut learnt, &ribs, router)?;
-        let rows = rows_of(alloc, recent, inputs, likeness, &learnt, &ribs, router)?;
-        tables.push(rows)?;
-    }
-    Ok(BgpTable::from_rows(tables))
+    let own = each_own_rows(alloc, recent, inputs, &likeness, &ribs)?;
+    let table = ribs.spread(alloc, likeness.all, likeness.places, own)?;
+    Ok(table)
 }

@@ -19,17 +19,17 @@ fn table_of(
     alloc: Global,
     recent: &mut RecentAttributes,
     inputs: &RoutingInputs<'_>,
-    likeness: &Likeness,
+    likeness: Likeness,
     ribs: LocRibs,
 ) -> Result<BgpTable, AllocError>
     requires inputs { AreRoutingInputs inputs.now }
-    requires likeness { IsLikeness inputs.now.network.now inputs.now.base.now likeness.now }
+    requires likeness { IsLikeness inputs.now.network.now inputs.now.base.now likeness }
     requires ribs { length ribs.rows ≡ length inputs.now.network.now }
-    requires standing { ribs.prefixes ≡ likeness.now.standing.items }
+    requires standing { ribs.prefixes ≡ likeness.standing.items }
     requires few { (router : ℕ) (p : Cidr) → length (chosen_at ribs.rows router p) ≤ MULTIPATH_LIMIT }
     ensures rows { IfOk result (λ table. All AreChosen table) }
     ensures spread { IfOk result
-        (λ table. IsSpread inputs.now.network.now likeness.now ribs.rows table) }
+        (λ table. IsSpread inputs.now.network.now likeness ribs.rows table) }
 {
     let table = expand(alloc, recent, inputs, likeness, ribs)?;
     let _count = table.count();
@@ -63,14 +63,14 @@ pub fn settle_table(
     let (mut ribs, mut changed) = first_by(alloc, &mut recent, inputs, &all, standing)?;
     'rounds: for _more in 0..rounds - 1 {
         if changed.rows.is_empty() {
-            let table = table_of(alloc, &mut recent, &inputs, &likeness, ribs)?;
+            let table = table_of(alloc, &mut recent, &inputs, likeness, ribs)?;
             return Ok(Some(table));
         }
         let next = next_by(alloc, &mut recent, inputs, &all, ribs, changed)?;
         (ribs, changed) = next;
     }
     if changed.rows.is_empty() {
-        let table = table_of(alloc, &mut recent, &inputs, &likeness, ribs)?;
+        let table = table_of(alloc, &mut recent, &inputs, likeness, ribs)?;
         return Ok(Some(table));
     }
     Ok(None)

@@ -20,7 +20,6 @@ pub mod SentRoutes
 pub mod Weights
 pub mod Choosing
 pub mod RowsByPrefix
-pub mod Inside
 pub mod RouteFacts
 pub mod PassFacts
 pub mod SentFacts

@@ -26,6 +26,7 @@ use Rattle.nc_tables.specs.State.{StateView, IsState}
 use Rattle.nc_fact.specs.declared.fact.Fact.{Fact}
 use Rattle.nc_fact.specs.declared.fact.Fact.TheVariants.{Resolve, NetSource, Session, Origin, Contrib, Aggregate, Message, Entry, Chosen, Main}
 use Rattle.nc_fact.specs.Facts.{main_rows, weight, lowest_rank, rank_of_network, rank_of_aggregate, rank_of_message, rank_of_accepted, rank_of_chosen, network_of, aggregate_of, message_of, accepted_of, chosen_of, holds, rank}
+use Rattle.nc_fact.proofs.First.{first_is}
 use Rattle.nc_fact.proofs.Few.{formed_at}
 use Rattle.nc_rules_route.specs.Parents.{clause_place, entry_place, community_place, element_in, of_part, of_clause, of_entry, of_community, of_passed, source_of, main_of, each_chosen, chosen_inside, origin_parents, aggregate_parents, message_parents, entry_parents, parents}
 use Rattle.nc_types.proofs.Owning.{some_at}
@@ -56,10 +57,6 @@ weight_most false count few = omega arith
 
 weight_more : (internal : Bool) (less more : ℕ) → less ≤ more → 2 * less + cond internal 1 0 ≤ 2 * more + cond internal 1 0
 weight_more internal less more le = omega arith
-
-first_is : {X : Type 0} (xs : List X) → first_of xs ≡ slice_get xs 0
-first_is [] = refl
-first_is (x ∷ xs) = refl
 
 module _ (s : StateView) (is : IsState s) where
   -- no round changes the table

@@ -1,19 +1,20 @@
 //! What a router begins: its networks, and its aggregates with what they gather.
 
-ghost use Rattle.std.specs.Prelude.{◌≡◌, ◌<◌, ◌≤◌, ◌++◌, [], ◌∷◌, All, length, map, take, slice_get, slice_index_or, filter, OnOk};
+ghost use Rattle.std.specs.Prelude.{◌≡◌, ◌<◌, ◌≤◌, ◌++◌, [], ◌∷◌, All, IfNone, IfSome, length, take, slice_get, slice_index_or, OnOk};
 ghost use Rattle.std.specs.List.{flat_map};
 ghost use Rattle.std.specs.Option.{ForSome, option_map};
 ghost use Rattle.nc_types.specs.Config.{process_view};
 ghost use Rattle.nc_types.specs.declared.TheConstants.{MULTIPATH_LIMIT};
 ghost use Rattle.nc_tables.specs.State.{IsState};
 ghost use Rattle.nc_tables.specs.Sessions.{process_of};
-ghost use Rattle.nc_tables.specs.Rounds.{bgp_row_view, is_longer_in, AreBgpRows};
+ghost use Rattle.nc_tables.specs.Rounds.{AreBgpRows};
+ghost use Rattle.nc_tables.specs.SpreadView.{row_view};
 ghost use Rattle.nc_fact.specs.declared.fact.Fact.TheVariants as fact;
 ghost use Rattle.nc_rules_route.specs.Parents.{element_in, each_chosen, chosen_inside, parents};
 
 use crate::configs::config_of;
 use nc_fact::{Fact, aggregate_of};
-use nc_tables::{BgpRow, Stable, is_longer_in};
+use nc_tables::{ChosenRow, RouterRows, Stable};
 use nc_types::{AggregateStatement, NetworkStatement, Prefix, Process, RouterId};
 use std::alloc::AllocError;
 
@@ -125,53 +126,44 @@ pub(crate) fn push_aggregate(
     Ok(())
 }
 
-// The rows of a router's BGP table; none where there is no such router.
-fn rows_of(state: &Stable, router: RouterId) -> &[BgpRow]
-    ensures rows { map bgp_row_view result.now ≡ slice_index_or state.now.bgp router.0 [] }
-    ensures valid { AreBgpRows (map bgp_row_view result.now) }
+// The rows of a router's BGP table; `None` where there is no such router.
+fn rows_of(state: &Stable, router: RouterId) -> Option<RouterRows<'_>>
+    ensures rows { IfSome result (λ rows. rows ≡ slice_index_or state.now.bgp router.0 []) }
+    ensures valid { IfSome result AreBgpRows }
+    ensures none { IfNone result (slice_index_or state.now.bgp router.0 [] ≡ []) }
 {
     let table = state.bgp();
     if router.0 as usize >= state.network().routers().len() {
-        return &[];
+        return None;
     }
-    table.rows(router)
-}
-
-// The rows of longer prefixes inside another, which stand side by side behind it.
-fn inside(rows: &[BgpRow], outer: Prefix) -> &[BgpRow]
-    requires { AreBgpRows (map bgp_row_view rows.now) }
-    ensures rows { map bgp_row_view result.now
-        ≡ filter (λ row. is_longer_in row.prefix outer) (map bgp_row_view rows.now) }
-    ensures few { All (λ row. length row.chosen ≤ MULTIPATH_LIMIT) result.now }
-{
-    let _len = outer.len();
-    let first = rows.partition_point(|row| row.prefix <= outer);
-    let behind = &rows[first..];
-    let count = behind.partition_point(|row| is_longer_in(row.prefix, outer));
-    &behind[..count]
+    Some(table.rows(router))
 }
 
 // Appends the routes of a prefix that are chosen, best first.
-fn push_row(router: RouterId, row: &BgpRow, into: &mut Vec<Fact>) -> Result<(), AllocError>
-    requires { length row.now.chosen ≤ MULTIPATH_LIMIT }
+fn push_row(router: RouterId, row: ChosenRow<'_>, into: &mut Vec<Fact>) -> Result<(), AllocError>
+    requires { length (row_view row).chosen ≤ MULTIPATH_LIMIT }
     ensures ok { OnOk result (into.new.items
-        ≡ into.old.items ++ each_chosen router (bgp_row_view row.now)) }
+        ≡ into.old.items ++ each_chosen router (row_view row.entry)) }
     ensures kept { take (length into.old.items) into.new.items ≡ into.old.items }
 {
-    'places: for place in 0..row.chosen.as_slice().len() {
-        into.push(Fact::Chosen(router, row.prefix, place as u32))?;
+    'places: for place in 0..row.count() {
+        into.push(Fact::Chosen(router, *row.prefix, place as u32))?;
     }
     Ok(())
 }
 
 // Appends those of each row in turn.
-fn push_rows(router: RouterId, rows: &[BgpRow], into: &mut Vec<Fact>) -> Result<(), AllocError>
-    requires { All (λ row. length row.chosen ≤ MULTIPATH_LIMIT) rows.now }
+fn push_rows(
+    router: RouterId,
+    mut rows: RouterRows<'_>,
+    into: &mut Vec<Fact>,
+) -> Result<(), AllocError>
+    requires { All (λ row. length row.chosen ≤ MULTIPATH_LIMIT) rows }
     ensures ok { OnOk result (into.new.items ≡ into.old.items
-        ++ flat_map (each_chosen router) (map bgp_row_view rows.now)) }
+        ++ flat_map (each_chosen router) rows.entry) }
     ensures kept { take (length into.old.items) into.new.items ≡ into.old.items }
 {
-    'rows: for row in rows {
+    'rows: while let Some(row) = rows.next_row() {
         push_row(router, row, into)?;
     }
     Ok(())
@@ -188,8 +180,10 @@ fn push_inside(
         ++ chosen_inside router outer (slice_index_or state.now.bgp router.0 [])) }
     ensures kept { take (length into.old.items) into.new.items ≡ into.old.items }
 {
-    let rows = inside(rows_of(state, router), outer);
-    push_rows(router, rows, into)
+    match rows_of(state, router) {
+        Some(rows) => push_rows(router, rows.inside(outer), into),
+        None => Ok(()),
+    }
 }
 
 /// Appends what an aggregate statement gathers: the chosen routes of every longer prefix inside its own.

@@ -3,6 +3,7 @@
 ghost use Rattle.std.specs.Prelude.{◌≡◌, ◌++◌, [], ◌∷◌, Some, true, is_some, length, slice_get, take, OnOk};
 ghost use Rattle.std.specs.Option.{option_map};
 ghost use Rattle.nc_tables.specs.Rounds.{out_of};
+ghost use Rattle.nc_tables.specs.SpreadView.{route_view};
 ghost use Rattle.nc_sessions.specs.Views.{link_view};
 ghost use Rattle.nc_policy.specs.Indexes.{ArePolicies};
 ghost use Rattle.nc_policy.specs.Passing.{clause_by, names_by};
@@ -17,7 +18,7 @@ use nc_fact::{Fact, accepted_by, chosen_of, link_at};
 use nc_message::next_hop;
 use nc_policy::{Passing, Policies};
 use nc_sessions::Link;
-use nc_tables::{BgpFrom, Names, RibEntry, Stable};
+use nc_tables::{BgpFrom, Names, RibRoute, Stable};
 use nc_types::{Addr, Network, Prefix, RouterId};
 use std::alloc::AllocError;
 
@@ -69,18 +70,18 @@ fn passing_of<'a>(
     network: &'a Network,
     policies: &Policies,
     link: &Link<'a>,
-    best: &'a RibEntry,
+    best: RibRoute<'a>,
 ) -> Option<Passing<'a>>
     requires policies { ArePolicies network.now policies.now }
     requires sender { slice_get network.now link.now.session.peer.0
         ≡ Some (link_view link.now).sender.config }
-    ensures { option_map (out_view (link_view link.now) best.now) result
-        ≡ out_of (link_view link.now) best.now }
+    ensures { option_map (out_view (link_view link.now) (route_view best.entry)) result
+        ≡ out_of (link_view link.now) (route_view best.entry) }
 {
     let held = Held::of(best.communities());
     let count = best.path().len();
     let map = &link.sender.statement.map_out;
-    policies.pass(network, link.session.peer, map, best.prefix(), count, &held)
+    policies.pass(network, link.session.peer, map, *best.prefix, count, &held)
 }
 
 // Appends the elements by which a session's peer let pass the best that it has chosen of a prefix; none where it has

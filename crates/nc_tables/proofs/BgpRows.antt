@@ -1,22 +1,19 @@
 -- The rows of a router's BGP table: what is chosen of a prefix.
-use Rattle.std.proofs.Common.{◌≡◌, ℕ, zero, suc, ◌∷◌, ◌+◌, ◌<◌, Bool, true, false, List, [], length, map, get_or, Option, Some, None, refl, sym, ap, subst, ◌∙◌, arith, inl, inr}
-use Rattle.std.specs.List.{find, list_any, range_with_len}
+use Rattle.std.proofs.Common.{◌≡◌, ℕ, zero, suc, ◌∷◌, ◌+◌, ◌<◌, Bool, true, false, List, [], length, map, get_or, Some, None, refl, sym, ap, ◌∙◌, arith, inl, inr}
+use Rattle.std.specs.List.{find}
 use Rattle.std.specs.List.Sorted.{IsPartitionPoint, IsSortedByKey}
-use Rattle.std.specs.Option.{option_map, option_map_or, is_some}
+use Rattle.std.specs.Option.{option_map}
 use Rattle.std.specs.Ordering.{is_lt, is_eq, ordering_reverse}
 use Rattle.std.specs.declared.cmp.Ordering.TheVariants.{Less, Greater}
 use Rattle.std.proofs.lemmas.Bool.{cases_lt}
 use Rattle.std.proofs.lemmas.List.{length-map}
-use Rattle.std.proofs.lemmas.Option.{slice_get-get_or, slice_get-map}
 use Rattle.nc_types.specs.Cidr.{Cidr}
 use Rattle.nc_tables.specs.declared.bgp.BgpRow.{BgpRow}
 use Rattle.nc_tables.specs.Base.{prefix_cmp, same_prefix}
-use Rattle.nc_tables.specs.Longest.{places_from}
-use Rattle.nc_tables.specs.Rounds.{BgpRowView, bgp_row_view, chosen_in, AreBgpRows}
+use Rattle.nc_tables.specs.Rounds.{BgpRowView, bgp_row_view, AreBgpRows}
 use Rattle.nc_tables.proofs.SideBySide.{prefix_total, same_by_cmp}
 use Rattle.nc_tables.proofs.ByPrefix.{same_itself, less_differs}
-use Rattle.nc_tables.proofs.Finding.{find_map, found_at, found_none, found_first, found_nowhere, any_is_found}
-use Rattle.nc_tables.proofs.LongestPrefix.{places_map}
+use Rattle.nc_tables.proofs.Finding.{find_map, found_at, found_none}
 
 not_less : (p q : Cidr) → prefix_cmp p q ≡ Less → is_lt (prefix_cmp q p) ≡ false
 not_less p q e = ap is_lt (prefix_total.antisymm q p ∙ ap ordering_reverse e)
@@ -25,12 +22,6 @@ pub view_at : (rows : List BgpRow) (i : ℕ) (d : BgpRow) → get_or (map bgp_ro
 view_at [] i d = refl
 view_at (row ∷ rows) zero d = refl
 view_at (row ∷ rows) (suc i) d = view_at rows i d
-
--- each row has a candidate
-pub has_some : (rows : List BgpRow) (i : ℕ) (d : BgpRow) → AreBgpRows (map bgp_row_view rows) → i < length rows → 0 < length (get_or rows i d).chosen
-has_some rows i d are lt =
-    let count : length (map bgp_row_view rows) ≡ length rows = length-map rows bgp_row_view in
-    subst (λ (row : BgpRowView). 0 < length row.chosen) (view_at rows i d) (are.some i (bgp_row_view d) (omega arith))
 
 module _ (rows : List BgpRow) (are : AreBgpRows (map bgp_row_view rows)) where
   pub by_prefix : IsSortedByKey (λ (row : BgpRow). row.prefix) prefix_cmp rows
@@ -71,30 +62,3 @@ module _ (prefix : Cidr) where
         | inl before ↦ ap is_eq (parted.0 k d (omega arith) before)
         | inr after ↦ ap is_eq (parted.1 k d after lt)
       ]))
-
-  -- what is chosen, by the places of the rows that have the prefix
-  module _ (rows : List BgpRow) (from n : ℕ) (places : places_from (λ (row : BgpRow). same_prefix row.prefix prefix) 0 rows ≡ range_with_len from n) where
-    view_places : places_from has 0 (map bgp_row_view rows) ≡ range_with_len from n
-    view_places = places_map bgp_row_view has 0 rows ∙ places
-
-    pub chosen_nowhere : n ≡ 0 → chosen_in (map bgp_row_view rows) prefix ≡ []
-    chosen_nowhere none = ap (λ (o : Option BgpRowView). option_map_or (λ (row : BgpRowView). row.chosen) o []) (found_nowhere has (map bgp_row_view rows) from n view_places none)
-
-    pub chosen_there : (d : BgpRow) → 0 < n → from < length rows → chosen_in (map bgp_row_view rows) prefix ≡ (get_or rows from d).chosen
-    chosen_there d some lt =
-        ap (λ (o : Option BgpRowView). option_map_or (λ (row : BgpRowView). row.chosen) o [])
-        (found_first has (map bgp_row_view rows) from n view_places some
-        ∙ slice_get-map bgp_row_view rows from
-        ∙ ap (option_map bgp_row_view) (slice_get-get_or rows from d lt))
-
-  pub nothing_chosen : (rows : List BgpRowView) → find has rows ≡ None → chosen_in rows prefix ≡ []
-  nothing_chosen rows e = ap (λ (o : Option BgpRowView). option_map_or (λ (row : BgpRowView). row.chosen) o []) e
-
-  pub chosen_of : (rows : List BgpRowView) (row : BgpRowView) → find has rows ≡ Some row → chosen_in rows prefix ≡ row.chosen
-  chosen_of rows row e = ap (λ (o : Option BgpRowView). option_map_or (λ (row : BgpRowView). row.chosen) o []) e
-
-  pub has_none : (rows : List BgpRowView) → find has rows ≡ None → list_any has rows ≡ false
-  has_none rows e = any_is_found has rows ∙ ap is_some e
-
-  pub has_one : (rows : List BgpRowView) (row : BgpRowView) → find has rows ≡ Some row → list_any has rows ≡ true
-  has_one rows row e = any_is_found has rows ∙ ap is_some e

@@ -1,7 +1,8 @@
 -- What is chosen of each of some prefixes in order, and the rows that come of it.
-use Rattle.std.proofs.Common.{◌≡◌, ℕ, zero, suc, ◌<◌, ◌≤◌, ◌==◌, ◌&&◌, Bool, true, false, cond, List, Vec, Global, [], ◌∷◌, ◌++◌, length, map, get_or, set, All, Contains, Some, slice_get, refl, sym, ap, subst, ◌∙◌, append_assoc, nat_lt, arith, inl, inr, ◌⊎◌}
-use Rattle.std.specs.List.Sorted.{IsPartitionPoint}
-use Rattle.std.specs.Ordering.{is_le, is_gt}
+use Rattle.std.proofs.Common.{◌≡◌, ℕ, zero, suc, ◌+◌, ◌<◌, ◌≤◌, ◌==◌, ◌&&◌, Bool, true, false, cond, List, Vec, Global, [], ◌∷◌, ◌++◌, length, map, get_or, set, All, Contains, Some, slice_get, refl, sym, ap, subst, ◌∙◌, nat_lt, arith, inl, inr, ◌⊎◌}
+use Rattle.std.specs.List.Sorted.{IsNonDecreasingBy, IsPartitionPoint}
+use Rattle.std.specs.Ordering.{is_le, is_lt, is_gt, ordering_index, ordering_reverse}
+use Rattle.std.proofs.lemmas.List.Sorted.{searchable_from_sorted}
 use Rattle.std.proofs.lemmas.Bool.{cases_lt, eqb-true, and_parts, and_from, lt-ltb}
 use Rattle.std.proofs.lemmas.Option.{get_or_from_slice_get, slice_get_within, same_Some}
 use Rattle.std.proofs.lemmas.List.{length-set}
@@ -44,6 +45,12 @@ not_among ps q i parted some = on (cases_lt some.0 i)
     on : (some.0 < i) ⊎ (i ≤ some.0) → ⊥
     on (inl before) = let apart : Less ≡ Equal = sym (parted.0 some.0 q (omega arith) before) ∙ equal in absurd cc
     on (inr behind) = let apart : Greater ≡ Equal = sym (parted.1 some.0 q behind some.1) ∙ equal in absurd cc
+
+-- so one can be searched
+pub searchable : (ps : List Cidr) (q : Cidr) → Ascend ps → IsNonDecreasingBy (λ (p : Cidr). ordering_index (prefix_cmp p q)) ps
+searchable ps q up =
+    searchable_from_sorted prefix_total (λ (p : Cidr). p) ps q
+    (λ k d lo hi. ap is_lt (prefix_total.antisymm (get_or ps (k + 1) d) (get_or ps k d) ∙ ap ordering_reverse (up k (k + 1) d (omega arith) hi)))
 
 -- what holds of each prefix with what is chosen of it holds of each row
 pub all_by : (P : BgpRowView → Type 0) (ps : List Cidr) (css : List (List Chosen))
@@ -178,12 +185,9 @@ nowhere (p ∷ ps) (cs ∷ css) q out = on cs (nowhere ps css q (λ i. out (inr 
 
 -- ---- rows made one by one
 
-joined : (p : Cidr) (cs : List Chosen) (rows : List BgpRowView) → row_before p cs rows ≡ row_before p cs [] ++ rows
+pub joined : (p : Cidr) (cs : List Chosen) (rows : List BgpRowView) → row_before p cs rows ≡ row_before p cs [] ++ rows
 joined p [] rows = refl
 joined p (x ∷ xs) rows = refl
-
-pub one_more : (p : Cidr) (ps : List Cidr) (cs : List Chosen) (css : List (List Chosen)) (made total : List BgpRowView) → made ++ rows_by (p ∷ ps) (cs ∷ css) ≡ total → (made ++ row_before p cs []) ++ rows_by ps css ≡ total
-one_more p ps cs css made total is = append_assoc made (row_before p cs []) (rows_by ps css) ∙ ap (λ (l : List BgpRowView). made ++ l) (sym (joined p cs (rows_by ps css))) ∙ is
 
 -- ---- longer prefixes inside another
 
@@ -298,13 +302,3 @@ module _ (ps : List Cidr) where
   router_seen [] router read lt is = absurd (omega arith)
   router_seen (t ∷ ts) zero read lt is = ap (rows_by ps) is
   router_seen (t ∷ ts) (suc router) read lt is = router_seen ts router read (omega arith) is
-
-  -- the rows of one more router are made
-  pub routers_more : (made more total : List (List BgpRowView)) (left rest : List (Vec (List Chosen) Global)) (x : Vec (List Chosen) Global) (rows : List BgpRowView) → left ≡ x ∷ rest → more ≡ made ++ rows ∷ [] → rows ≡ seen x
-      → made ++ map seen left ≡ total → more ++ map seen rest ≡ total
-  routers_more made more total left rest x rows parts longer is all =
-      ap (λ (l : List (List BgpRowView)). l ++ map seen rest) longer
-      ∙ append_assoc made (rows ∷ []) (map seen rest)
-      ∙ ap (λ (l : List BgpRowView). made ++ l ∷ map seen rest) is
-      ∙ sym (ap (λ (l : List (Vec (List Chosen) Global)). made ++ map seen l) parts)
-      ∙ all

@@ -13,6 +13,8 @@ pub mod ByPrefix
 pub mod InOrder
 pub mod TableEdits
 pub mod Choices
+pub mod Spread
+mod Tables
 pub mod RowCount
 pub mod Ordered
 pub mod Owner

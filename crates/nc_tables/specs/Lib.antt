@@ -10,6 +10,8 @@ pub mod Choice
 pub mod Distances
 pub mod Rounds
 pub mod LocRibs
+pub mod Spread
+pub mod SpreadView
 pub mod RibEntryView
 pub mod LearntView
 pub mod HeldEntries
@@ -27,6 +29,7 @@ pub mod CasePolicy
 pub mod CaseCommunities
 pub mod CaseChoice
 pub mod CaseTables
+pub mod CaseSpread
 pub mod CaseSessions
 pub mod CaseMessages
 pub mod CaseRounds

@@ -219,6 +219,13 @@ impl RibEntry {
         self.prefix
     }
 
+    // The prefix, where it stands.
+    pub(crate) fn own_prefix(&self) -> &Prefix
+        ensures { result.now ≡ self.now.route.prefix }
+    {
+        &self.prefix
+    }
+
     /// The autonomous systems through which it came.
     pub fn path(&self) -> &Path
         ensures { result.now ≡ self.now.route.path }

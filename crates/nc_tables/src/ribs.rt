@@ -1,18 +1,19 @@
 //! What routers choose while a network settles, by the numbers of the prefixes.
 
-ghost use Rattle.std.specs.Prelude.{◌≡◌, ◌≤◌, ◌<◌, ◌==◌, ◌&&◌, ℕ, ◌++◌, [], All, Contains, IfNone, IfOk, IfSome, OnOk, length, map, replicate, slice_index_or, if◌then◌else◌, set};
-ghost use Rattle.nc_types.specs.Cidr.{Cidr};
+ghost use Rattle.std.specs.Prelude.{◌≡◌, ◌≤◌, ◌<◌, ◌==◌, ◌&&◌, ℕ, [], All, Contains, IfNone, IfOk, IfSome, Some, length, map, replicate, slice_get, slice_index_or, if◌then◌else◌, set};
+ghost use Rattle.nc_types.specs.Cidr.{Cidr, IsCidr};
 ghost use Rattle.nc_types.specs.declared.TheConstants.{MULTIPATH_LIMIT};
 ghost use Rattle.nc_tables.specs.Base.{same_prefix};
-ghost use Rattle.nc_tables.specs.LocRibs.{row_before, rows_by, AreChosen, Ascend, AreChoices, IsNumbered};
+ghost use Rattle.nc_tables.specs.LocRibs.{rows_by, AreChosen, Ascend, AreChoices, IsNumbered};
 ghost use Rattle.nc_tables.specs.Rounds.{bgp_row_view, chosen_at, has_longer, AreBgpRows};
+ghost use Rattle.nc_tables.specs.Spread.{chosen_or, with_prefix};
 
 use crate::bgp::BgpRow;
 use crate::inside::is_longer_in;
 use crate::longest::rows_at;
 use crate::rib_entries::RibEntries;
 use crate::rib_entry::RibEntry;
-use crate::routes::BgpTable;
+use crate::routes::{BgpTable, Choices};
 use nc_types::{Prefix, RouterId};
 use std::alloc::{AllocError, Global};
 use std::marker::Model;
@@ -96,41 +97,61 @@ fn has_chosen_inside(prefixes: &[Prefix], choices: &[RibEntries], outer: Prefix)
     false
 }
 
-// Adds the row of a prefix, where something is chosen of it.
-fn push_row(rows: &mut Vec<BgpRow>, prefix: Prefix, chosen: RibEntries) -> Result<(), AllocError>
-    ensures { OnOk result (map bgp_row_view rows.new.items
-        ≡ map bgp_row_view rows.old.items ++ row_before prefix chosen []) }
+// So many numbers in turn, from 0.
+fn numbers(alloc: Global, count: usize) -> Result<Vec<usize>, AllocError>
+    ensures count { IfOk result (λ numbers. length numbers.items ≡ count) }
+    ensures each { IfOk result (λ numbers. (k : ℕ) → k < count → slice_get numbers.items k ≡ Some k) }
 {
-    if chosen.is_empty() {
-        return Ok(());
+    let mut numbers = Vec::with_capacity(alloc, count)?;
+    'numbers: for number in 0..count {
+        numbers.push(number)?;
     }
-    rows.push(BgpRow { prefix, chosen })?;
-    Ok(())
+    Ok(numbers)
 }
 
-// The rows of a router that chooses this of each prefix.
-fn rows_of(
-    alloc: Global,
-    prefixes: &[Prefix],
-    choices: Vec<RibEntries>,
-) -> Result<Vec<BgpRow>, AllocError>
-    requires ordered { Ascend prefixes.now }
-    requires choices { AreChoices prefixes.now choices.items }
-    ensures rows { IfOk result
-        (λ rows. map bgp_row_view rows.items ≡ rows_by prefixes.now choices.items) }
-    ensures valid { IfOk result (λ rows. AreBgpRows (map bgp_row_view rows.items)) }
+// Tells that prefixes are as prefixes are.
+fn are_prefixes(prefixes: &[Prefix])
+    ensures { All (λ p. IsCidr p.base p.len) prefixes.now }
 {
-    let mut rows = Vec::with_capacity(alloc, prefixes.len())?;
-    let mut left = choices.into_iter();
     'prefixes: for prefix in prefixes {
         let _len = prefix.len();
-        let Some(chosen) = left.next() else {
-            break 'prefixes;
-        };
-        push_row(&mut rows, *prefix, chosen)?;
     }
-    rows.shrink_to_fit();
-    Ok(rows)
+}
+
+// No rows, for each of so many routers.
+fn no_rows(alloc: Global, count: usize) -> Result<Vec<Vec<BgpRow>>, AllocError>
+    ensures { IfOk result
+        (λ own. map (λ rows. map bgp_row_view rows.items) own.items ≡ replicate count []) }
+{
+    let mut own = Vec::with_capacity(alloc, count)?;
+    'routers: for _router in 0..count {
+        own.push(Vec::new(alloc))?;
+    }
+    Ok(own)
+}
+
+// What routers choose of those prefixes that stand for others, each with the rows of its own.
+fn with_own(
+    alloc: Global,
+    routers: Vec<Vec<RibEntries>>,
+    own: Vec<Vec<BgpRow>>,
+) -> Result<Vec<Choices>, AllocError>
+    requires { length own.items ≡ length routers.items }
+    ensures standing { IfOk result (λ all. map (λ c. c.standing.items) all.items
+        ≡ map (λ choices. choices.items) routers.items) }
+    ensures own { IfOk result (λ all. map (λ c. map bgp_row_view c.own.items) all.items
+        ≡ map (λ rows. map bgp_row_view rows.items) own.items) }
+{
+    let mut all = Vec::with_capacity(alloc, routers.len())?;
+    let mut left = routers.into_iter();
+    let mut owned = own.into_iter();
+    'routers: while let Some(standing) = left.next() {
+        let Some(own) = owned.next() else {
+            break 'routers;
+        };
+        all.push(Choices { own, standing })?;
+    }
+    Ok(all)
 }
 
 impl LocRibs {
@@ -224,11 +245,43 @@ impl LocRibs {
     pub fn into_table(self, alloc: Global) -> Result<BgpTable, AllocError>
         ensures { IfOk result (λ table. table ≡ self.rows) }
     {
-        let mut rows = Vec::with_capacity(alloc, self.routers.len())?;
-        let mut left = self.routers.into_iter();
-        'routers: while let Some(choices) = left.next() {
-            rows.push(rows_of(alloc, &self.prefixes, choices)?)?;
-        }
-        Ok(BgpTable::from_rows(rows))
+        let places = numbers(alloc, self.prefixes.len())?;
+        let own = no_rows(alloc, self.routers.len())?;
+        are_prefixes(&self.prefixes);
+        let routers = with_own(alloc, self.routers, own)?;
+        Ok(BgpTable::of(self.prefixes, places, routers))
+    }
+
+    /// The tables of other prefixes, which are in order (address, then length), each with the place of the one
+    /// that stands for it: of each a router chooses what is in its own row of it, where one is given, and else what
+    /// it chooses of the one that stands for it.
+    ///
+    /// # Errors
+    ///
+    /// Memory that runs out.
+    pub fn spread(
+        self,
+        alloc: Global,
+        prefixes: Vec<Prefix>,
+        places: Vec<usize>,
+        own: Vec<Vec<BgpRow>>,
+    ) -> Result<BgpTable, AllocError>
+        requires ordered { Ascend prefixes.items }
+        requires count { length places.items ≡ length prefixes.items }
+        requires within { All (λ place. place < length self.prefixes) places.items }
+        requires routers { length own.items ≡ length self.rows }
+        requires own { All (λ rows. AreBgpRows (map bgp_row_view rows.items)) own.items }
+        ensures count { IfOk result (λ table. length table ≡ length self.rows) }
+        ensures chosen { IfOk result (λ table. (router k place : ℕ) (q p : Cidr)
+            → slice_get prefixes.items k ≡ Some q → slice_get places.items k ≡ Some place
+            → slice_get self.prefixes place ≡ Some p → chosen_at table router q ≡ map (with_prefix q)
+            (chosen_or (slice_index_or (map (λ rows. map bgp_row_view rows.items) own.items) router [])
+            q (chosen_at self.rows router p))) }
+        ensures others { IfOk result (λ table. (router : ℕ) (q : Cidr)
+            → ¬ Contains prefixes.items q → chosen_at table router q ≡ []) }
+    {
+        are_prefixes(&prefixes);
+        let routers = with_own(alloc, self.routers, own)?;
+        Ok(BgpTable::of(prefixes, places, routers))
     }
 }

@@ -1,69 +1,73 @@
-ghost use Rattle.std.specs.Prelude.{◌≡◌, ◌<◌, [], All, IfErr, IfOk, length, map, nat_lt, slice_index_or};
-ghost use Rattle.std.specs.List.{list_any, HoldsAt};
-ghost use Rattle.std.specs.List.Sorted.{IsPartitionPoint, IsSearchInRange};
-ghost use Rattle.std.specs.declared.cmp.Ordering.TheVariants.{Less, Equal, Greater};
-ghost use Rattle.nc_tables.specs.Base.{prefix_cmp, same_prefix};
-ghost use Rattle.nc_tables.specs.Rounds.{bgp_row_view, chosen_in, has_longer, AreBgpRows};
+ghost use Rattle.std.specs.Prelude.{◌≡◌, ◌<◌, ◌≤◌, [], All, IfSome, length, map, slice_index_or};
+ghost use Rattle.std.specs.Option.{option_map_or};
+ghost use Rattle.nc_types.specs.declared.TheConstants.{MULTIPATH_LIMIT};
+ghost use Rattle.nc_tables.specs.Rounds.{chosen_in, has_longer, AreBgpRows};
+ghost use Rattle.nc_tables.specs.SpreadView.{row_view, rows_by_places, rows_in, AreKept, ArePlaced, IsSpread};
 
 use crate::bgp::BgpRow;
-use crate::inside;
-use crate::longest::{HasPrefix, rows_at};
-use crate::rib_entry::RibEntry;
+use crate::rib_entries::RibEntries;
+use crate::router_rows::{ChosenRow, RouterRows, Spread, row_of};
 use nc_types::{Prefix, RouterId};
 use std::marker::Model;
 
-impl HasPrefix for BgpRow {
-    ghost prefix_of = { λ row. row.prefix };
-
-    fn prefix(&self) -> Prefix {
-        self.prefix
-    }
-}
-
-// Where the row of a prefix stands; else the place at which it would stand.
-fn place_of(rows: &[BgpRow], prefix: Prefix) -> Result<usize, usize>
-    requires { AreBgpRows (map bgp_row_view rows.now) }
-    ensures bound { IsSearchInRange result (length rows.now) }
-    ensures found { IfOk result
-        (HoldsAt (λ row. prefix_cmp row.prefix prefix ≡ Equal) rows.now) }
-    ensures parts { IfErr result (IsPartitionPoint (λ row. prefix_cmp row.prefix prefix ≡ Less)
-        (λ row. prefix_cmp row.prefix prefix ≡ Greater) rows.now) }
-{
-    let place = rows.partition_point(|row| row.prefix < prefix);
-    if place >= rows.len() {
-        return Err(place);
-    }
-    if rows[place].prefix == prefix {
-        return Ok(place);
-    }
-    Err(place)
+// What a router chooses of those prefixes that stand for others, and the rows of its own.
+#[derive(Drop)]
+pub(crate) struct Choices {
+    pub(crate) own: Vec<BgpRow>,
+    pub(crate) standing: Vec<RibEntries>,
 }
 
 /// The BGP tables of the routers of a network: the rows of each router, one for each prefix that it has a
-/// candidate for, in order of prefix (address, then length).
+/// candidate for, in order of prefix (address, then length). Prefixes of which a router chooses the same, but for
+/// the prefix, may share what it chooses.
 #[derive(Drop)]
 pub struct BgpTable {
-    rows: Vec<Vec<BgpRow>>,
+    prefixes: Vec<Prefix>,
+    places: Vec<usize>,
+    routers: Vec<Choices>,
 }
 
 impl Model for BgpTable {
     ghost use Rattle.std.specs.Prelude.{List, All, map};
-    ghost use Rattle.nc_tables.specs.Rounds.{BgpRowView, bgp_row_view, AreBgpRows};
+    ghost use Rattle.nc_tables.specs.Rounds.{BgpRowView};
+    ghost use Rattle.nc_tables.specs.SpreadView.{rows_by_places, AreKept, ArePlaced};
 
     ghost Value = { List (List BgpRowView) };
 
-    ghost view = { λ t. map (λ rows. map bgp_row_view rows.items) t.rows.items };
+    ghost view = { λ t. map (rows_by_places t.prefixes.items t.places.items) t.routers.items };
 
-    ghost invariant = { λ t. All (λ rows. AreBgpRows (map bgp_row_view rows.items)) t.rows.items };
+    ghost invariant = { λ t. ArePlaced t.prefixes.items t.places.items
+        × All (AreKept t.places.items) t.routers.items };
 }
 
 impl BgpTable {
-    /// The tables that have these rows, a list for each router.
-    pub fn from_rows(rows: Vec<Vec<BgpRow>>) -> BgpTable
-        requires { All (λ rows. AreBgpRows (map bgp_row_view rows.items)) rows.items }
-        ensures { result ≡ map (λ rows. map bgp_row_view rows.items) rows.items }
+    // The tables of these prefixes, each with the place of the one that stands for it, and of what each router
+    // chooses.
+    pub(crate) fn of(prefixes: Vec<Prefix>, places: Vec<usize>, routers: Vec<Choices>) -> BgpTable
+        requires placed { ArePlaced prefixes.items places.items }
+        requires kept { All (AreKept places.items) routers.items }
+        ensures { result ≡ map (rows_by_places prefixes.items places.items) routers.items }
     {
-        BgpTable { rows }
+        BgpTable {
+            prefixes,
+            places,
+            routers,
+        }
+    }
+
+    // What a router chooses of all prefixes.
+    fn spread(&self, router: RouterId) -> Spread<'_>
+        requires { router.0 < length self.now }
+        ensures rows { rows_in result ≡ slice_index_or self.now router.0 [] }
+        ensures spread { IsSpread result }
+    {
+        let choices = &self.routers[router.0 as usize];
+        Spread {
+            prefixes: &self.prefixes,
+            places: &self.places,
+            own: &choices.own,
+            standing: &choices.standing,
+        }
     }
 
     /// How many routers the tables have rows of; those of each are as the rows of a router are.
@@ -71,39 +75,39 @@ impl BgpTable {
         ensures count { result ≡ length self.now }
         ensures valid { All AreBgpRows self.now }
     {
-        self.rows.len()
+        self.routers.len()
     }
 
     /// The rows of a router, which has a number below that of the routers.
-    pub fn rows(&self, router: RouterId) -> &[BgpRow]
+    pub fn rows(&self, router: RouterId) -> RouterRows<'_>
         requires { router.0 < length self.now }
-        ensures rows { map bgp_row_view result.now ≡ slice_index_or self.now router.0 [] }
-        ensures valid { AreBgpRows (map bgp_row_view result.now) }
+        ensures rows { result ≡ slice_index_or self.now router.0 [] }
+        ensures valid { AreBgpRows result }
     {
-        rows_at(&self.rows, router)
+        RouterRows::of(self.spread(router))
     }
 
-    /// The chosen candidates of a prefix at a router, which has a number below that of the routers, best
-    /// first; empty exactly where the prefix has no row there. Takes no memory.
-    pub fn chosen(&self, router: RouterId, prefix: Prefix) -> &[RibEntry]
+    /// The chosen candidates of a prefix at a router, which has a number below that of the routers; `None` where
+    /// the prefix has no row there. Takes two binary searches and no memory.
+    pub fn chosen(&self, router: RouterId, prefix: Prefix) -> Option<ChosenRow<'_>>
         requires { router.0 < length self.now }
-        ensures chosen { result.now ≡ chosen_in (slice_index_or self.now router.0 []) prefix }
-        ensures some { nat_lt 0 (length result.now)
-            ≡ list_any (λ row. same_prefix row.prefix prefix) (slice_index_or self.now router.0 []) }
+        ensures chosen { option_map_or (λ row. (row_view row).chosen) result []
+            ≡ chosen_in (slice_index_or self.now router.0 []) prefix }
+        ensures prefix { IfSome result (λ row. row.prefix.now ≡ prefix) }
+        ensures some { IfSome result (λ row. 0 < length (row_view row).chosen) }
+        ensures few { IfSome result (λ row. length (row_view row).chosen ≤ MULTIPATH_LIMIT) }
     {
-        let rows = self.rows(router);
-        match place_of(rows, prefix) {
-            Ok(place) => rows[place].chosen.as_slice(),
-            Err(_) => &[],
-        }
+        row_of(self.spread(router), prefix)
     }
 
     /// Whether a router, which has a number below that of the routers, has chosen candidates of a longer
-    /// prefix inside another. Takes one binary search and no memory.
+    /// prefix inside another. Takes no memory, and goes over the prefixes inside up to the first of which something
+    /// is chosen.
     pub fn has_longer(&self, router: RouterId, outer: Prefix) -> bool
         requires { router.0 < length self.now }
         ensures { result ≡ has_longer (slice_index_or self.now router.0 []) outer }
     {
-        inside::has_longer(self.rows(router), outer)
+        let mut inside = self.rows(router).inside(outer);
+        inside.next_row().is_some()
     }
 }

@@ -67,7 +67,7 @@ pub(crate) fn bgp_hop(state: &Stable, router: RouterId, prefix: Prefix, place: u
     ensures { option_map (λ a. a.0) result
         ≡ option_map (λ x. x.route.next_hop.0) (slice_get (chosen_at state.now.bgp router.0 prefix) place) }
 {
-    let chosen = state.bgp().chosen(router, prefix).get(place as usize)?;
+    let chosen = state.bgp().chosen(router, prefix)?.get(place as usize)?;
     Some(chosen.next_hop())
 }
 

@@ -1,17 +1,9 @@
-use Rattle.std.proofs.Common.{List, [], length, slice_index_or, ap, sym, arith}
-use Rattle.nc_tables.specs.declared.bgp.Chosen.{Chosen}
+use Rattle.std.proofs.Common.{List, length, ap, sym}
 use Rattle.nc_tables.specs.Rounds.{BgpRowView, chosen_in}
 use Rattle.nc_fact.proofs.Beyond.{beyond_by, no_routes}
-use Rattle.nc_fact.proofs.Few.{few_chosen}
 use Rattle.nc_fact.proofs.bgp.chosen_at.Goals as goal
 
 pub returns-then-not-has_router-clause-chosen : goal.returns-then-not-has_router-clause-chosen
 returns-then-not-has_router-clause-chosen c =
     sym (ap (λ (rows : List BgpRowView). chosen_in rows c.args.prefix)
     (no_routes c.args.state.now c.has_router.ensures.state c.args.router.0 (beyond_by c.has_router.result c.args.router.0 (length c.args.state.now.routers) c.has_router.ensures.within.1 c.if-not-has_router.true)))
-
-pub returns-clause-few : goal.returns-clause-few
-returns-clause-few c =
-    let are = ap (λ (xs : List Chosen). length xs) c.chosen.ensures.chosen in
-    let table = ap (λ (t : List (List BgpRowView)). length (chosen_in (slice_index_or t c.args.router.0 []) c.args.prefix)) c.bgp.ensures.bgp in
-    omega (arith, are, table, few_chosen c.args.state.now c.bgp.ensures.state c.args.router.0 c.args.prefix)

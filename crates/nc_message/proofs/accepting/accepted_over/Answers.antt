@@ -1,6 +1,7 @@
 use Rattle.std.proofs.Common.{sym, ap, ◌∙◌}
 use Rattle.std.specs.Option.{option_and_then, option_map}
 use Rattle.nc_tables.specs.Rounds.{accepted_of}
+use Rattle.nc_tables.specs.SpreadView.{route_view}
 use Rattle.nc_sessions.specs.Views.{link_view}
 use Rattle.nc_message.specs.Views.{accepted_view}
 use Rattle.nc_message.proofs.Holding.{held_not_taken}
@@ -8,7 +9,7 @@ use Rattle.nc_message.proofs.accepting.accepted_over.Goals as goal
 
 pub returns-then-holds_receiver-clause-accepted : goal.returns-then-holds_receiver-clause-accepted
 returns-then-holds_receiver-clause-accepted c =
-    held_not_taken (link_view c.args.adjacency.link) c.args.best.now (sym c.holds_receiver.ensures ∙ c.if-holds_receiver.true) c.args.inputs.now.base.now c.args.router.0
+    held_not_taken (link_view c.args.adjacency.link) (route_view c.args.best) (sym c.holds_receiver.ensures ∙ c.if-holds_receiver.true) c.args.inputs.now.base.now c.args.router.0
 
 pub passed_into-requires-clause-other : goal.passed_into-requires-clause-other
 passed_into-requires-clause-other c = sym c.holds_receiver.ensures ∙ c.if-holds_receiver.false

@@ -5,6 +5,7 @@ use Rattle.nc_sessions.specs.Views.{link_view}
 use Rattle.nc_message.specs.declared.messages.Advertisement.{Advertisement}
 use Rattle.nc_message.specs.Views.{advertised, message_view}
 use Rattle.nc_tables.specs.Rounds.{is_looped}
+use Rattle.nc_tables.specs.SpreadView.{route_view}
 use Rattle.nc_message.proofs.Sending.{looped_is}
 use Rattle.nc_message.proofs.accepting.is_looped.Goals as goal
 
@@ -19,10 +20,10 @@ module _ (s : Advertisement) where
   has_prepended = list_any is_own_number (prepended_by s.out)
 
   abbrev has_path : Bool
-  has_path = list_any is_own_number s.best.now.route.path
+  has_path = list_any is_own_number (route_view s.best).route.path
 
   looped : is_looped (message_view s) ≡ (has_sender || (has_prepended || has_path))
-  looped = looped_is (link_view s.link) s.best.now s.out
+  looped = looped_is (link_view s.link) (route_view s.best) s.out
 
 pub returns-then-has_own_sender : goal.returns-then-has_own_sender
 returns-then-has_own_sender c =

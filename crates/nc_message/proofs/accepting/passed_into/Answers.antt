@@ -8,6 +8,7 @@ use Rattle.nc_tables.specs.Reach.{hits}
 use Rattle.nc_types.specs.declared.config.Reference.{Reference}
 use Rattle.nc_tables.specs.declared.base.BaseRow.{BaseRow}
 use Rattle.nc_tables.specs.Rounds.{Accepted, Message, Passed, accepted_of, has_own_hop, is_looped, is_unresolved, passed}
+use Rattle.nc_tables.specs.SpreadView.{route_view}
 use Rattle.nc_policy.specs.Passing.{communities_by, passing_view, prepended_by}
 use Rattle.nc_policy.specs.declared.passing.Passing.TheVariants.{Unchanged}
 use Rattle.nc_sessions.specs.Views.{link_view}
@@ -72,7 +73,7 @@ returns-in_err-into-clause-accepted c =
     let s = advertised c.args.sent.now in
     let m = message_view s in
     let k = link_view s.link in
-    let is = message_is k s.best.now s.out in
+    let is = message_is k (route_view s.best) s.out in
     let base = c.args.inputs.now.base.now in
     let router = c.args.router.0 in
     let other : has_own_hop m ≡ false =
@@ -81,20 +82,20 @@ returns-in_err-into-clause-accepted c =
     ap (λ (a : Addr). nat_lt 0 (length (hits base router a.0))) (sym c.hop_of-hop.ensures) ∙ sym c.is_resolved.ensures ∙ c.if-not-is_resolved.false in
     ap (option_map (accepted_by s)) c.from_residual.ensures
     ∙ denied base router m (sym c.is_looped.ensures ∙ c.if-is_looped.false) other leads
-    (c.in_err-into.ensures.passed m.link.receiver.config m.route c.requires.between.receiver (is.prefix ∙ sym c.prefix-prefix.ensures) (path_length k s.best.now s.out ∙ sym c.sent_length-count.ensures)
+    (c.in_err-into.ensures.passed m.link.receiver.config m.route c.requires.between.receiver is.prefix (path_length k (route_view s.best) s.out ∙ sym c.sent_length-count.ensures)
     (sym c.carried-held.ensures))
 
 pub pass_at-requires-clause-few : goal.pass_at-requires-clause-few
 pass_at-requires-clause-few c =
     let s = advertised c.args.sent.now in
-    subst (λ (n : ℕ). n ≤ PATH_LIMIT) (path_length (link_view s.link) s.best.now s.out ∙ sym c.sent_length-count.ensures) c.requires.feasible.short
+    subst (λ (n : ℕ). n ≤ PATH_LIMIT) (path_length (link_view s.link) (route_view s.best) s.out ∙ sym c.sent_length-count.ensures) c.requires.feasible.short
 
 pub returns-clause-accepted : goal.returns-clause-accepted
 returns-clause-accepted c =
     let s = advertised c.args.sent.now in
     let m = message_view s in
     let k = link_view s.link in
-    let is = message_is k s.best.now s.out in
+    let is = message_is k (route_view s.best) s.out in
     let base = c.args.inputs.now.base.now in
     let router = c.args.router.0 in
     let other : has_own_hop m ≡ false =
@@ -103,13 +104,13 @@ returns-clause-accepted c =
     ap (λ (a : Addr). nat_lt 0 (length (hits base router a.0))) (sym c.hop_of-hop.ensures) ∙ sym c.is_resolved.ensures ∙ c.if-not-is_resolved.false in
     taken_is base router m (passing_view m.route c.in_ok-into.into)
     (sym c.is_looped.ensures ∙ c.if-is_looped.false) other leads
-    (c.in_ok-into.ensures.passed m.link.receiver.config m.route c.requires.between.receiver (is.prefix ∙ sym c.prefix-prefix.ensures) (path_length k s.best.now s.out ∙ sym c.sent_length-count.ensures) (sym c.carried-held.ensures))
+    (c.in_ok-into.ensures.passed m.link.receiver.config m.route c.requires.between.receiver is.prefix (path_length k (route_view s.best) s.out ∙ sym c.sent_length-count.ensures) (sym c.carried-held.ensures))
 
 pub returns-clause-short : goal.returns-clause-short
 returns-clause-short c =
     let s = advertised c.args.sent.now in
     let into = c.in_ok-into.into in
-    omega (arith, length-append (prepended_by into) (message_view s).route.path, path_length (link_view s.link) s.best.now s.out, c.sent_length-count.ensures, c.in_ok-into.ensures.short)
+    omega (arith, length-append (prepended_by into) (message_view s).route.path, path_length (link_view s.link) (route_view s.best) s.out, c.sent_length-count.ensures, c.in_ok-into.ensures.short)
 
 pub returns-clause-few : goal.returns-clause-few
 returns-clause-few c =

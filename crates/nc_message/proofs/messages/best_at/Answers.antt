@@ -1,20 +1,19 @@
-use Rattle.std.proofs.Common.{◌≡◌, List, [], All, Bor, IfSome, Option, Some, None, slice_get, slice_index_or, sym, subst}
-use Rattle.std.specs.Option.{option_copied}
+use Rattle.std.proofs.Common.{◌≡◌, List, [], ◌∷◌, IfSome, Option, Some, None, map, slice_get, ap, ◌∙◌}
+use Rattle.std.specs.Option.{option_map, option_map_or}
 use Rattle.nc_types.specs.Cidr.{Cidr}
-use Rattle.nc_types.proofs.Members.{all_in, in_by_get}
 use Rattle.nc_tables.specs.declared.bgp.Chosen.{Chosen}
-use Rattle.nc_tables.specs.Rounds.{AreBgpRows}
-use Rattle.nc_message.specs.Inputs.{IsOf}
-use Rattle.nc_message.proofs.Own.{row_own}
+use Rattle.nc_tables.specs.declared.rib_route.RibRoute.{RibRoute}
+use Rattle.nc_tables.specs.Spread.{with_prefix}
+use Rattle.nc_tables.specs.SpreadView.{route_view}
 use Rattle.nc_message.proofs.messages.best_at.Goals as goal
 
-first_own : (p : Cidr) (xs : List Chosen) (o : Option (Bor Chosen)) → option_copied o ≡ slice_get xs 0 → All (IsOf p) xs → IfSome o (λ b. b.now.route.prefix ≡ p)
-first_own p xs None e own = tt
-first_own p xs (Some b) e own = all_in (IsOf p) xs own b.now (in_by_get xs 0 b.now (sym e))
+-- the first one in a row is of the row's prefix
+first_own : (p q : Cidr) (xs : List Chosen) (o : Option RibRoute) → option_map route_view o ≡ slice_get (map (with_prefix p) xs) 0 → p ≡ q → IfSome o (λ b. (route_view b).route.prefix ≡ q)
+first_own p q xs None e same = tt
+first_own p q [] (Some b) e same = absurd cc
+first_own p q (x ∷ xs) (Some b) e same = ap (λ (o : Option Chosen). option_map_or (λ y. y.route.prefix) o p) e ∙ same
 
 pub returns-clause-own : goal.returns-clause-own
 returns-clause-own c =
-    let p = c.args.prefix in
-    let are : AreBgpRows (slice_index_or c.args.table.now c.args.router.0 []) = subst AreBgpRows c.rows-rows.ensures.rows c.rows-rows.ensures.valid in
-    first_own p c.chosen.result.now c.first.result c.first.ensures.value
-    (subst (All (IsOf p)) (sym c.chosen.ensures.chosen) (row_own p (slice_index_or c.args.table.now c.args.router.0 []) are.own))
+    let row = c.in_ok-chosen.field-0 in
+    first_own row.prefix.now c.args.prefix row.held.now c.get.result c.get.ensures c.in_ok-chosen.ensures.prefix

@@ -1,9 +1,9 @@
-use Rattle.std.proofs.Common.{◌≡◌, List, Bor, length, map, sym, ap, ◌∙◌, arith}
+use Rattle.std.proofs.Common.{◌≡◌, List, length, map, sym, ap, ◌∙◌, arith}
 use Rattle.std.proofs.lemmas.List.{length-map}
 use Rattle.std.specs.Option.{option_map}
 use Rattle.nc_types.specs.Config.{ConfigView, config_view}
 use Rattle.nc_types.specs.declared.config.RouterConfig.{RouterConfig}
-use Rattle.nc_tables.specs.declared.rib_entry.RibEntry.{RibEntry}
+use Rattle.nc_tables.specs.SpreadView.{route_view}
 use Rattle.nc_message.specs.Peers.{best_over}
 use Rattle.nc_message.proofs.PeerFirst.{none_by, none_past}
 use Rattle.nc_message.proofs.messages.best_of_peer.Goals as goal
@@ -25,7 +25,7 @@ returns-then-session-count-clause-best c =
     ∙ ap (best_over table c.args.prefix) c.in_ok-session.ensures
 
 pub returns-in_err-session-clause-best : goal.returns-in_err-session-clause-best
-returns-in_err-session-clause-best c = ap (option_map (λ (b : Bor RibEntry). b.now)) c.from_residual.ensures ∙ ap (best_over c.args.table.now c.args.prefix) c.in_err-session.ensures
+returns-in_err-session-clause-best c = ap (option_map route_view) c.from_residual.ensures ∙ ap (best_over c.args.table.now c.args.prefix) c.in_err-session.ensures
 
 pub returns-clause-best : goal.returns-clause-best
 returns-clause-best c = c.best_at.ensures.best ∙ ap (best_over c.args.table.now c.args.prefix) c.in_ok-session.ensures

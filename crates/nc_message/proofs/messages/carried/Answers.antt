@@ -1,4 +1,5 @@
 use Rattle.std.proofs.Common.{◌≡◌, ◌≤◌, true, false, cond, [], List, length, ℕ, Bool, sym, ap, subst, ◌∙◌}
+use Rattle.nc_tables.specs.SpreadView.{route_view}
 use Rattle.nc_types.specs.declared.TheConstants.{COMMUNITY_LIMIT}
 use Rattle.nc_policy.specs.Passing.{communities_by}
 use Rattle.nc_sessions.specs.Views.{link_view}
@@ -9,10 +10,10 @@ use Rattle.nc_message.proofs.messages.carried.Goals as goal
 
 module _ (s : Advertisement) where
   abbrev left : List ℕ
-  left = communities_by s.out s.best.now.route.communities
+  left = communities_by s.out (route_view s.best).route.communities
 
   sent_by : (send : Bool) → (link_view s.link).sender.statement.send_community ≡ send → (message_view s).route.communities ≡ cond send left []
-  sent_by send is = (message_is (link_view s.link) s.best.now s.out).communities ∙ ap (λ (t : Bool). cond t left []) is
+  sent_by send is = (message_is (link_view s.link) (route_view s.best) s.out).communities ∙ ap (λ (t : Bool). cond t left []) is
 
 pub returns-then-not-link : goal.returns-then-not-link
 returns-then-not-link c = c.none.ensures ∙ sym (sent_by (advertised c.args.sent.now) false c.if-not-link.true)

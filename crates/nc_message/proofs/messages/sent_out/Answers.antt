@@ -6,6 +6,7 @@ use Rattle.nc_policy.specs.Passing.{communities_by}
 use Rattle.nc_sessions.specs.Views.{link_view}
 use Rattle.nc_tables.specs.declared.bgp.Chosen.{Chosen}
 use Rattle.nc_tables.specs.Rounds.{Link, Message, is_held_back, is_kept_inside, message_of, message_with, out_of}
+use Rattle.nc_tables.specs.SpreadView.{route_view}
 use Rattle.nc_policy.specs.declared.passing.Passing.{Passing}
 use Rattle.nc_message.specs.Views.{message_by, out_view}
 use Rattle.nc_message.proofs.Sending.{message_is, path_length, sent_is}
@@ -44,53 +45,53 @@ module _ (k : Link) (b : Chosen) where
 pub returns-then-is_held_back-clause-message : goal.returns-then-is_held_back-clause-message
 returns-then-is_held_back-clause-message c =
     let k = link_view c.args.link.now in
-    held k c.args.best.now (ap (is_held_back k.sender.process) (sym c.prefix.ensures) ∙ sym c.is_held_back.ensures ∙ c.if-is_held_back.true)
+    held k (route_view c.args.best) (sym c.is_held_back.ensures ∙ c.if-is_held_back.true)
 
 pub returns-then-is_internal-clause-message : goal.returns-then-is_internal-clause-message
 returns-then-is_internal-clause-message c =
     let k = link_view c.args.link.now in
-    let b = c.args.best.now in
-    kept k b (ap (is_held_back k.sender.process) (sym c.prefix.ensures) ∙ sym c.is_held_back.ensures ∙ c.if-is_held_back.false)
+    let b = route_view c.args.best in
+    kept k b (sym c.is_held_back.ensures ∙ c.if-is_held_back.false)
     (ap (λ (t : Bool). t && b.internal) c.if-link.true ∙ (sym c.is_internal.ensures ∙ c.if-is_internal.true))
 
 pub returns-in_err-out-clause-message : goal.returns-in_err-out-clause-message
 returns-in_err-out-clause-message c =
     let k = link_view c.args.link.now in
-    let b = c.args.best.now in
+    let b = route_view c.args.best in
     let may : (k.session.internal && b.internal) ≡ false = elim c.else-link.branch [
       | else-link-via-then-link+else-is_internal w ↦ ap (λ (t : Bool). t && b.internal) w.if-link.true ∙ (sym w.is_internal.ensures ∙ w.if-is_internal.false)
       | else-link-via-else-link w ↦ ap (λ (t : Bool). t && b.internal) w.if-link.false
     ] in
     ap (option_map (message_by k b)) c.from_residual.ensures
-    ∙ denied k b (ap (is_held_back k.sender.process) (sym c.prefix.ensures) ∙ sym c.is_held_back.ensures ∙ c.if-is_held_back.false) may c.in_err-out.ensures.out
+    ∙ denied k b (sym c.is_held_back.ensures ∙ c.if-is_held_back.false) may c.in_err-out.ensures.out
 
 pub returns-then-sent_length-gt-PATH_LIMIT-clause-message : goal.returns-then-sent_length-gt-PATH_LIMIT-clause-message
 returns-then-sent_length-gt-PATH_LIMIT-clause-message c =
     let k = link_view c.args.link.now in
-    let b = c.args.best.now in
+    let b = route_view c.args.best in
     let out = c.in_ok-out.out in
     let may : (k.session.internal && b.internal) ≡ false = elim c.else-link.branch [
       | else-link-via-then-link+else-is_internal w ↦ ap (λ (t : Bool). t && b.internal) w.if-link.true ∙ (sym w.is_internal.ensures ∙ w.if-is_internal.false)
       | else-link-via-else-link w ↦ ap (λ (t : Bool). t && b.internal) w.if-link.false
     ] in
-    too_long k b out (ap (is_held_back k.sender.process) (sym c.prefix.ensures) ∙ sym c.is_held_back.ensures ∙ c.if-is_held_back.false) may c.in_ok-out.ensures.out
+    too_long k b out (sym c.is_held_back.ensures ∙ c.if-is_held_back.false) may c.in_ok-out.ensures.out
     (subst (λ (n : ℕ). PATH_LIMIT < n) (c.sent_length.ensures ∙ sym (path_length k b out)) c.if-sent_length-gt-PATH_LIMIT.true)
 
 pub returns-clause-message : goal.returns-clause-message
 returns-clause-message c =
     let k = link_view c.args.link.now in
-    let b = c.args.best.now in
+    let b = route_view c.args.best in
     let out = c.in_ok-out.out in
     let may : (k.session.internal && b.internal) ≡ false = elim c.else-link.branch [
       | else-link-via-then-link+else-is_internal w ↦ ap (λ (t : Bool). t && b.internal) w.if-link.true ∙ (sym w.is_internal.ensures ∙ w.if-is_internal.false)
       | else-link-via-else-link w ↦ ap (λ (t : Bool). t && b.internal) w.if-link.false
     ] in
-    sent_is k b out (ap (is_held_back k.sender.process) (sym c.prefix.ensures) ∙ sym c.is_held_back.ensures ∙ c.if-is_held_back.false) may c.in_ok-out.ensures.out
+    sent_is k b out (sym c.is_held_back.ensures ∙ c.if-is_held_back.false) may c.in_ok-out.ensures.out
     (let short : length (message_by k b out).route.path ≤ PATH_LIMIT = omega (arith, path_length k b out, c.sent_length.ensures, c.if-sent_length-gt-PATH_LIMIT.false) in short)
 
 pub returns-clause-short : goal.returns-clause-short
 returns-clause-short c =
-    omega (arith, path_length (link_view c.args.link.now) c.args.best.now c.in_ok-out.out, c.sent_length.ensures, c.if-sent_length-gt-PATH_LIMIT.false)
+    omega (arith, path_length (link_view c.args.link.now) (route_view c.args.best) c.in_ok-out.out, c.sent_length.ensures, c.if-sent_length-gt-PATH_LIMIT.false)
 
 -- what isn't sent is few too
 few_sent : (send : Bool) (left : List ℕ) → length left ≤ COMMUNITY_LIMIT → length (cond send left []) ≤ COMMUNITY_LIMIT
@@ -100,6 +101,6 @@ few_sent false left few = omega arith
 pub returns-clause-few : goal.returns-clause-few
 returns-clause-few c =
     let k = link_view c.args.link.now in
-    let b = c.args.best.now in
+    let b = route_view c.args.best in
     let out = c.in_ok-out.out in
     subst (λ (l : List ℕ). length l ≤ COMMUNITY_LIMIT) (sym (message_is k b out).communities) (few_sent k.sender.statement.send_community (communities_by out b.route.communities) c.in_ok-out.ensures.few)

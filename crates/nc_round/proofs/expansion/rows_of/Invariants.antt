@@ -1,13 +1,15 @@
-use Rattle.std.proofs.Common.{◌≡◌, ◌++◌, ◌<◌, ℕ, drop, get_or, map}
+use Rattle.std.proofs.Common.{◌≡◌, ◌++◌, ◌+◌, ◌<◌, ℕ, length, map, drop, get_or}
+use Rattle.std.specs.Vec.Iter.{into_iter_items, into_iter_len}
 use Rattle.nc_types.specs.Cidr.{Cidr, IsCidr}
+use Rattle.nc_tables.specs.LocRibs.{rows_by}
 use Rattle.nc_tables.specs.Rounds.{bgp_row_view}
-use Rattle.nc_round.proofs.Expanding.{rows_from}
 use Rattle.nc_round.proofs.expansion.rows_of.Given as goal
 
 abbrev pub invariant-prefixes : goal.invariant-prefixes
 invariant-prefixes l = record {
+  -- a choice for each prefix that is left
+  count : l.prefix-index + into_iter_len l.left ≡ length l.prefixes;
   -- the rows so far, and those of the prefixes that are left, are all
-  rows : map bgp_row_view l.rows.items ++ rows_from l.inputs.network.now l.likeness l.ribs.rows l.router.0 (drop l.number l.likeness.all.items) (drop l.number l.likeness.places.items)
-      ≡ rows_from l.inputs.network.now l.likeness l.ribs.rows l.router.0 l.likeness.all.items l.likeness.places.items;
-  valid : (k : ℕ) (d : Cidr) → k < l.number → IsCidr (get_or l.likeness.all.items k d).base (get_or l.likeness.all.items k d).len;
+  rows : map bgp_row_view l.rows.items ++ rows_by (drop l.prefix-index l.prefixes) (into_iter_items l.left) ≡ rows_by l.prefixes l.fn.choices.items;
+  valid : (k : ℕ) (d : Cidr) → k < l.prefix-index → IsCidr (get_or l.prefixes k d).base (get_or l.prefixes k d).len;
 }

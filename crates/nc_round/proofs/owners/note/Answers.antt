@@ -1,11 +1,11 @@
 use Rattle.std.proofs.Common.{◌≡◌, ◌<◌, ◌++◌, ◌∷◌, [], Some, get_or, set, slice_get, sym, ap, subst, ◌∙◌}
 use Rattle.std.proofs.lemmas.Option.{slice_get-get_or}
 use Rattle.nc_types.specs.Cidr.{Cidr}
-use Rattle.nc_tables.proofs.Choices.{not_among}
+use Rattle.nc_tables.proofs.Choices.{not_among, searchable}
 use Rattle.nc_tables.proofs.InOrder.{equal_is}
 use Rattle.nc_round.specs.declared.owners.Owner.{Owner}
 use Rattle.nc_round.specs.Likeness.{AreOwners}
-use Rattle.nc_round.proofs.Owned.{noted, unnoted, searchable}
+use Rattle.nc_round.proofs.Owned.{noted, unnoted}
 use Rattle.nc_round.proofs.owners.note.Goals as goal
 
 pub returns-in-Ok-clause-owners : goal.returns-in-Ok-clause-owners

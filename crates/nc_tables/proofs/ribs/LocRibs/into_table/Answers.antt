@@ -1,38 +1,32 @@
-use Rattle.std.proofs.Common.{List, Vec, Global, All, map, sym, ap, subst, ◌∙◌}
-use Rattle.std.specs.Vec.Iter.{into_iter_items}
-use Rattle.std.proofs.lemmas.List.{map_push}
-use Rattle.std.proofs.lemmas.List.Elements.{All-head, All-tail, All-push}
-use Rattle.nc_types.specs.Cidr.{Cidr}
-use Rattle.nc_tables.specs.declared.bgp.BgpRow.{BgpRow}
-use Rattle.nc_tables.specs.declared.bgp.Chosen.{Chosen}
-use Rattle.nc_tables.specs.LocRibs.{rows_by, AreChoices}
-use Rattle.nc_tables.specs.Rounds.{BgpRowView, bgp_row_view, AreBgpRows}
-use Rattle.nc_tables.proofs.Choices.{routers_more}
+use Rattle.std.proofs.Common.{◌≡◌, ◌<◌, [], All, List, length, get_or, replicate, refl, ap, ◌∙◌, arith}
+use Rattle.std.proofs.lemmas.Option.{get_or_from_slice_get}
+use Rattle.nc_tables.specs.LocRibs.{LocRibsView}
+use Rattle.nc_tables.specs.Rounds.{BgpRowView}
+use Rattle.nc_tables.proofs.Tables.{all_kept, none_own, tables_themselves}
 use Rattle.nc_tables.proofs.ribs.LocRibs.into_table.Goals as goal
+use Rattle.nc_tables.proofs.ribs.LocRibs.into_table.Goals.{In_ok-routers}
 
-abbrev Table : Type 0
-Table = Vec (List Chosen) Global
+-- each place is that of the prefix itself
+within : (c : In_ok-routers) → All (λ place. place < length c.self.inside.prefixes.items) c.in_ok-places.places.items
+within c k d lt =
+    let places = c.in_ok-places.places.items in
+    let less : k < length c.self.inside.prefixes.items = omega (arith, c.in_ok-places.ensures.count) in
+    let is : get_or places k d ≡ k = get_or_from_slice_get places k k d (c.in_ok-places.ensures.each k (omega (arith, c.in_ok-places.ensures.count))) in
+    omega (arith, is, less)
 
-pub rows_of-requires-clause-choices : goal.rows_of-requires-clause-choices
-rows_of-requires-clause-choices c =
-    let ps = c.self.inside.prefixes.items in
-    let rest = into_iter_items c.next.new.self in
-    subst (λ (l : List Cidr). AreChoices l c.in-Some.choices.items) (sym c.deref.ensures.value)
-    (All-head (λ (t : Table). AreChoices ps t.items) c.in-Some.choices rest (subst (All (λ (t : Table). AreChoices ps t.items)) c.in-Some.ensures.items c.routers.invariant.left))
+pub of-requires-clause-kept : goal.of-requires-clause-kept
+of-requires-clause-kept c =
+    let inside = c.self.inside in
+    let ps = inside.prefixes.items in
+    all_kept c.in_ok-places.places.items (length ps) (within c) c.in_ok-routers.routers.items inside.routers.items c.in_ok-own.own.items ps refl c.in_ok-routers.ensures.standing c.in_ok-routers.ensures.own c.self.invariant.1
+    (none_own c.in_ok-own.own.items (length inside.routers.items) (c.in_ok-own.ensures ∙ ap (λ n. replicate {A = List BgpRowView} n []) (let count : c.len-2.result ≡ length inside.routers.items = omega (arith, c.len-2.ensures) in count)))
 
-pub routers-preserved : goal.routers-preserved
-routers-preserved c =
-    let ps = c.self.inside.prefixes.items in
-    let x = c.in-Some.choices in
-    let rest = into_iter_items c.next.new.self in
-    let made = c.routers.rows.items in
-    let rows = c.in_ok-rows_of.field-0 in
-    let view : Vec BgpRow Global → List BgpRowView = λ (r : Vec BgpRow Global). map bgp_row_view r.items in
-    record {
-      ordered = c.routers.invariant.ordered;
-      rows = routers_more ps (map view made) (map view c.push.new.self.items) c.args.self.rows (into_iter_items c.routers.left) rest x (view rows) c.in-Some.ensures.items
-          (ap (map view) c.in_ok-push.ensures.items ∙ map_push view made rows)
-          (c.in_ok-rows_of.ensures.rows ∙ ap (λ (l : List Cidr). rows_by l x.items) c.deref.ensures.value) c.routers.invariant.rows;
-      valid = subst (All (λ (r : Vec BgpRow Global). AreBgpRows (view r))) (sym c.in_ok-push.ensures.items) (All-push (λ (r : Vec BgpRow Global). AreBgpRows (view r)) made rows c.routers.invariant.valid c.in_ok-rows_of.ensures.valid);
-      left = All-tail (λ (t : Table). AreChoices ps t.items) x rest (subst (All (λ (t : Table). AreChoices ps t.items)) c.in-Some.ensures.items c.routers.invariant.left);
-    }
+pub returns : goal.returns
+returns c =
+    let inside = c.self.inside in
+    let ps = inside.prefixes.items in
+    let count : length c.in_ok-places.places.items ≡ length ps = omega (arith, c.in_ok-places.ensures.count) in
+    c.of.ensures
+    ∙ tables_themselves ps c.in_ok-places.places.items count (λ k lt. c.in_ok-places.ensures.each k (omega arith)) c.in_ok-routers.routers.items inside.routers.items c.in_ok-routers.ensures.standing
+    (c.in_ok-routers.ensures.own ∙ c.in_ok-own.ensures ∙ ap (λ n. replicate {A = List BgpRowView} n []) (let count : c.len-2.result ≡ length inside.routers.items = omega (arith, c.len-2.ensures) in count)) c.self.invariant.1
+    ∙ ap (λ (v : LocRibsView). v.rows) c.self.view_is
