@@ -30,9 +30,10 @@ pub fn rules_make_a_flow()
 
 /// The rules of a network: its state and the tables of its maps, both of which they own as settling made them, and
 /// how many facts were asked for. Nothing gives the state back, so whatever is inferred of it is counted here. They
-/// keep the ways of packets for one address, that of the test or the fact of such a way that was asked for last, so
-/// too the ways that let one packet pass, and over how few hops each neighbor address is reached of which a fact was
-/// inferred; at first there are none.
+/// keep the ways of packets for the address of the test or the fact of such a way that was asked for last, and for
+/// up to 512 others that were asked for before, which have 65,536 ways at most; the ways that let one packet pass, that
+/// of the last such test or fact; and over how few hops each neighbor address is reached of which a fact was inferred.
+/// At first there are none.
 #[derive(Drop)]
 pub struct Rules {
     alloc: Global,
