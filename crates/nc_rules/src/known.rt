@@ -132,10 +132,11 @@ impl Known {
 
     // How many ways there are behind a look for those from a router, if that can't find more.
     fn counted_past(&self, router: RouterId) -> Option<usize> {
+        let count = self.own_count?;
         if self.traced.ways(router).is_empty() {
             return None;
         }
-        self.own_count
+        Some(count)
     }
 
     // Turns to an address: the ways for the one before are put beside.
