@@ -3,6 +3,7 @@ pub mod Bare
 pub mod Picking
 pub mod Distinct
 pub mod Processes
+pub mod PrefixBits
 pub mod Beside
 pub mod Outranked
 pub mod Preferred

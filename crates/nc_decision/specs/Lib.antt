@@ -3,6 +3,7 @@ pub mod Bare
 pub mod Beginning
 pub mod Feasible
 pub mod BestPath
+pub mod PrefixBits
 pub mod Peerings
 pub mod Compared
 pub mod Draft

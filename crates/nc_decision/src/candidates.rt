@@ -21,14 +21,18 @@ use nc_tables::{BgpFrom, LocRibs, Numbered};
 use nc_types::{Neighbor, Prefix, Process, RouterId};
 use std::alloc::{AllocError, Global};
 
-// The place of the network of a prefix, by the table of the router.
+// The place of the network of a prefix, by the table of the router. That isn't asked where the sessions tell that there
+// is none.
 fn network_of(
     inputs: &RoutingInputs<'_>,
+    peerings: &Peerings<'_>,
     router: RouterId,
     process: &Process,
     prefix: Prefix,
 ) -> Option<usize>
     requires inputs { AreRoutingInputs inputs.now }
+    requires peerings { ArePeerings inputs.now.network.now inputs.now.base.now
+        inputs.now.sessions.now router.0 peerings.now }
     requires router { router.0 < length inputs.now.network.now }
     requires process { process_of inputs.now.network.now router.0
         ≡ Some (process_view process.now) }
@@ -36,17 +40,23 @@ fn network_of(
         ≡ position (λ n. same_prefix n.prefix prefix) process.now.networks.items }
     ensures within { IfSome result (λ place. place < length process.now.networks.items) }
 {
+    if !peerings.may_have_network(prefix) {
+        return None;
+    }
     inputs.policies.network_of(inputs.network, router, prefix)
 }
 
-// The place of the aggregate of a prefix, by the table of the router.
+// The place of the aggregate of a prefix, by the table of the router. That isn't asked where the router has none.
 fn aggregate_of(
     inputs: &RoutingInputs<'_>,
+    peerings: &Peerings<'_>,
     router: RouterId,
     process: &Process,
     prefix: Prefix,
 ) -> Option<usize>
     requires inputs { AreRoutingInputs inputs.now }
+    requires peerings { ArePeerings inputs.now.network.now inputs.now.base.now
+        inputs.now.sessions.now router.0 peerings.now }
     requires router { router.0 < length inputs.now.network.now }
     requires process { process_of inputs.now.network.now router.0
         ≡ Some (process_view process.now) }
@@ -54,6 +64,9 @@ fn aggregate_of(
         ≡ position (λ a. same_prefix a.prefix prefix) process.now.aggregates.items }
     ensures within { IfSome result (λ place. place < length process.now.aggregates.items) }
 {
+    if peerings.aggregate_statements().is_empty() {
+        return None;
+    }
     inputs.policies.aggregate_of(inputs.network, router, prefix)
 }
 
@@ -73,11 +86,14 @@ fn add_begun(
 fn add_network(
     candidates: &mut Vec<FeasibleRoute<'_>>,
     inputs: &RoutingInputs<'_>,
+    peerings: &Peerings<'_>,
     router: RouterId,
     process: &Process,
     prefix: Prefix,
 ) -> Result<(), AllocError>
     requires inputs { AreRoutingInputs inputs.now }
+    requires peerings { ArePeerings inputs.now.network.now inputs.now.base.now
+        inputs.now.sessions.now router.0 peerings.now }
     requires router { router.0 < length inputs.now.network.now }
     requires process { process_of inputs.now.network.now router.0
         ≡ Some (process_view process.now) }
@@ -87,7 +103,7 @@ fn add_network(
         ++ networks_of (has_base_row inputs.now.base.now router.0 prefix) prefix
         process.now.networks.items) }
 {
-    let Some(place) = network_of(inputs, router, process, prefix) else {
+    let Some(place) = network_of(inputs, peerings, router, process, prefix) else {
         return Ok(());
     };
     if !has_row(inputs.base, router, prefix) {
@@ -101,12 +117,15 @@ fn add_network(
 fn add_aggregate(
     candidates: &mut Vec<FeasibleRoute<'_>>,
     inputs: &RoutingInputs<'_>,
+    peerings: &Peerings<'_>,
     ribs: &LocRibs,
     router: RouterId,
     process: &Process,
     prefix: Prefix,
 ) -> Result<(), AllocError>
     requires inputs { AreRoutingInputs inputs.now }
+    requires peerings { ArePeerings inputs.now.network.now inputs.now.base.now
+        inputs.now.sessions.now router.0 peerings.now }
     requires ribs { length ribs.now.rows ≡ length inputs.now.network.now }
     requires router { router.0 < length inputs.now.network.now }
     requires process { process_of inputs.now.network.now router.0
@@ -117,7 +136,7 @@ fn add_aggregate(
         ++ aggregates_of (has_longer (slice_index_or ribs.now.rows router.0 []) prefix) prefix
         process.now.aggregates.items) }
 {
-    let Some(place) = aggregate_of(inputs, router, process, prefix) else {
+    let Some(place) = aggregate_of(inputs, peerings, router, process, prefix) else {
         return Ok(());
     };
     if !ribs.has_longer(router, prefix) {
@@ -214,12 +233,15 @@ fn add_entries<'a>(
 pub(crate) fn begun_routes<'a>(
     alloc: Global,
     inputs: &RoutingInputs<'a>,
+    peerings: &Peerings<'_>,
     ribs: &LocRibs,
     router: RouterId,
     process: &Process,
     prefix: Prefix,
 ) -> Result<Vec<FeasibleRoute<'a>>, AllocError>
     requires inputs { AreRoutingInputs inputs.now }
+    requires peerings { ArePeerings inputs.now.network.now inputs.now.base.now
+        inputs.now.sessions.now router.0 peerings.now }
     requires ribs { length ribs.now.rows ≡ length inputs.now.network.now }
     requires router { router.0 < length inputs.now.network.now }
     requires few { length process.now.neighbors.items + (length process.now.networks.items
@@ -234,8 +256,8 @@ pub(crate) fn begun_routes<'a>(
         process.now.aggregates.items) }
 {
     let mut begun = Vec::new(alloc);
-    add_network(&mut begun, inputs, router, process, prefix)?;
-    add_aggregate(&mut begun, inputs, ribs, router, process, prefix)?;
+    add_network(&mut begun, inputs, peerings, router, process, prefix)?;
+    add_aggregate(&mut begun, inputs, peerings, ribs, router, process, prefix)?;
     Ok(begun)
 }
 
@@ -267,8 +289,16 @@ pub(crate) fn candidates<'a>(
 {
     let neighbors = &process.neighbors;
     let mut feasible = Vec::with_capacity(alloc, neighbors.len())?;
-    add_network(&mut feasible, inputs, router, process, of.prefix)?;
-    add_aggregate(&mut feasible, inputs, ribs, router, process, of.prefix)?;
+    add_network(&mut feasible, inputs, peerings, router, process, of.prefix)?;
+    add_aggregate(
+        &mut feasible,
+        inputs,
+        peerings,
+        ribs,
+        router,
+        process,
+        of.prefix,
+    )?;
     add_entries(&mut feasible, inputs, peerings, ribs, router, neighbors, of)?;
     Ok(feasible)
 }

@@ -86,7 +86,7 @@ fn best_alone<'a>(
     ensures own { IfOk result (λ chosen. All (λ x. x.route.prefix ≡ of.now.prefix) chosen) }
     ensures few { IfOk result (λ chosen. length chosen ≤ MULTIPATH_LIMIT) }
 {
-    let begun = begun_routes(alloc, inputs, ribs, router, process, of.prefix)?;
+    let begun = begun_routes(alloc, inputs, peerings, ribs, router, process, of.prefix)?;
     let mut best = best_learnt(inputs, peerings, ribs, router, process, of);
     prefer_each(&mut best, begun);
     let chosen = alone(alloc, recent, &best)?;

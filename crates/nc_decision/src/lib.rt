@@ -25,6 +25,7 @@ mod compared;
 mod feasible;
 mod learnt;
 mod peerings;
+mod prefix_bits;
 mod rows;
 
 pub use best_path::add_counting;

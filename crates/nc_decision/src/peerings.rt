@@ -15,12 +15,14 @@ ghost use Rattle.nc_message.specs.Inputs.{AreRoutingInputs, IsBetween};
 ghost use Rattle.nc_message.specs.Maps.{IsMapIn};
 ghost use Rattle.nc_decision.specs.Bare.{IsBare, IsPlain};
 ghost use Rattle.nc_decision.specs.Peerings.{AreNetworkPeerings, ArePeerings, ArePeeringsAt, IsOfProcess, IsPeeringAt};
+ghost use Rattle.nc_decision.specs.PrefixBits.{has_bit};
 ghost use Rattle.nc_decision.specs.SessionMaps.{highest_from_outside, AreMapsOf};
 
+use crate::prefix_bits::PrefixBits;
 use nc_message::{Adjacency, RoutingInputs, adjacency_of, map_in, map_out};
 use nc_policy::{MapPlace, Policies};
 use nc_sessions::{Link, statements};
-use nc_types::{Addr, AggregateStatement, DEFAULT_PREFERENCE, Network, Process, RouterId};
+use nc_types::{Addr, AggregateStatement, DEFAULT_PREFERENCE, Network, Prefix, Process, RouterId};
 use std::alloc::{AllocError, Global};
 use std::marker::Model;
 
@@ -185,13 +187,14 @@ pub(crate) fn peering_of<'a>(
 
 /// The sessions over which one router learns: of each of its neighbor statements what is known of its
 /// session, if it has one. Beside them stands what is asked of the router itself for each of its rows, so
-/// that its configuration isn't looked at.
+/// that its configuration isn't looked at, and of most prefixes that it has no network of them.
 #[derive(Drop)]
 pub struct Peerings<'a> {
     // whether the router's process uses one route of a prefix alone
     is_single: bool,
     process: Option<&'a Process>,
     aggregates: &'a [AggregateStatement],
+    networks: PrefixBits,
     sessions: Vec<Option<Peering<'a>>>,
 }
 
@@ -207,6 +210,7 @@ impl<'a> Model for Peerings<'a> {
       process = option_map (λ q. process_view q.now) p.process;
       is_single = p.is_single;
       aggregates = p.aggregates.now;
+      networks = p.networks;
     } };
 }
 
@@ -267,12 +271,14 @@ impl<'a> Peerings<'a> {
                 is_single: own.max_paths == 1,
                 process,
                 aggregates: &own.aggregates,
+                networks: PrefixBits::of(&own.networks),
                 sessions,
             },
             None => Peerings {
                 is_single: false,
                 process,
                 aggregates: &[],
+                networks: PrefixBits::of(&[]),
                 sessions,
             },
         }
@@ -322,6 +328,13 @@ impl<'a> Peerings<'a> {
             → result.now ≡ option_map_or (λ p. p.aggregates) (process_of routers router) [] }
     {
         self.aggregates
+    }
+
+    /// Whether the router may have a network of a prefix; else it has none.
+    pub(crate) fn may_have_network(&self, prefix: Prefix) -> bool
+        ensures { result ≡ has_bit self.now.networks prefix }
+    {
+        self.networks.has(prefix)
     }
 
     /// The session of the neighbor statement at a place, if it has one.

@@ -14,6 +14,7 @@ pub mod InOrder
 pub mod TableEdits
 pub mod Choices
 pub mod Spread
+mod OwnRows
 mod Tables
 pub mod RowCount
 pub mod Ordered

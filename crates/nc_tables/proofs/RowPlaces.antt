@@ -1,5 +1,5 @@
 -- The place of a prefix among the rows of a router, which stand in order of prefix.
-use Rattle.std.proofs.Common.{◌≡◌, ℕ, ◌<◌, ◌≤◌, ◌⊎◌, true, false, length, List, map, get_or, refl, ap, subst, arith, inl, inr}
+use Rattle.std.proofs.Common.{◌≡◌, ℕ, zero, suc, ◌<◌, ◌≤◌, ◌⊎◌, true, false, length, List, map, get_or, refl, ap, subst, arith, inl, inr}
 use Rattle.std.specs.List.Sorted.{IsPartitionPoint}
 use Rattle.std.specs.Ordering.{is_lt}
 use Rattle.std.specs.declared.cmp.Ordering.{Ordering}
@@ -11,7 +11,8 @@ use Rattle.nc_tables.specs.declared.bgp.BgpRow.{BgpRow}
 use Rattle.nc_tables.specs.Base.{prefix_cmp}
 use Rattle.nc_tables.specs.Rounds.{BgpRowView, bgp_row_view, AreBgpRows}
 use Rattle.nc_tables.proofs.BgpRows.{view_at}
-use Rattle.nc_tables.proofs.InOrder.{equal_is}
+use Rattle.nc_tables.proofs.InOrder.{back, equal_is}
+use Rattle.nc_tables.proofs.SideBySide.{prefix_total}
 
 less_is : (o : Ordering) → is_lt o ≡ true → o ≡ Less
 less_is Less e = refl
@@ -47,3 +48,13 @@ module _ (rows : List BgpRow) (are : AreBgpRows (map bgp_row_view rows)) where
       on k d lo hi (inr here) equal =
           let same : k ≡ place = omega arith in
           other d (omega arith) (subst (λ (i : ℕ). prefix_cmp (get_or rows i d).prefix p ≡ Equal) same equal)
+
+  -- where the first row is above a prefix, all are
+  pub first_above : (p : Cidr) → ((d : BgpRow) → prefix_cmp (get_or rows zero d).prefix p ≡ Greater) → IsPartitionPoint (λ (row : BgpRow). prefix_cmp row.prefix p ≡ Less) (λ (row : BgpRow). prefix_cmp row.prefix p ≡ Greater) rows zero
+  first_above p first = ((λ k d lo hi. absurd (omega arith)), (λ k d lo hi. on k d hi))
+    where
+      on : (k : ℕ) (d : BgpRow) → k < length rows → prefix_cmp (get_or rows k d).prefix p ≡ Greater
+      on zero d hi = first d
+      on (suc k) d hi =
+          let low : prefix_cmp p (get_or rows zero d).prefix ≡ Less = back (get_or rows zero d).prefix p Greater (first d) in
+          back p (get_or rows (suc k) d).prefix Less (prefix_total.trans p (get_or rows zero d).prefix (get_or rows (suc k) d).prefix low (rises 0 (suc k) d (omega arith) hi))

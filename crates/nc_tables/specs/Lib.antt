@@ -12,6 +12,7 @@ pub mod Rounds
 pub mod LocRibs
 pub mod Spread
 pub mod SpreadView
+pub mod OwnRows
 pub mod RibEntryView
 pub mod LearntView
 pub mod HeldEntries

@@ -1,13 +1,17 @@
 //! The rows of a router's BGP table, one after another.
 
-ghost use Rattle.std.specs.Prelude.{◌≡◌, ◌+◌, ◌<◌, ◌≤◌, ◌++◌, ◌∷◌, [], All, IfErr, IfNone, IfOk, IfSome, Some, drop, filter, length, map, slice_get, slice_index_or};
-ghost use Rattle.std.specs.List.{cons_option, HoldsAt};
+ghost use Rattle.std.specs.Prelude.{◌≡◌, ◌+◌, ◌<◌, ◌≤◌, ◌++◌, ◌∷◌, [], All, IfErr, List, IfNone, IfOk, IfSome, Some, drop, filter, length, map, slice_get, slice_index_or, take, true};
+ghost use Rattle.std.specs.List.{cons_option, find, HoldsAt};
 ghost use Rattle.std.specs.List.Sorted.{IsPartitionPoint, IsSearchInRange};
 ghost use Rattle.std.specs.Option.{option_map, option_map_or};
+ghost use Rattle.std.specs.Ordering.{is_le};
 ghost use Rattle.std.specs.declared.cmp.Ordering.TheVariants.{Less, Equal, Greater};
 ghost use Rattle.nc_types.specs.declared.TheConstants.{MULTIPATH_LIMIT};
-ghost use Rattle.nc_tables.specs.Base.{prefix_cmp};
+ghost use Rattle.nc_types.specs.Cidr.{Cidr};
+ghost use Rattle.nc_tables.specs.Base.{prefix_cmp, same_prefix};
 ghost use Rattle.nc_tables.specs.Distances.{learnt_distance};
+ghost use Rattle.nc_tables.specs.LocRibs.{row_before};
+ghost use Rattle.nc_tables.specs.OwnRows.{HaveSameRows};
 ghost use Rattle.nc_tables.specs.Rounds.{bgp_row_view, chosen_in, is_longer_in, AreBgpRows};
 ghost use Rattle.nc_tables.specs.Spread.{chosen_or};
 ghost use Rattle.nc_tables.specs.SpreadView.{choices_in, route_view, row_view, rows_behind, rows_in, rows_upto, IsSpread};
@@ -17,6 +21,7 @@ use crate::inside::is_longer_in;
 use crate::rib_entries::RibEntries;
 use crate::rib_route::RibRoute;
 use nc_types::Prefix;
+use std::cmp::Ordering;
 use std::marker::Model;
 
 /// The candidates of a prefix that were chosen, best first; there is one at least.
@@ -54,8 +59,8 @@ impl<'a> ChosenRow<'a> {
     }
 }
 
-// Some prefixes of a router in order, each with the place of the one that stands for it, the router's own rows, and
-// what it chooses of those that stand for others.
+// Some prefixes of a router in order, each with the place of the one that stands for it, the router's own rows, those
+// of prefixes before mostly left out, and what it chooses of those that stand for others.
 #[derive(Clone, Copy)]
 pub(crate) struct Spread<'a> {
     pub(crate) prefixes: &'a [Prefix],
@@ -83,6 +88,23 @@ fn place_of(rows: &[BgpRow], prefix: Prefix) -> Result<usize, usize>
     Err(place)
 }
 
+// The router's own row of a prefix, if it has one. Nothing is searched where the first is the row, or is above it.
+fn own_row<'a>(own: &'a [BgpRow], prefix: Prefix) -> Option<&'a BgpRow>
+    requires { AreBgpRows (map bgp_row_view own.now) }
+    ensures { option_map (λ row. bgp_row_view row.now) result
+        ≡ find (λ row. same_prefix row.prefix prefix) (map bgp_row_view own.now) }
+{
+    let first = own.first()?;
+    match first.prefix.cmp(&prefix) {
+        Ordering::Greater => None,
+        Ordering::Equal => Some(first),
+        Ordering::Less => match place_of(own, prefix) {
+            Ok(place) => Some(&own[place]),
+            Err(_) => None,
+        },
+    }
+}
+
 // What is chosen of a prefix, for which the one at a place stands: what is in the router's own row, if it has one.
 fn held_of<'a>(
     own: &'a [BgpRow],
@@ -94,9 +116,9 @@ fn held_of<'a>(
     requires place { place < length standing.now }
     ensures { result.now ≡ chosen_or (map bgp_row_view own.now) prefix (slice_index_or standing.now place []) }
 {
-    match place_of(own, prefix) {
-        Ok(at) => &own[at].chosen,
-        Err(_) => &standing[place],
+    match own_row(own, prefix) {
+        Some(row) => &row.chosen,
+        None => &standing[place],
     }
 }
 
@@ -120,6 +142,46 @@ fn row_at<'a>(spread: Spread<'a>, number: usize) -> Option<ChosenRow<'a>>
     Some(ChosenRow { prefix, held })
 }
 
+// How many of a router's own rows stand up to a prefix. Nothing is searched where the first is its row, or is above it.
+fn count_upto(own: &[BgpRow], prefix: Prefix) -> usize
+    requires { AreBgpRows (map bgp_row_view own.now) }
+    ensures bound { result ≤ length own.now }
+    ensures upto { All (λ row. is_le (prefix_cmp row.prefix prefix) ≡ true) (take result own.now) }
+{
+    let Some(first) = own.first() else {
+        return 0;
+    };
+    match first.prefix.cmp(&prefix) {
+        Ordering::Greater => 0,
+        Ordering::Equal => 1,
+        Ordering::Less => own.partition_point(|row| row.prefix <= prefix),
+    }
+}
+
+// The router's own rows without those of a prefix and of ones before it.
+fn own_behind(own: &[BgpRow], prefix: Prefix) -> &[BgpRow]
+    requires { AreBgpRows (map bgp_row_view own.now) }
+    ensures valid { AreBgpRows (map bgp_row_view result.now) }
+    ensures same { (prefixes : List Cidr) → All (λ p. prefix_cmp prefix p ≡ Less) prefixes
+        → HaveSameRows prefixes (map bgp_row_view result.now) (map bgp_row_view own.entry.now) }
+{
+    &own[count_upto(own, prefix)..]
+}
+
+// The router's own rows without those of so many prefixes, and of ones before them.
+fn left_behind<'a>(spread: Spread<'a>, count: usize) -> &'a [BgpRow]
+    requires spread { IsSpread spread }
+    requires count { count ≤ length spread.prefixes.now }
+    ensures valid { AreBgpRows (map bgp_row_view result.now) }
+    ensures same { HaveSameRows (drop count spread.entry.prefixes.now)
+        (map bgp_row_view result.now) (map bgp_row_view spread.entry.own.now) }
+{
+    if count == 0 {
+        return spread.own;
+    }
+    own_behind(spread.own, spread.prefixes[count - 1])
+}
+
 // What is behind so many prefixes.
 fn behind<'a>(spread: Spread<'a>, count: usize) -> Spread<'a>
     requires spread { IsSpread spread }
@@ -128,13 +190,14 @@ fn behind<'a>(spread: Spread<'a>, count: usize) -> Spread<'a>
     ensures spread { IsSpread result }
     ensures prefixes { result.prefixes.now ≡ drop count spread.entry.prefixes.now }
     ensures places { result.places.now ≡ drop count spread.entry.places.now }
-    ensures own { result.own ≡ spread.entry.own }
+    ensures own { HaveSameRows result.prefixes.now
+        (map bgp_row_view result.own.now) (map bgp_row_view spread.entry.own.now) }
     ensures standing { result.standing ≡ spread.entry.standing }
 {
     Spread {
         prefixes: &spread.prefixes[count..],
         places: &spread.places[count..],
-        own: spread.own,
+        own: left_behind(spread, count),
         standing: spread.standing,
     }
 }
@@ -169,19 +232,23 @@ pub(crate) fn row_of<'a>(spread: Spread<'a>, prefix: Prefix) -> Option<ChosenRow
     }
 }
 
-// The first row, with what is behind it.
-fn first_row<'a>(spread: Spread<'a>) -> Option<(ChosenRow<'a>, Spread<'a>)>
-    requires { IsSpread spread }
-    ensures some { IfSome result (λ first. rows_in spread.entry ≡ row_view first.0 ∷ rows_in first.1) }
-    ensures spread { IfSome result (λ first. IsSpread first.1) }
-    ensures none { IfNone result (rows_in spread.entry ≡ []) }
+// Passes the first prefix, and returns what is chosen of it, which may be nothing.
+fn pass_first<'a>(spread: &mut Spread<'a>) -> Option<ChosenRow<'a>>
+    requires { IsSpread spread.old }
+    ensures some { IfSome result (λ row. rows_in spread.old
+        ≡ row_before row.prefix.now (row_view row).chosen (rows_in spread.new)) }
+    ensures none { IfNone result (rows_in spread.old ≡ []) }
+    ensures spread { IsSpread spread.new }
+    ensures left { IfSome result
+        (λ row. length spread.new.prefixes.now + 1 ≡ length spread.old.prefixes.now) }
 {
-    'prefixes: for number in 0..spread.prefixes.len() {
-        if let Some(row) = row_at(spread, number) {
-            return Some((row, behind(spread, number + 1)));
-        }
-    }
-    None
+    let (prefix, prefixes) = spread.prefixes.split_first()?;
+    let (place, places) = spread.places.split_first()?;
+    let held = held_of(spread.own, spread.standing, *prefix, *place);
+    spread.own = own_behind(spread.own, *prefix);
+    spread.prefixes = prefixes;
+    spread.places = places;
+    Some(ChosenRow { prefix, held })
 }
 
 // The prefixes below one, the row of that one, if it has one, and the prefixes above it.
@@ -247,13 +314,12 @@ impl<'a> RouterRows<'a> {
         ensures some { IfSome result (λ row. self.old ≡ row_view row ∷ self.new) }
         ensures none { IfNone result (self.old ≡ []) }
     {
-        match first_row(self.spread) {
-            Some((row, left)) => {
-                self.spread = left;
-                Some(row)
+        'prefixes: while let Some(row) = pass_first(&mut self.spread) {
+            if !row.held.is_empty() {
+                return Some(row);
             }
-            None => None,
         }
+        None
     }
 
     /// Takes the rows up to that of a prefix: those of lower prefixes, and its own if it has one. Takes one binary

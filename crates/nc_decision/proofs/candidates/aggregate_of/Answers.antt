@@ -1,6 +1,7 @@
-use Rattle.std.proofs.Common.{[], Option, ap, ◌∙◌}
+use Rattle.std.proofs.Common.{◌≡◌, [], Option, length, eqb-true, sym, ap, ◌∙◌}
 use Rattle.std.specs.Prelude.{position}
 use Rattle.std.specs.Option.{option_map_or}
+use Rattle.std.proofs.lemmas.List.{nil_from_length}
 use Rattle.nc_types.specs.Config.{ProcessView, process_view}
 use Rattle.nc_tables.specs.Base.{same_prefix}
 use Rattle.nc_message.proofs.Lists.{found_within}
@@ -17,3 +18,11 @@ returns-clause-place c =
 pub returns-clause-within : goal.returns-clause-within
 returns-clause-within c =
     found_within (λ s. same_prefix s.prefix c.args.prefix) c.args.process.now.aggregates.items c.aggregate_of.result (returns-clause-place c)
+
+pub returns-then-is_empty-clause-place : goal.returns-then-is_empty-clause-place
+returns-then-is_empty-clause-place c =
+    let i = c.args.inputs.now in
+    let rows = c.aggregate_statements.result.now in
+    let read = c.aggregate_statements.ensures i.network.now i.base.now i.sessions.now c.args.router.0 c.requires.peerings ∙ ap (λ (o : Option ProcessView). option_map_or (λ (p : ProcessView). p.aggregates) o []) c.requires.process in
+    let none : rows ≡ [] = nil_from_length rows (eqb-true (length rows) 0 (sym c.is_empty.ensures ∙ c.if-is_empty.true)) in
+    sym (ap (position (λ a. same_prefix a.prefix c.args.prefix)) (sym read ∙ none))

@@ -1,15 +1,17 @@
 use Rattle.std.proofs.Common.{◌≡◌, ◌≤◌, ◌+◌, ◌-◌, ℕ, Bool, true, false, All, List, drop, get_or, length, map, take, refl, sym, ap, subst, ◌∙◌, arith, rules}
-use Rattle.std.specs.List.{AllWithin}
+use Rattle.std.specs.List.{find, AllWithin}
 use Rattle.std.specs.List.Sorted.{IsPartitionedBy, IsPartitionPoint}
 use Rattle.std.specs.Ordering.{is_le}
 use Rattle.std.proofs.lemmas.List.{get_or-drop, length-drop}
+use Rattle.std.proofs.lemmas.List.Elements.{All-take}
 use Rattle.std.proofs.lemmas.List.Sorted.{IsPartitionPoint-from_clause}
 use Rattle.nc_types.specs.Cidr.{Cidr, IsCidr}
-use Rattle.nc_tables.specs.Base.{prefix_cmp}
+use Rattle.nc_tables.specs.Base.{prefix_cmp, same_prefix}
 use Rattle.nc_tables.specs.LocRibs.{Ascend}
 use Rattle.nc_tables.specs.Rounds.{bgp_row_view, is_longer_in}
 use Rattle.nc_tables.specs.Spread.{spread_rows}
 use Rattle.nc_tables.proofs.Choices.{ascend_rises}
+use Rattle.nc_tables.proofs.OwnRows.{same_spread}
 use Rattle.nc_tables.proofs.LongerIn.{between, longer_behind}
 use Rattle.nc_tables.proofs.SideBySide.{upto_first}
 use Rattle.nc_tables.proofs.Spread.{rows_inside, within_first, within_last}
@@ -59,7 +61,8 @@ returns-clause-rows c =
     let all : AreInFront outer left.prefixes.now = subst (AreInFront outer) (sym rest) front in
     let end = IsPartitionPoint-from_clause (λ (p : Cidr). is_longer_in p outer) left.prefixes.now count c.partition_point-count.ensures.partitioned all (λ a r q k. search rules) in
     c.upto.ensures.rows
-    ∙ ap (λ (b : _). spread_rows (map bgp_row_view b.now) left.standing.now (take count left.prefixes.now) (take count left.places.now)) c.behind-left.ensures.own
+    ∙ same_spread (map bgp_row_view left.own.now) own left.standing.now (take count left.prefixes.now) (take count left.places.now)
+    (All-take (λ (p : Cidr). find (λ row. same_prefix row.prefix p) (map bgp_row_view left.own.now) ≡ find (λ row. same_prefix row.prefix p) own) count left.prefixes.now c.behind-left.ensures.own)
     ∙ ap (λ (b : _). spread_rows own b.now (take count left.prefixes.now) (take count left.places.now)) c.behind-left.ensures.standing
     ∙ ap (λ (l : List Cidr). spread_rows own s.standing.now (take count l) (take count left.places.now)) rest
     ∙ ap (λ (l : List ℕ). spread_rows own s.standing.now (take count (drop first ps)) (take count l)) c.behind-left.ensures.places
